@@ -1,0 +1,4 @@
+pub mod Shared
+pub mod Cards
+pub mod Rules
+pub mod Written

@@ -1,0 +1,10 @@
+pub mod Tests
+pub mod Columns
+pub mod Looks
+pub mod Fixed
+pub mod Writes
+pub mod Decimals
+pub mod Round
+pub mod First
+pub mod Text
+pub mod Outcomes

@@ -1,0 +1,149 @@
+-- What stands in columns: the loops that look, and what their answers mean.
+use mathlib.Core.Path.{_≡_, refl, sym, ap, _∙_}
+use mathlib.Core.Bool.{Bool, true, false, cond, _&&_}
+use Prim.Native.Nat.{ℕ, zero, suc, _+_, _-_, _≤_, _<_}
+use native.Mathlib.Omega.{arith}
+use mathlib.Core.List.{List, [], _∷_, _++_}
+use lib.ListN.{length, getD, take, drop, replicate, List·getD-eq-default}
+use lib.Dec.{leb, eqb}
+use borrow.Author.Tests.{le-leb, lt-leb, eq-eqb, ne-eqb, eqb-true, leb-true}
+use Rattle.columns.specs.Columns.{columns, printable, blank, sameBytes}
+use Rattle.columns.proofs.Tests.{both, both-left, both-right, both-true, and-assoc}
+use Rattle.columns.proofs.Columns.{column, columns-none, columns-all, columns-end}
+
+pub past-end : (s : List ℕ) (i : ℕ) → length s ≤ i → 0 ≡ getD s i 0
+past-end s i h = sym (List·getD-eq-default s 0 h)
+
+-- ---- the loops: f is the answer
+
+module _ (f : Bool) (s : List ℕ) (i end : ℕ) where
+  module _ (inv : blank (columns s i end) ≡ f) where
+    module _ (lt : i < end) (le : end ≤ length s) where
+      pub blank-on : getD s i 0 ≡ 32 → blank (columns s (i + 1) end) ≡ f
+      unfolding blank
+      blank-on h = simp (blank, eq-eqb _ _ h) at (rw (column s i end lt le) at inv)
+
+      pub blank-no : (getD s i 0 ≡ 32 → ⊥) → false ≡ f
+      unfolding blank
+      blank-no h = simp (blank, ne-eqb _ _ h) at (rw (column s i end lt le) at inv)
+
+    pub blank-end : end ≤ i → true ≡ f
+    unfolding blank
+    blank-end h = rw (columns-end s i end h) at inv
+
+  module _ (inv : printable (columns s i end) ≡ f) where
+    module _ (lt : i < end) (le : end ≤ length s) where
+      pub print-on : 32 ≤ getD s i 0 → getD s i 0 ≤ 126 → printable (columns s (i + 1) end) ≡ f
+      unfolding printable
+      print-on h k = simp (printable, le-leb _ _ h, le-leb _ _ k) at (rw (column s i end lt le) at inv)
+
+      pub print-low : getD s i 0 < 32 → false ≡ f
+      unfolding printable
+      print-low h = simp (printable, lt-leb _ _ h) at (rw (column s i end lt le) at inv)
+
+      pub print-high : 126 < getD s i 0 → false ≡ f
+      unfolding printable
+      print-high h = simp (printable, le-leb 32 (getD s i 0) (omega arith), lt-leb _ _ h) at (rw (column s i end lt le) at inv)
+
+    pub print-end : end ≤ i → true ≡ f
+    unfolding printable
+    print-end h = rw (columns-end s i end h) at inv
+
+-- two texts side by side
+module _ (f : Bool) (s t : List ℕ) (i : ℕ) (inv : sameBytes (columns s i (length s)) (columns t i (length t)) ≡ f) (e : length s ≡ length t) where
+  module _ (lt : i < length s) where
+    pub same-on : getD s i 0 ≡ getD t i 0 → sameBytes (columns s (i + 1) (length s)) (columns t (i + 1) (length t)) ≡ f
+    unfolding sameBytes
+    same-on h = simp (sameBytes, eq-eqb _ _ h) at (rw (column s i (length s) lt (omega arith), column t i (length t) (omega arith) (omega arith)) at inv)
+
+    pub same-no : (getD s i 0 ≡ getD t i 0 → ⊥) → false ≡ f
+    unfolding sameBytes
+    same-no h = simp (sameBytes, ne-eqb _ _ h) at (rw (column s i (length s) lt (omega arith), column t i (length t) (omega arith) (omega arith)) at inv)
+
+  pub same-end : length s ≤ i → true ≡ f
+  unfolding sameBytes
+  same-end h = rw (columns-end s i (length s) h, columns-end t i (length t) (omega arith)) at inv
+
+pub same-start : (s t : List ℕ) → sameBytes (columns s 0 (length s)) (columns t 0 (length t)) ≡ sameBytes s t
+same-start s t = rw (columns-all s, columns-all t)
+
+-- ---- the same: true exactly where the two are equal
+
+pub same-eq : (s t : List ℕ) → sameBytes s t ≡ true → s ≡ t
+unfolding sameBytes
+same-eq [] [] e = refl
+same-eq [] (b ∷ t) e = let z : _≡_ {A = ℕ} 0 1 = cc in absurd (omega arith)
+same-eq (a ∷ s) [] e = let z : _≡_ {A = ℕ} 0 1 = cc in absurd (omega arith)
+same-eq (a ∷ s) (b ∷ t) e =
+    let p : a ≡ b = eqb-true a b (both-left (eqb a b) (sameBytes s t) e) in
+    let q : s ≡ t = same-eq s t (both-right (eqb a b) (sameBytes s t) e) in
+    cc
+
+pub same-self : (s : List ℕ) → sameBytes s s ≡ true
+unfolding sameBytes
+same-self [] = refl
+same-self (a ∷ s) = rw (eq-eqb a a refl) (same-self s)
+
+pub eq-same : {s t : List ℕ} → s ≡ t → sameBytes s t ≡ true
+eq-same {s} {t} e = rw e (same-self t)
+
+pub same-length : (s t : List ℕ) → (length s ≡ length t → ⊥) → false ≡ sameBytes s t
+same-length s t h = pick (sameBytes s t) refl
+  where
+    pick : (b : Bool) → sameBytes s t ≡ b → false ≡ b
+    pick true e = absurd (h (ap length (same-eq s t e)))
+    pick false e = refl
+
+pub ruleset looks = (past-end, blank-on, blank-no, blank-end, print-on, print-low, print-high, print-end, same-on, same-no, same-end, same-start, same-length)
+
+-- ---- blanks
+
+pub blank-replicate : (n : ℕ) → blank (replicate n 32) ≡ true
+unfolding blank
+blank-replicate zero = refl
+blank-replicate (suc n) = blank-replicate n
+
+-- a blank text is so many blanks
+pub blank-is : (s : List ℕ) → blank s ≡ true → s ≡ replicate (length s) 32
+unfolding blank
+blank-is [] e = refl
+blank-is (b ∷ s) e =
+    let p : b ≡ 32 = eqb-true b 32 (both-left (eqb b 32) (blank s) e) in
+    let q : s ≡ replicate (length s) 32 = blank-is s (both-right (eqb b 32) (blank s) e) in
+    rw p (ap (λ (l : List ℕ). 32 ∷ l) q)
+
+pub blank-append : (s t : List ℕ) → blank (s ++ t) ≡ blank s && blank t
+unfolding blank
+blank-append [] t = refl
+blank-append (b ∷ s) t = rw (blank-append s t) (sym (and-assoc (eqb b 32) (blank s) (blank t)))
+
+-- ---- printable bytes
+
+pub print-append : (s t : List ℕ) → printable (s ++ t) ≡ printable s && printable t
+unfolding printable
+print-append [] t = refl
+print-append (b ∷ s) t =
+    rw (print-append s t, and-assoc (leb 32 b) (leb b 126 && printable s) (printable t), and-assoc (leb b 126) (printable s) (printable t))
+
+pub print-both : (s t : List ℕ) → printable s ≡ true → printable t ≡ true → printable (s ++ t) ≡ true
+print-both s t p q = print-append s t ∙ both-true p q
+
+pub print-cons : (b : ℕ) (s : List ℕ) → 32 ≤ b → b ≤ 126 → printable s ≡ true → printable (b ∷ s) ≡ true
+unfolding printable
+print-cons b s lo hi e = simp (printable, le-leb _ _ lo, le-leb _ _ hi) e
+
+pub print-replicate : (n b : ℕ) → 32 ≤ b → b ≤ 126 → printable (replicate n b) ≡ true
+unfolding printable
+print-replicate zero b lo hi = refl
+print-replicate (suc n) b lo hi = print-cons b (replicate n b) lo hi (print-replicate n b lo hi)
+
+-- each byte of a printable text
+pub print-byte : (s : List ℕ) (i : ℕ) → printable s ≡ true → i < length s → (32 ≤ getD s i 0) × (getD s i 0 ≤ 126)
+unfolding printable
+print-byte [] i e h = absurd (omega arith)
+print-byte (b ∷ s) zero e h =
+    let p = both (leb 32 b) (leb b 126 && printable s) e in
+    (leb-true 32 b (p .0), leb-true b 126 (both-left (leb b 126) (printable s) (p .1)))
+print-byte (b ∷ s) (suc i) e h =
+    let p = both (leb 32 b) (leb b 126 && printable s) e in
+    print-byte s i (both-right (leb b 126) (printable s) (p .1)) (omega arith)

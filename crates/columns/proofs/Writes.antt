@@ -1,0 +1,97 @@
+-- What one write after another leaves.
+use mathlib.Core.Path.{_≡_, refl, sym, ap, _∙_}
+use Prim.Native.Nat.{ℕ, suc, _+_, _-_, _≤_, _<_}
+use native.Mathlib.Nat.{add-assoc, add-zero}
+use native.Mathlib.Numerals.{add-one}
+use native.Mathlib.Omega.{arith}
+use mathlib.Core.List.{List, [], _∷_, _++_}
+use lib.ListN.{length, take, drop, getD, set, replicate, length-append, length-replicate, replicate-append-replicate}
+use lib.Seq.{take-suc, take-all, drop-cons}
+use Rattle.columns.specs.Laid.{laid, length-laid, laid-one, laid-out, laid-nil, laid-laid, laid-eq, Wrote, Owes}
+
+pub wrote-one : (o : List ℕ) (at b r : ℕ) → r ≡ at + 1 → Wrote o at (b ∷ []) (set o at b) r
+wrote-one o at b r e = record { bytes = sym (laid-one o at b); next = e }
+
+pub wrote-out : (o : List ℕ) (at b r : ℕ) → r ≡ at + 1 → length o ≤ at → Wrote o at (b ∷ []) o r
+wrote-out o at b r e h = record { bytes = sym (laid-out o at b h); next = e }
+
+pub wrote-none : {o : List ℕ} {at : ℕ} → Wrote o at [] o at
+wrote-none {o} {at} = record { bytes = sym (laid-nil o at); next = sym (add-zero at) }
+
+-- one write after another
+pub then : {o o′ o″ a b : List ℕ} {at r r′ : ℕ} → Wrote o at a o′ r → Wrote o′ r b o″ r′ → Wrote o at (a ++ b) o″ r′
+then {o} {o′} {o″} {a} {b} {at} {r} {r′} p q = record {
+  bytes = q .bytes ∙ (rw (p .bytes, p .next) (laid-laid o at a b));
+  next = q .next ∙ (rw (p .next, length-append) (add-assoc at (length a) (length b)));
+}
+
+pub wrote-length : {o o′ a : List ℕ} {at r : ℕ} → Wrote o at a o′ r → length o′ ≡ length o
+wrote-length {o} {o′} {a} {at} p = ap length (p .bytes) ∙ length-laid o at a
+
+-- the same bytes by another name
+pub wrote-same : {o o′ a b : List ℕ} {at r : ℕ} → Wrote o at a o′ r → a ≡ b → Wrote o at b o′ r
+wrote-same p e = rw e at p
+
+-- where there is room: what is before, the bytes, and what is after
+pub wrote-eq : {o o′ a : List ℕ} {at r : ℕ} → Wrote o at a o′ r → r ≤ length o → o′ ≡ take at o ++ (a ++ drop r o)
+wrote-eq {o} {o′} {a} {at} {r} p h = p .bytes ∙ laid-eq o at a (omega (arith, p .next)) ∙ ap (λ (k : ℕ). take at o ++ (a ++ drop k o)) (sym (p .next))
+
+-- an empty buffer only measures: nothing is laid over it
+pub laid-empty : (at : ℕ) (bs : List ℕ) → laid [] at bs ≡ []
+laid-empty at bs = none (laid [] at bs) (length-laid [] at bs)
+  where
+    none : (l : List ℕ) → length l ≡ 0 → l ≡ []
+    none [] e = refl
+    none (x ∷ l) e = absurd (omega arith)
+
+pub wrote-empty : {o′ bs : List ℕ} {at r : ℕ} → Wrote [] at bs o′ r → o′ ≡ []
+wrote-empty {o′} {bs} {at} p = p .bytes ∙ laid-empty at bs
+
+-- a copy: one byte more
+pub wrote-more : {o o′ o″ : List ℕ} {at r r′ : ℕ} (s : List ℕ) (i : ℕ) → Wrote o at (take i s) o′ r → i < length s → Wrote o′ r (getD s i 0 ∷ []) o″ r′ → Wrote o at (take (i + 1) s) o″ r′
+wrote-more s i p h q = rw (add-one, take-suc s i 0 h) (then p q)
+
+pub wrote-all : {o o′ : List ℕ} {at r : ℕ} (s : List ℕ) (i : ℕ) → Wrote o at (take i s) o′ r → length s ≤ i → Wrote o at s o′ r
+wrote-all s i p h = rw (take-all i s h) at p
+
+-- a run of one byte: one more
+pub run-more : {o o′ o″ : List ℕ} {at r r′ b : ℕ} (i : ℕ) → Wrote o at (replicate i b) o′ r → Wrote o′ r (b ∷ []) o″ r′ → Wrote o at (replicate (i + 1) b) o″ r′
+run-more {b = b} i p q = rw (← replicate-append-replicate i 1 b) (then p q)
+
+pub run-all : {o o′ : List ℕ} {at r : ℕ} (b i count : ℕ) → Wrote o at (replicate i b) o′ r → i ≤ count → count ≤ i → Wrote o at (replicate count b) o′ r
+run-all b i count p h k =
+    let e : count ≡ i = omega arith in
+    rw e p
+
+-- ---- a write under way
+
+pub owes-all : (o : List ℕ) (at : ℕ) (bs : List ℕ) → Owes o at bs o at bs
+owes-all o at bs = record { bytes = refl; next = refl }
+
+pub owes-less : {o bs o′ o″ a cs : List ℕ} {at r r′ : ℕ} → Owes o at bs o′ r (a ++ cs) → Wrote o′ r a o″ r′ → Owes o at bs o″ r′ cs
+owes-less {o} {bs} {o′} {o″} {a} {cs} {at} {r} {r′} p q = record {
+  bytes = rw (q .bytes, q .next, laid-laid o′ r a cs) (p .bytes);
+  next = rw (q .next, add-assoc, ← length-append a cs) (p .next);
+}
+
+pub owes-none : {o bs o′ : List ℕ} {at r : ℕ} → Owes o at bs o′ r [] → Wrote o at bs o′ r
+owes-none {o} {bs} {o′} {at} {r} p = record { bytes = sym (laid-nil o′ r) ∙ p .bytes; next = sym (add-zero r) ∙ p .next }
+
+-- what is owed by another name
+pub owes-same : {o bs o′ a b : List ℕ} {at r : ℕ} → Owes o at bs o′ r a → a ≡ b → Owes o at bs o′ r b
+owes-same p e = rw e at p
+
+-- all the rest at once
+pub owes-last : {o bs o′ o″ cs : List ℕ} {at r r′ : ℕ} → Owes o at bs o′ r cs → Wrote o′ r cs o″ r′ → Wrote o at bs o″ r′
+owes-last p q = record { bytes = q .bytes ∙ p .bytes; next = q .next ∙ p .next }
+
+-- one write is one owed less: what was written before, and what is written now
+pub owes-then : {o bs o′ a : List ℕ} {at r : ℕ} (cs : List ℕ) → Wrote o at a o′ r → bs ≡ a ++ cs → Owes o at bs o′ r cs
+owes-then {o} {bs} {o′} {a} {at} {r} cs p e = owes-less (rw e (owes-all o at (a ++ cs))) p
+
+pub owes-length : {o bs o′ cs : List ℕ} {at r : ℕ} → Owes o at bs o′ r cs → length o′ ≡ length o
+owes-length {o} {bs} {o′} {cs} {at} {r} p = sym (length-laid o′ r cs) ∙ ap length (p .bytes) ∙ length-laid o at bs
+
+pub ruleset writes = (wrote-one, wrote-out, wrote-none, then, wrote-length, wrote-more, wrote-all, run-more, run-all)
+
+pub ruleset owing = (owes-all, owes-less, owes-none, owes-last, owes-length)

@@ -1,0 +1,15 @@
+use borrow.Author.Needs.{needs}
+use Rattle.columns.proofs.Decimals.{columned}
+use Rattle.columns.proofs.emit.put_signed_right.Statement.{statement}
+use Rattle.columns.proofs.emit.put_signed_right.Tie as tie
+
+pub put-signed-right-spec : {M : Type 1} → statement M
+put-signed-right-spec =
+    tie.close
+    (tie.spec
+    (λ c κs. search (needs, columned))
+    (λ c κs. search (needs, columned))
+    (λ c κs. search (needs, columned))
+    (λ c κs. search (needs, columned))
+    (λ c. search (needs, columned))
+    (λ c. search (needs, columned)))

@@ -1,0 +1,9 @@
+pub mod Refusal
+pub mod First
+pub mod Columns
+pub mod Fixed
+pub mod Decimal
+pub mod Laid
+pub mod Reading
+pub mod Trim
+pub mod Quoted

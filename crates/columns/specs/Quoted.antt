@@ -1,0 +1,9 @@
+-- Text in quotes as bytes, for worked examples.
+use mathlib.Core.List.{List, [], _∷_}
+use Prim.Native.Nat.{ℕ}
+use Prim.Native.Char.{Char, code}
+use Prim.Native.String.{String, [] as []ˢ, _∷_ as _∷ˢ_}
+
+abbrev pub codes : String → List ℕ
+codes []ˢ = []
+codes (c ∷ˢ s) = code c ∷ codes s

@@ -1,0 +1,55 @@
+// The ground floor: the refusals of document 01, its three kinds of numbers that count lines or entries, fixed columns in and out.
+// A module has one idea: `fields` reads numbers in fixed columns, `emit` lays bytes over a lent buffer, `look` asks of columns what stands there.
+pub mod emit;
+pub mod fields;
+pub mod look;
+
+// Why an input is refused, in the order of the paper's table; specs/Refusal.antt gives the number of each.
+pub enum Fault {
+    ListOrLength,
+    Byte,
+    Section,
+    Sequence,
+    Terminate,
+    Spelling,
+    Limit,
+    Global,
+    Directory,
+    Reference,
+    Ownership,
+    FirstValue,
+    Macro,
+    Layout,
+    LayoutReference,
+    Room,
+    SheetLine,
+    Mark,
+    TooLong,
+}
+
+// Directory numbers, parameter line numbers and file line numbers are counted apart; so are the lines of a sheet.
+pub struct DirectoryNumber(pub u32);
+
+pub struct ParameterLine(pub u32);
+
+pub struct FileLine(pub usize);
+
+pub struct SheetLine(pub usize);
+
+// A fixed number field without a sign.
+pub enum Field {
+    Number(u32),
+    Bad,
+}
+
+// A number with its sign: a sign and a size. Nought has no sign.
+pub struct Signed {
+    pub neg: bool,
+    pub size: u32,
+}
+
+// A fixed number field that may have a sign.
+pub enum SignedField {
+    Number(Signed),
+    Bad,
+}

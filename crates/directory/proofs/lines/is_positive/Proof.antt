@@ -1,0 +1,14 @@
+use borrow.Author.Needs.{needs}
+use Rattle.directory.proofs.Spelt.{fielded}
+use Rattle.directory.proofs.lines.is_positive.Statement.{statement}
+use Rattle.directory.proofs.lines.is_positive.Tie as tie
+
+pub is-positive-spec : {M : Type 1} → statement M
+is-positive-spec =
+    tie.close
+    (tie.spec
+    (λ c. search (needs, fielded))
+    (λ c. search (needs, fielded))
+    (λ c. search (needs, fielded))
+    (λ c. search (needs, fielded))
+    (λ c. search (needs, fielded)))

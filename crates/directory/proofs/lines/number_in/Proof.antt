@@ -1,0 +1,16 @@
+use borrow.Author.Needs.{needs}
+use Rattle.directory.proofs.Slots.{slotted}
+use Rattle.directory.proofs.lines.number_in.Statement.{statement}
+use Rattle.directory.proofs.lines.number_in.Tie as tie
+
+pub number-in-spec : {M : Type 1} → statement M
+number-in-spec =
+    tie.close
+    (tie.spec
+    (λ c κs. search (needs, slotted))
+    (λ c κs. search (needs, slotted))
+    (λ c. search (needs, slotted))
+    (λ c κs. search (needs, slotted))
+    (λ c. search (needs, slotted))
+    (λ c κs. search (needs, slotted))
+    (λ c. search (needs, slotted)))

@@ -1,0 +1,13 @@
+use borrow.Author.Needs.{needs}
+use Rattle.directory.proofs.Slots.{slotted}
+use Rattle.directory.proofs.lines.plain.Statement.{statement}
+use Rattle.directory.proofs.lines.plain.Tie as tie
+
+pub plain-spec : {M : Type 1} → statement M
+plain-spec =
+    tie.close
+    (tie.spec
+    (λ c. search (needs, slotted))
+    (λ c. search (needs, slotted))
+    (λ c. search (needs, slotted))
+    (λ c. search (needs, slotted)))

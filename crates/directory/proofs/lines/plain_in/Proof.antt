@@ -1,0 +1,14 @@
+use borrow.Author.Needs.{needs}
+use Rattle.directory.proofs.Slots.{slotted}
+use Rattle.directory.proofs.lines.plain_in.Statement.{statement}
+use Rattle.directory.proofs.lines.plain_in.Tie as tie
+
+pub plain-in-spec : {M : Type 1} → statement M
+plain-in-spec =
+    tie.close
+    (tie.spec
+    (λ c κs. search (needs, slotted))
+    (λ c. search (needs, slotted))
+    (λ c κs. search (needs, slotted))
+    (λ c κs. search (needs, slotted))
+    (λ c. search (needs, slotted)))

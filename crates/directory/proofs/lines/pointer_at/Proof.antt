@@ -1,0 +1,12 @@
+use borrow.Author.Needs.{needs}
+use Rattle.directory.proofs.Spelt.{sizes}
+use Rattle.directory.proofs.lines.pointer_at.Statement.{statement}
+use Rattle.directory.proofs.lines.pointer_at.Tie as tie
+
+pub pointer-at-spec : {M : Type 1} → statement M
+pointer-at-spec =
+    tie.close
+    (tie.spec
+    (λ c κs. search (needs, sizes))
+    (λ c κs. search (needs, sizes))
+    (λ c. search (needs, sizes)))

@@ -1,0 +1,13 @@
+use borrow.Author.Needs.{needs}
+use Rattle.directory.proofs.Slots.{slotted}
+use Rattle.directory.proofs.lines.signed_in.Statement.{statement}
+use Rattle.directory.proofs.lines.signed_in.Tie as tie
+
+pub signed-in-spec : {M : Type 1} → statement M
+signed-in-spec =
+    tie.close
+    (tie.spec
+    (λ c κs. search (needs, slotted))
+    (λ c. search (needs, slotted))
+    (λ c κs. search (needs, slotted))
+    (λ c. search (needs, slotted)))

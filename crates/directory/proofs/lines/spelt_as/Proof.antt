@@ -1,0 +1,18 @@
+use borrow.Author.Needs.{needs}
+use Rattle.directory.proofs.Spelt.{spelling}
+use Rattle.directory.proofs.lines.spelt_as.Statement.{statement}
+use Rattle.directory.proofs.lines.spelt_as.Tie as tie
+
+pub spelt-as-spec : {M : Type 1} → statement M
+spelt-as-spec =
+    tie.close
+    (tie.spec
+    (λ c κs. search (needs, spelling))
+    (λ c. search (needs, spelling))
+    (λ c κs. search (needs, spelling))
+    (λ c. search (needs, spelling))
+    (λ c κs. search (needs, spelling))
+    (λ c. search (needs, spelling))
+    (λ c κs. search (needs, spelling))
+    (λ c κs. search (needs, spelling))
+    (λ c. search (needs, spelling)))

@@ -1,0 +1,11 @@
+use borrow.Author.Needs.{needs}
+use Rattle.directory.proofs.Asked.{meaning}
+use Rattle.directory.proofs.rules.attribute_of.Statement.{statement}
+use Rattle.directory.proofs.rules.attribute_of.Tie as tie
+
+pub attribute-of-spec : {M : Type 1} → statement M
+attribute-of-spec =
+    tie.close
+    (tie.spec
+    (λ c. search (needs, meaning))
+    (λ c. search (needs, meaning)))

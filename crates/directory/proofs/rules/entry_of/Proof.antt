@@ -1,0 +1,13 @@
+use borrow.Author.Needs.{needs}
+use Rattle.directory.proofs.Asked.{meaning}
+use Rattle.directory.proofs.rules.entry_of.Statement.{statement}
+use Rattle.directory.proofs.rules.entry_of.Tie as tie
+
+pub entry-of-spec : {M : Type 1} → statement M
+entry-of-spec =
+    tie.close
+    (tie.spec
+    (λ c κs. search (needs, meaning))
+    (λ c κs. search (needs, meaning))
+    (λ c κs. search (needs, meaning))
+    (λ c. search (needs, meaning)))

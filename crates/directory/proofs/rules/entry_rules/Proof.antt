@@ -1,0 +1,13 @@
+use borrow.Author.Needs.{needs}
+use Rattle.directory.proofs.Ranges.{ruling}
+use Rattle.directory.proofs.rules.entry_rules.Statement.{statement}
+use Rattle.directory.proofs.rules.entry_rules.Tie as tie
+
+pub entry-rules-spec : {M : Type 1} → statement M
+entry-rules-spec =
+    tie.close
+    (tie.spec
+    (λ c κs. search (needs, ruling))
+    (λ c. search (needs, ruling))
+    (λ c. search (needs, ruling))
+    (λ c. search (needs, ruling)))

@@ -1,0 +1,11 @@
+use borrow.Author.Needs.{needs}
+use Rattle.directory.proofs.Ranges.{numbered}
+use Rattle.directory.proofs.rules.is_narrow.Statement.{statement}
+use Rattle.directory.proofs.rules.is_narrow.Tie as tie
+
+pub is-narrow-spec : {M : Type 1} → statement M
+is-narrow-spec =
+    tie.close
+    (tie.spec
+    (λ c. search (needs, numbered))
+    (λ c. search (needs, numbered)))

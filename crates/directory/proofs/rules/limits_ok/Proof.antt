@@ -1,0 +1,15 @@
+use borrow.Author.Needs.{needs}
+use Rattle.directory.proofs.Ranges.{ranging}
+use Rattle.directory.proofs.rules.limits_ok.Statement.{statement}
+use Rattle.directory.proofs.rules.limits_ok.Tie as tie
+
+pub limits-ok-spec : {M : Type 1} → statement M
+limits-ok-spec =
+    tie.close
+    (tie.spec
+    (λ c κs. search (needs, ranging))
+    (λ c. search (needs, ranging))
+    (λ c κs. search (needs, ranging))
+    (λ c. search (needs, ranging))
+    (λ c κs. search (needs, ranging))
+    (λ c. search (needs, ranging)))

@@ -1,0 +1,13 @@
+use borrow.Author.Needs.{needs}
+use Rattle.directory.proofs.Asked.{meaning}
+use Rattle.directory.proofs.rules.number_of.Statement.{statement}
+use Rattle.directory.proofs.rules.number_of.Tie as tie
+
+pub number-of-spec : {M : Type 1} → statement M
+number-of-spec =
+    tie.close
+    (tie.spec
+    (λ c. search (needs, meaning))
+    (λ c. search (needs, meaning))
+    (λ c. search (needs, meaning))
+    (λ c. search (needs, meaning)))

@@ -1,0 +1,13 @@
+use borrow.Author.Needs.{needs}
+use Rattle.directory.proofs.Asked.{wanting}
+use Rattle.directory.proofs.rules.of_attribute.Statement.{statement}
+use Rattle.directory.proofs.rules.of_attribute.Tie as tie
+
+pub of-attribute-spec : {M : Type 1} → statement M
+of-attribute-spec =
+    tie.close
+    (tie.spec
+    (λ c. search (needs, wanting))
+    (λ c. search (needs, wanting))
+    (λ c. search (needs, wanting))
+    (λ c. search (needs, wanting)))

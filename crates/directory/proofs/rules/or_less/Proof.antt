@@ -1,0 +1,11 @@
+use borrow.Author.Needs.{needs}
+use Rattle.directory.proofs.Ranges.{numbered}
+use Rattle.directory.proofs.rules.or_less.Statement.{statement}
+use Rattle.directory.proofs.rules.or_less.Tie as tie
+
+pub or-less-spec : {M : Type 1} → statement M
+or-less-spec =
+    tie.close
+    (tie.spec
+    (λ c. search (needs, numbered))
+    (λ c. search (needs, numbered)))

@@ -1,0 +1,18 @@
+use borrow.Author.Needs.{needs}
+use Rattle.directory.proofs.Ranges.{ruling}
+use Rattle.directory.proofs.rules.ranges_ok.Statement.{statement}
+use Rattle.directory.proofs.rules.ranges_ok.Tie as tie
+
+pub ranges-ok-spec : {M : Type 1} → statement M
+ranges-ok-spec =
+    tie.close
+    (tie.spec
+    (λ c κs. search (needs, ruling))
+    (λ c. search (needs, ruling))
+    (λ c κs. search (needs, ruling))
+    (λ c. search (needs, ruling))
+    (λ c κs. search (needs, ruling))
+    (λ c. search (needs, ruling))
+    (λ c κs. search (needs, ruling))
+    (λ c κs. search (needs, ruling))
+    (λ c. search (needs, ruling)))

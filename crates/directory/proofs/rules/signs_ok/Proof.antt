@@ -1,0 +1,16 @@
+use borrow.Author.Needs.{needs}
+use Rattle.directory.proofs.Ranges.{ranging}
+use Rattle.directory.proofs.rules.signs_ok.Statement.{statement}
+use Rattle.directory.proofs.rules.signs_ok.Tie as tie
+
+pub signs-ok-spec : {M : Type 1} → statement M
+signs-ok-spec =
+    tie.close
+    (tie.spec
+    (λ c. search (needs, ranging))
+    (λ c. search (needs, ranging))
+    (λ c. search (needs, ranging))
+    (λ c. search (needs, ranging))
+    (λ c. search (needs, ranging))
+    (λ c. search (needs, ranging))
+    (λ c. search (needs, ranging)))

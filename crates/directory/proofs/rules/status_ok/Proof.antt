@@ -1,0 +1,17 @@
+use borrow.Author.Needs.{needs}
+use Rattle.directory.proofs.Ranges.{ranging}
+use Rattle.directory.proofs.rules.status_ok.Statement.{statement}
+use Rattle.directory.proofs.rules.status_ok.Tie as tie
+
+pub status-ok-spec : {M : Type 1} → statement M
+status-ok-spec =
+    tie.close
+    (tie.spec
+    (λ c κs. search (needs, ranging))
+    (λ c. search (needs, ranging))
+    (λ c κs. search (needs, ranging))
+    (λ c. search (needs, ranging))
+    (λ c κs. search (needs, ranging))
+    (λ c. search (needs, ranging))
+    (λ c κs. search (needs, ranging))
+    (λ c. search (needs, ranging)))

@@ -1,0 +1,11 @@
+use borrow.Author.Needs.{needs}
+use Rattle.directory.proofs.Ranges.{numbered}
+use Rattle.directory.proofs.rules.up_to.Statement.{statement}
+use Rattle.directory.proofs.rules.up_to.Tie as tie
+
+pub up-to-spec : {M : Type 1} → statement M
+up-to-spec =
+    tie.close
+    (tie.spec
+    (λ c. search (needs, numbered))
+    (λ c. search (needs, numbered)))

@@ -1,0 +1,5 @@
+pub mod Fields
+pub mod Lines
+pub mod Rules
+pub mod Reading
+pub mod Asking

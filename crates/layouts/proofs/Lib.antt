@@ -1,0 +1,8 @@
+pub mod Tables
+pub mod Values
+pub mod Taking
+pub mod Moves
+pub mod Steps
+pub mod Runs
+pub mod Demand
+pub mod Trailing

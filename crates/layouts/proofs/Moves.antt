@@ -1,0 +1,43 @@
+-- From place to place. Assumes nothing.
+use mathlib.Core.Path.{_≡_, refl, sym, ap, _∙_}
+use mathlib.Core.Bool.{Bool}
+use Prim.Native.Nat.{ℕ, _+_, _-_, _≤_, _<_}
+use borrow.Author.Tests.{le-ltb, lt-ltb, eq-eqb, ne-eqb}
+use Rattle.layouts.specs.declared.Then.{Then}
+use Rattle.layouts.specs.declared.Then.the-variants.{Next}
+use Rattle.layouts.specs.declared.Place.{Place}
+use Rattle.layouts.specs.declared.State.{State}
+use Rattle.layouts.specs.Layout.{placeAt}
+use Rattle.layouts.specs.Machine.{times, follow, enter, beyond, ifEmpty, stand, settle, onward, refers, kindAt}
+
+pub follow-next : (x : Then) (s : State) → stand s (s .at + 1) 0 ≡ follow x s
+follow-next Next s = refl
+
+pub enter-is : (s : State) (p : Place) (n : ℕ) → p ≡ placeAt (s .at) → n ≡ times (p .times) s → stand s (s .at) n ≡ enter s
+enter-is s p n ep en = ap (stand s (s .at)) (en ∙ ap (λ (q : Place). times (q .times) s) ep)
+
+pub beyond-is : (s : State) (p : Place) (t r : State) → p ≡ placeAt (s .at) → t ≡ follow (p .next) s → r ≡ enter t → r ≡ beyond s
+beyond-is s p t r ep et er = er ∙ ap enter (et ∙ ap (λ (q : Place). follow (q .next) s) ep)
+
+pub settle-past : (s r : State) → s .left ≡ 0 → r ≡ beyond s → r ≡ settle s
+unfolding settle
+settle-past s r z q = q ∙ ap (λ (b : Bool). ifEmpty b (beyond s) s) (sym (eq-eqb (s .left) 0 z))
+
+pub settle-here : (s : State) → (s .left ≡ 0 → ⊥) → s ≡ settle s
+unfolding settle
+settle-here s z = ap (λ (b : Bool). ifEmpty b (beyond s) s) (sym (ne-eqb (s .left) 0 z))
+
+pub onward-same : (s : State) → 1 < s .left → stand s (s .at) (s .left - 1) ≡ onward s
+unfolding onward
+onward-same s h = simp (lt-ltb 1 (s .left) h)
+
+pub onward-next : (s t r : State) → s .left ≤ 1 → t ≡ beyond s → r ≡ settle t → r ≡ onward s
+unfolding onward
+onward-next s t r h e q = simp (le-ltb 1 (s .left) h) (q ∙ ap settle e)
+
+pub ruleset moves = (follow-next, enter-is, beyond-is, settle-past, settle-here, onward-same, onward-next)
+
+pub refers-is : (s : State) (p : Place) (b : Bool) → p ≡ placeAt (s .at) → b ≡ refers (p .kind) → b ≡ refers (kindAt s)
+refers-is s p b ep eb = eb ∙ ap (λ (q : Place). refers (q .kind)) ep
+
+pub ruleset told = refers-is

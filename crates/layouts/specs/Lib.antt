@@ -1,0 +1,9 @@
+pub mod Named
+pub mod Layout
+pub mod Coded
+pub mod Machine
+pub mod Known
+pub mod Entities
+pub mod Stepping
+pub mod Larger
+pub mod Examples

@@ -1,0 +1,234 @@
+-- The layouts as one machine: where it stands, what one value does, what the end says.
+use mathlib.Core.Bool.{Bool, true, false, cond, not, _&&_, _||_}
+use Prim.Native.Nat.{ℕ, zero, suc, _+_, _-_, _*_}
+use lib.Dec.{eqb, leb, ltb}
+use Rattle.layouts.specs.declared.Kind.{Kind}
+use Rattle.layouts.specs.declared.Kind.the-variants.{R, Given, Weight, S, I, Flag, Count, Outer, Upper1, Upper2, Degree1, Degree2, P, Q, Bound, Rest}
+use Rattle.layouts.specs.declared.Times.{Times}
+use Rattle.layouts.specs.declared.Times.the-variants.{Fixed, N, Knots1, Knots2, C, ThreeC}
+use Rattle.layouts.specs.declared.Then.{Then}
+use Rattle.layouts.specs.declared.Then.the-variants.{Next}
+use Rattle.values.specs.declared.Value.{Value}
+use Rattle.values.specs.declared.Value.the-variants.{Default, Whole, Real, Text}
+use Rattle.layouts.specs.declared.State.{State}
+use Rattle.layouts.specs.declared.Stepped.{Stepped}
+use Rattle.layouts.specs.declared.Stepped.the-variants.{Go, Bad}
+use Rattle.layouts.specs.declared.Verdict.{Verdict}
+use Rattle.layouts.specs.declared.Verdict.the-variants.{Good, Layout, LayoutReference}
+use Rattle.references.specs.References.{noEntry, fits}
+use Rattle.layouts.specs.Layout.{mostInteger, mostUpper, placeAt, startOf, bitOf}
+
+-- ---- values
+
+-- a default
+abbrev pub missing : Value → Bool
+missing Default = true
+missing (Whole neg n) = false
+missing (Real neg m eneg e double) = false
+missing (Text start count) = false
+
+-- a real
+abbrev pub real : Value → Bool
+real Default = false
+real (Whole neg n) = false
+real (Real neg m eneg e double) = true
+real (Text start count) = false
+
+-- a real above zero
+abbrev pub above : Value → Bool
+above Default = false
+above (Whole neg n) = false
+above (Real neg m eneg e double) = not neg && ltb 0 m
+above (Text start count) = false
+
+-- a string
+abbrev pub text : Value → Bool
+text Default = false
+text (Whole neg n) = false
+text (Real neg m eneg e double) = false
+text (Text start count) = true
+
+-- an integer from low to high; a default is 0, where it need not be given
+abbrev pub within : Bool → ℕ → ℕ → Value → Bool
+within given low high Default = not given && eqb low 0
+within given low high (Whole neg n) = not neg && (leb low n && leb n high)
+within given low high (Real neg m eneg e double) = false
+within given low high (Text start count) = false
+
+-- the number that it counts for
+abbrev pub size : Value → ℕ
+size Default = 0
+size (Whole neg n) = n
+size (Real neg m eneg e double) = 0
+size (Text start count) = 0
+
+-- ---- the state
+
+-- nothing is read yet
+abbrev pub fresh : State
+fresh = record { at = 0; left = 0; k1 = 0; k2 = 0; m1 = 0; m2 = 0; bad = false }
+
+-- N or K1 (the K of 126) is read
+abbrev pub withK1 : State → ℕ → State
+withK1 s n = record { at = s .at; left = s .left; k1 = n; k2 = s .k2; m1 = s .m1; m2 = s .m2; bad = s .bad }
+
+-- K2, or the N1 of 144
+abbrev pub withK2 : State → ℕ → State
+withK2 s n = record { at = s .at; left = s .left; k1 = s .k1; k2 = n; m1 = s .m1; m2 = s .m2; bad = s .bad }
+
+-- M1 (the M of 126)
+abbrev pub withM1 : State → ℕ → State
+withM1 s n = record { at = s .at; left = s .left; k1 = s .k1; k2 = s .k2; m1 = n; m2 = s .m2; bad = s .bad }
+
+-- M2
+abbrev pub withM2 : State → ℕ → State
+withM2 s n = record { at = s .at; left = s .left; k1 = s .k1; k2 = s .k2; m1 = s .m1; m2 = n; bad = s .bad }
+
+-- whether a reference was bad
+abbrev pub withBad : State → Bool → State
+withBad s b = record { at = s .at; left = s .left; k1 = s .k1; k2 = s .k2; m1 = s .m1; m2 = s .m2; bad = b }
+
+-- at place i with so many of it left
+abbrev pub stand : State → ℕ → ℕ → State
+stand s i n = record { at = i; left = n; k1 = s .k1; k2 = s .k2; m1 = s .m1; m2 = s .m2; bad = s .bad }
+
+-- how many places; 126 has K2 = 0, so that C is K+1
+abbrev pub times : Times → State → ℕ
+times (Fixed n) s = n
+times N s = s .k1
+times Knots1 s = s .k1 + s .m1 + 2
+times Knots2 s = s .k2 + s .m2 + 2
+times C s = (s .k1 + 1) * (s .k2 + 1)
+times ThreeC s = 3 * ((s .k1 + 1) * (s .k2 + 1))
+
+-- the place after
+abbrev pub follow : Then → State → State
+follow Next s = stand s (s .at + 1) 0
+
+-- at a place, with all of it left
+abbrev pub enter : State → State
+enter s = stand s (s .at) (times (placeAt (s .at) .times) s)
+
+-- at the place after
+abbrev pub beyond : State → State
+beyond s = enter (follow (placeAt (s .at) .next) s)
+
+-- one state or the other
+abbrev pub ifEmpty : Bool → State → State → State
+ifEmpty true t s = t
+ifEmpty false t s = s
+
+-- past a place of which there is none: no two such stand side by side
+unfoldable pub settle : State → State
+settle s = ifEmpty (eqb (s .left) 0) (beyond s) s
+
+-- past the place that took a value
+unfoldable pub onward : State → State
+onward s = cond (ltb 1 (s .left)) (stand s (s .at) (s .left - 1)) (settle (beyond s))
+
+-- ---- one value
+
+-- a test that fails is 14
+abbrev pub need : Bool → State → Stepped
+need b s = cond b (Go s) Bad
+
+-- a reference, which may be 0 or missing where free: what is wrong with it is told at the end
+abbrev pub refer : Bool → ℕ → State → Value → ℕ → Stepped
+refer free want s Default class = Go (withBad s (s .bad || not free))
+refer free want s (Whole neg n) class = Go (withBad s (s .bad || not ((free && eqb n 0) || fits want class)))
+refer free want s (Real neg m eneg e double) class = Bad
+refer free want s (Text start count) class = Bad
+
+-- what the place of a kind makes of a value; class is that of the entry that it names
+unfoldable pub takes : Kind → State → Value → ℕ → Stepped
+takes R s v class = need (real v || missing v) s
+takes Given s v class = need (real v) s
+takes Weight s v class = need (above v) s
+takes S s v class = need (text v || missing v) s
+takes (I low high) s v class = need (within false low high v) s
+takes Flag s v class = need (within true 0 1 v) s
+takes Count s v class = need (within false 0 mostInteger v) (withK1 s (size v))
+takes Outer s v class = need (within false 0 1 v) (withK2 s (size v))
+takes Upper1 s v class = need (within true 1 mostUpper v) (withK1 s (size v))
+takes Upper2 s v class = need (within true 1 mostUpper v) (withK2 s (size v))
+takes Degree1 s v class = need (within true 1 (s .k1) v) (withM1 s (size v))
+takes Degree2 s v class = need (within true 1 (s .k2) v) (withM2 s (size v))
+takes (P want) s v class = refer true want s v class
+takes (Q want) s v class = refer false want s v class
+takes (Bound want) s v class = refer (not (eqb (s .k2) 1)) want s v class
+takes Rest s v class = need (missing v) s
+
+-- nothing but defaults follows
+abbrev pub rests : Kind → Bool
+rests Rest = true
+rests R = false
+rests Given = false
+rests Weight = false
+rests S = false
+rests (I low high) = false
+rests Flag = false
+rests Count = false
+rests Outer = false
+rests Upper1 = false
+rests Upper2 = false
+rests Degree1 = false
+rests Degree2 = false
+rests (P want) = false
+rests (Q want) = false
+rests (Bound want) = false
+
+-- a reference place: R in the sheet
+abbrev pub refers : Kind → Bool
+refers R = false
+refers Given = false
+refers Weight = false
+refers S = false
+refers (I low high) = false
+refers Flag = false
+refers Count = false
+refers Outer = false
+refers Upper1 = false
+refers Upper2 = false
+refers Degree1 = false
+refers Degree2 = false
+refers (P want) = true
+refers (Q want) = true
+refers (Bound want) = true
+refers Rest = false
+
+-- the kind of the place where it stands
+abbrev pub kindAt : State → Kind
+kindAt s = placeAt (s .at) .kind
+
+-- behind the rest nothing moves
+abbrev pub moved : Bool → Stepped → Stepped
+moved rest Bad = Bad
+moved rest (Go t) = Go (cond rest t (onward t))
+
+-- at the first place of a type and form
+unfoldable pub start : ℕ → ℕ → State
+start typ form = enter (stand fresh (startOf (bitOf typ form)) 0)
+
+-- one value more
+unfoldable pub step : State → Value → ℕ → Stepped
+step s v class = moved (rests (kindAt s)) (takes (kindAt s) s v class)
+
+-- ---- the end: what is missing is a default
+
+-- at the rest of a row
+abbrev pub closed : Bool → Verdict
+closed bad = cond bad LayoutReference Good
+
+-- a place took its default, or did not
+abbrev pub after : Bool → Stepped → (State → Verdict) → Verdict
+after rest Bad f = Layout
+after rest (Go t) f = cond rest (closed (t .bad)) (f t)
+
+-- in so many places at most
+unfoldable pub finish : ℕ → State → Verdict
+finish zero s = Layout
+finish (suc n) s = after (rests (kindAt s)) (takes (kindAt s) s Default noEntry) (λ t. finish n (settle (beyond t)))
+
+-- no row has more than 16
+unfoldable pub end : State → Verdict
+end s = finish 16 s

@@ -1,0 +1,185 @@
+// From place to place: a start, a step for each value, a verdict at the end.
+ghost use mathlib.Core.Path.{_≡_};
+ghost use Prim.Native.Nat.{_+_, _≤_, _<_};
+ghost use Rattle.layouts.specs.Layout.{startOf};
+ghost use Rattle.layouts.specs.Machine.{times, follow, enter, beyond, settle, onward, step, closed, end, start, refers, kindAt};
+use crate::State;
+use crate::Stepped;
+use crate::Then;
+use crate::Times;
+use crate::Verdict;
+use crate::list::ROWS;
+use crate::list::bit_of;
+use crate::places::look;
+use crate::places::refers_in;
+use crate::places::rests_in;
+use crate::take::takes_in;
+use references::NO_ENTRY;
+use values::Value;
+
+// How many places of a kind there are, by what was read.
+fn times_in(t: Times, s: State) -> u64
+    ensures { λ r. ⌜ r ≡ times t s ⌝ }
+{
+    match t {
+        Times::Fixed(n) => n as u64,
+        Times::N => s.k1 as u64,
+        Times::Knots1 => s.k1 as u64 + s.m1 as u64 + 2,
+        Times::Knots2 => s.k2 as u64 + s.m2 as u64 + 2,
+        Times::C => (s.k1 as u64 + 1) * (s.k2 as u64 + 1),
+        Times::ThreeC => 3 * ((s.k1 as u64 + 1) * (s.k2 as u64 + 1)),
+    }
+}
+
+// The place after. The bounds on `at`, here and below, say that it does not wrap: the table is far smaller.
+fn follow_to(x: Then, s: State) -> State
+    requires { ⌜ s .at < 4000 ⌝ }
+    ensures { λ r. ⌜ (r ≡ follow x s) × (r .at ≤ s .at + 256) ⌝ }
+{
+    let mut r = s;
+    r.left = 0;
+    match x {
+        Then::Next => {
+            r.at = s.at + 1;
+            r
+        }
+    }
+}
+
+// At a place, with all of it left.
+fn enter_at(s: State) -> State
+    ensures { λ r. ⌜ (r ≡ enter s) × (r .at ≡ s .at) ⌝ }
+{
+    let p = look(s.at);
+    let t = p.times;
+    let mut r = s;
+    r.left = times_in(t, s);
+    r
+}
+
+// At the place after.
+fn beyond_of(s: State) -> State
+    requires { ⌜ s .at < 4000 ⌝ }
+    ensures { λ r. ⌜ (r ≡ beyond s) × (r .at ≤ s .at + 256) ⌝ }
+{
+    let p = look(s.at);
+    let x = p.next;
+    enter_at(follow_to(x, s))
+}
+
+// Past a place of which there is none.
+fn settle_of(s: State) -> State
+    requires { ⌜ s .at < 4000 ⌝ }
+    ensures { λ r. ⌜ r ≡ settle s ⌝ }
+{
+    if s.left == 0 {
+        return beyond_of(s);
+    }
+    s
+}
+
+// Past a place that took a value.
+fn onward_of(s: State) -> State
+    requires { ⌜ s .at < 900 ⌝ }
+    ensures { λ r. ⌜ r ≡ onward s ⌝ }
+{
+    if 1 < s.left {
+        let mut r = s;
+        r.left = s.left - 1;
+        r
+    } else {
+        settle_of(beyond_of(s))
+    }
+}
+
+// One value more.
+pub fn step(s: State, v: Value, class: u8) -> Stepped
+    ensures { λ r. ⌜ r ≡ step s v class ⌝ }
+{
+    let p = look(s.at);
+    let k = p.kind;
+    match takes_in(k, s, v, class) {
+        Stepped::Bad => Stepped::Bad,
+        Stepped::Go(t) => {
+            if rests_in(k) {
+                Stepped::Go(t)
+            } else {
+                Stepped::Go(onward_of(t))
+            }
+        }
+    }
+}
+
+// At the rest of a row.
+fn closed_of(bad: bool) -> Verdict
+    ensures { λ r. ⌜ r ≡ closed bad ⌝ }
+{
+    if bad {
+        Verdict::LayoutReference
+    } else {
+        Verdict::Good
+    }
+}
+
+// No value more: what is missing is a default.
+pub fn end(s: State) -> Verdict
+    ensures { λ r. ⌜ r ≡ end s ⌝ }
+{
+    let mut t = s;
+    let mut n: usize = 16;
+    while 0 < n {
+        n -= 1;
+        let p = look(t.at);
+        let k = p.kind;
+        let Stepped::Go(u) = takes_in(k, t, Value::Default, NO_ENTRY) else {
+            return Verdict::Layout;
+        };
+        if rests_in(k) {
+            return closed_of(u.bad);
+        }
+        t = settle_of(beyond_of(u));
+    }
+    Verdict::Layout
+}
+
+// Where the places of each row start.
+const STARTS: [u8; 14] = [0, 6, 13, 19, 26, 32, 45, 60, 69, 79, 88, 95, 102, 109];
+
+fn wide(x: u8) -> usize
+    ensures { λ r. ⌜ (r ≡ x) × (r < 256) ⌝ }
+{
+    x as usize
+}
+
+// No row: where the first one starts.
+fn start_of(bit: usize) -> usize
+    ensures { λ r. ⌜ r ≡ startOf bit ⌝ }
+{
+    if bit < ROWS { wide(STARTS[bit]) } else { 0 }
+}
+
+// At the first place of a type and form.
+pub fn start(typ: u32, form: u32) -> State
+    ensures { λ r. ⌜ r ≡ start typ form ⌝ }
+{
+    let i = start_of(bit_of(typ, form));
+    let s = State {
+        at: i,
+        left: 0,
+        k1: 0,
+        k2: 0,
+        m1: 0,
+        m2: 0,
+        bad: false,
+    };
+    enter_at(s)
+}
+
+// Whether the next value stands at a reference place: its mark in the sheet is R.
+pub fn is_reference(s: State) -> bool
+    ensures { λ r. ⌜ r ≡ refers (kindAt s) ⌝ }
+{
+    let p = look(s.at);
+    let k = p.kind;
+    refers_in(k)
+}

@@ -1,0 +1,133 @@
+// The table of places.
+ghost use mathlib.Core.Path.{_≡_};
+ghost use Rattle.layouts.specs.Layout.{_of_, placeAt};
+ghost use Rattle.layouts.specs.Coded.{shapeOf};
+ghost use Rattle.layouts.specs.Machine.{rests, refers};
+use crate::Kind;
+use crate::Place;
+use crate::Then;
+use crate::Times;
+use references::ENTRY_142;
+use references::ENTRY_308;
+
+// A reference that asks its target for no type.
+const ANY: u8 = references::ANY;
+
+// How many places the rows have.
+const PLACES: usize = 116;
+
+fn of(kind: Kind, times: Times) -> Place
+    ensures { λ r. ⌜ r ≡ times of kind ⌝ }
+{
+    Place {
+        kind,
+        times,
+        next: Then::Next,
+    }
+}
+
+// The places that rows are made of.
+fn shape(k: u8) -> Place
+    ensures { λ r. ⌜ r ≡ shapeOf k ⌝ }
+{
+    match k {
+        b'3' => of(Kind::R, Times::Fixed(3)),
+        b'4' => of(Kind::R, Times::Fixed(4)),
+        b'6' => of(Kind::R, Times::Fixed(6)),
+        b'7' => of(Kind::R, Times::Fixed(7)),
+        b't' => of(Kind::R, Times::Fixed(12)),
+        b's' => of(Kind::S, Times::Fixed(1)),
+        b'i' => of(Kind::I { low: 0, high: 3 }, Times::Fixed(1)),
+        b'1' => of(Kind::I { low: 1, high: 1 }, Times::Fixed(1)),
+        b'd' => of(
+            Kind::I {
+                low: 0,
+                high: 2147483647,
+            },
+            Times::Fixed(1),
+        ),
+        b'N' => of(Kind::Count, Times::Fixed(1)),
+        b'o' => of(Kind::Outer, Times::Fixed(1)),
+        b'K' => of(Kind::Upper1, Times::Fixed(1)),
+        b'L' => of(Kind::Upper2, Times::Fixed(1)),
+        b'M' => of(Kind::Degree1, Times::Fixed(1)),
+        b'O' => of(Kind::Degree2, Times::Fixed(1)),
+        b'f' => of(Kind::Flag, Times::Fixed(4)),
+        b'F' => of(Kind::Flag, Times::Fixed(5)),
+        b'k' => of(Kind::Given, Times::Knots1),
+        b'l' => of(Kind::Given, Times::Knots2),
+        b'w' => of(Kind::Weight, Times::C),
+        b'c' => of(Kind::Given, Times::ThreeC),
+        b'g' => of(Kind::Given, Times::Fixed(2)),
+        b'G' => of(Kind::Given, Times::Fixed(4)),
+        b'p' => of(Kind::P { want: ANY }, Times::Fixed(1)),
+        b'P' => of(Kind::P { want: ANY }, Times::Fixed(2)),
+        b'Q' => of(Kind::Q { want: ANY }, Times::Fixed(1)),
+        b'q' => of(Kind::Q { want: ANY }, Times::N),
+        b'b' => of(Kind::Bound { want: ENTRY_142 }, Times::Fixed(1)),
+        b'u' => of(Kind::Q { want: ENTRY_142 }, Times::N),
+        b'I' => of(Kind::Q { want: ENTRY_308 }, Times::Fixed(1)),
+        _ => of(Kind::Rest, Times::Fixed(1)),
+    }
+}
+
+// The table of places: the rows of the type list, each with the two groups that may follow a layout.
+pub fn look(at: usize) -> Place
+    ensures { λ r. ⌜ r ≡ placeAt at ⌝ }
+{
+    let t =
+        b"7NqNq.NqNqNq.6NqNq.3pNqNq.tNqNq.KMfkwcg3NqNq.KLMOFklwcGNqNq.iQPiNqNq.QoNbuNqNq.dsNqNqNq.3sNqNq.NqNqNq.1sNqNq.I4NqNq.";
+    if at < PLACES {
+        shape(t[at])
+    } else {
+        shape(b'.')
+    }
+}
+
+// Nothing but defaults follows.
+pub fn rests_in(k: Kind) -> bool
+    ensures { λ r. ⌜ r ≡ rests k ⌝ }
+{
+    match k {
+        Kind::R => false,
+        Kind::Given => false,
+        Kind::Weight => false,
+        Kind::S => false,
+        Kind::I { low: _, high: _ } => false,
+        Kind::Flag => false,
+        Kind::Count => false,
+        Kind::Outer => false,
+        Kind::Upper1 => false,
+        Kind::Upper2 => false,
+        Kind::Degree1 => false,
+        Kind::Degree2 => false,
+        Kind::P { want: _ } => false,
+        Kind::Q { want: _ } => false,
+        Kind::Bound { want: _ } => false,
+        Kind::Rest => true,
+    }
+}
+
+// A reference place: its mark in the sheet is R.
+pub fn refers_in(k: Kind) -> bool
+    ensures { λ r. ⌜ r ≡ refers k ⌝ }
+{
+    match k {
+        Kind::R => false,
+        Kind::Given => false,
+        Kind::Weight => false,
+        Kind::S => false,
+        Kind::I { low: _, high: _ } => false,
+        Kind::Flag => false,
+        Kind::Count => false,
+        Kind::Outer => false,
+        Kind::Upper1 => false,
+        Kind::Upper2 => false,
+        Kind::Degree1 => false,
+        Kind::Degree2 => false,
+        Kind::P { want: _ } => true,
+        Kind::Q { want: _ } => true,
+        Kind::Bound { want: _ } => true,
+        Kind::Rest => false,
+    }
+}

@@ -1,0 +1,4 @@
+pub mod Model
+pub mod Canonical
+pub mod Read
+pub mod Write

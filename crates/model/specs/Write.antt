@@ -1,0 +1,89 @@
+-- Writing a sheet: its refusals in the paper's order, its model, its canonical file.
+use mathlib.Core.Bool.{Bool, true, false, cond, not, _&&_}
+use mathlib.Core.List.{List, [], _∷_, map}
+use Prim.Native.Nat.{ℕ, suc, _+_}
+use lib.ListN.{length, getD}
+use lib.Dec.{leb, eqb}
+use Rattle.columns.specs.declared.Fault.the-variants.{ListOrLength, Global, Mark, TooLong}
+use Rattle.columns.specs.Refusal.{Outcome, accepted, refused, demand, eachAt, _then_}
+use Rattle.values.specs.Value.{Item, seen}
+use Rattle.records.specs.Global.{globalFits}
+use Rattle.cards.specs.Cards.{mostLines}
+use Rattle.directory.specs.declared.Fields.{Fields}
+use Rattle.directory.specs.Rules.{entryRules, referenceRule}
+use Rattle.layouts.specs.Known.{mostList, known}
+use Rattle.layouts.specs.Entities.{Entity, entityCheck, marks}
+use Rattle.sheets.specs.Sheet.{Row, Sheet}
+use Rattle.sheets.specs.Order.{readSheet}
+use Rattle.model.specs.Model.{Carried, Model, typeOf, typesOf, entityOf, valueIn, markIn, carriedOf, modelOf}
+use Rattle.model.specs.Canonical.{lineTotal, canonical}
+
+-- ---- where lines stand: a G line takes one, an entry one and its values'
+
+abbrev pub one : {A : Type 0} → A → ℕ
+one x = 1
+
+abbrev pub rowSize : Row → ℕ
+rowSize r = 1 + length (r .values)
+
+abbrev pub firstGlobal : Sheet → ℕ
+firstGlobal s = length (s .starts) + 1
+
+abbrev pub firstRow : Sheet → ℕ
+firstRow s = length (s .starts) + length (s .globals) + 1
+
+-- ---- 8; each entry 9, 13; all 10; each entry 14, 15, 18. The place is the G line or the entry line
+
+abbrev pub globalRule : ℕ → ℕ × Item → Outcome (Unit {0})
+globalRule place g = demand (globalFits (g .0) (seen (g .1))) Global place
+
+abbrev pub rowRules : ℕ → Row → Outcome (Unit {0})
+rowRules place r = entryRules (r .fields) place
+
+abbrev pub rowReferences : List ℕ → ℕ → Row → Outcome (Unit {0})
+rowReferences types place r = referenceRule types (r .fields) place
+
+abbrev pub rowEntity : Row → Entity
+rowEntity r = entityOf (r .fields) (map valueIn (r .values))
+
+abbrev pub equal : Bool → Bool → Bool
+equal true b = b
+equal false b = not b
+
+abbrev pub allEqual : List Bool → List Bool → Bool
+allEqual [] [] = true
+allEqual [] (b ∷ bs) = false
+allEqual (a ∷ xs) [] = false
+allEqual (a ∷ xs) (b ∷ bs) = equal a b && allEqual xs bs
+
+-- E if the list knows the entity, R where it reads a reference
+abbrev pub marksRight : ℕ → List ℕ → Row → Bool
+marksRight list types r =
+    equal (r .known) (known list (rowEntity r .typ) (rowEntity r .form)) && allEqual (map markIn (r .values)) (marks list types (rowEntity r))
+
+abbrev pub rowEntityRules : ℕ → List ℕ → ℕ → Row → Outcome (Unit {0})
+rowEntityRules list types place r = entityCheck list types (rowEntity r) place then λ _. demand (marksRight list types r) Mark place
+
+abbrev pub rowTypes : Sheet → List ℕ
+rowTypes s = typesOf (modelOf s .entries)
+
+unfoldable pub sheetRules : ℕ → Sheet → Outcome (Unit {0})
+sheetRules list s =
+    eachAt one globalRule (firstGlobal s) (s .globals)
+    then λ _. eachAt rowSize rowRules (firstRow s) (s .rows)
+    then λ _. eachAt rowSize (rowReferences (rowTypes s)) (firstRow s) (s .rows)
+    then λ _. eachAt rowSize (rowEntityRules list (rowTypes s)) (firstRow s) (s .rows)
+    then λ _. accepted tt
+
+-- ---- the sheet: 1 (list only); 17; 8; each entry 9, 13; all 10; each entry 14, 15, 18; 19
+
+unfoldable pub writeModel : ℕ → List ℕ → Outcome Model
+writeModel list t =
+    demand (leb list mostList) ListOrLength 0
+    then λ _. readSheet t
+    then λ s. sheetRules list s
+    then λ _. accepted (modelOf s)
+
+-- the canonical file of a sheet, or its first refusal
+unfoldable pub writes : ℕ → List ℕ → Outcome (List ℕ)
+writes list t = writeModel list t then λ m. demand (leb (lineTotal m) mostLines) TooLong 0 then λ _. accepted (canonical m)

@@ -1,0 +1,13 @@
+use borrow.Author.Needs.{needs}
+use Rattle.records.proofs.Globals.{fields}
+use Rattle.records.proofs.global.global_fits.Statement.{statement}
+use Rattle.records.proofs.global.global_fits.Tie as tie
+
+pub global-fits-spec : {M : Type 1} → statement M
+global-fits-spec =
+    tie.close
+    (tie.spec
+    (λ c. search (needs, fields))
+    (λ c κs. search (needs, fields))
+    (λ c κs. search (needs, fields))
+    (λ c. search (needs, fields)))

@@ -1,0 +1,14 @@
+use borrow.Author.Needs.{needs}
+use Rattle.records.proofs.Globals.{fields}
+use Rattle.records.proofs.global.in_range.Statement.{statement}
+use Rattle.records.proofs.global.in_range.Tie as tie
+
+pub in-range-spec : {M : Type 1} → statement M
+in-range-spec =
+    tie.close
+    (tie.spec
+    (λ c κs. search (needs, fields))
+    (λ c κs. search (needs, fields))
+    (λ c. search (needs, fields))
+    (λ c. search (needs, fields))
+    (λ c. search (needs, fields)))

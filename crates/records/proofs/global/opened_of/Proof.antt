@@ -1,0 +1,15 @@
+use borrow.Author.Needs.{needs}
+use Rattle.records.proofs.Globals.{marks}
+use Rattle.records.proofs.global.opened_of.Statement.{statement}
+use Rattle.records.proofs.global.opened_of.Tie as tie
+
+pub opened-of-spec : {M : Type 1} → statement M
+opened-of-spec =
+    tie.close
+    (tie.spec
+    (λ c κs. search (needs, marks))
+    (λ c. search (needs, marks))
+    (λ c κs. search (needs, marks))
+    (λ c. search (needs, marks))
+    (λ c. search (needs, marks))
+    (λ c. search (needs, marks)))

@@ -1,0 +1,20 @@
+use borrow.Author.Needs.{needs}
+use Rattle.records.proofs.Globals.{openings}
+use Rattle.records.proofs.global.opening_of.Statement.{statement}
+use Rattle.records.proofs.global.opening_of.Tie as tie
+
+pub opening-of-spec : {M : Type 1} → statement M
+opening-of-spec =
+    tie.close
+    (tie.spec
+    (λ c κs. search (needs, openings))
+    (λ c κs. search (needs, openings))
+    (λ c. search (needs, openings))
+    (λ c κs. search (needs, openings))
+    (λ c κs. search (needs, openings))
+    (λ c κs. search (needs, openings))
+    (λ c. search (needs, openings))
+    (λ c. search (needs, openings))
+    (λ c. search (needs, openings))
+    (λ c κs. search (needs, openings))
+    (λ c. search (needs, openings)))

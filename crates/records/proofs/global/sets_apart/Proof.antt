@@ -1,0 +1,12 @@
+use borrow.Author.Needs.{needs}
+use Rattle.records.proofs.Globals.{marks}
+use Rattle.records.proofs.global.sets_apart.Statement.{statement}
+use Rattle.records.proofs.global.sets_apart.Tie as tie
+
+pub sets-apart-spec : {M : Type 1} → statement M
+sets-apart-spec =
+    tie.close
+    (tie.spec
+    (λ c. search (needs, marks))
+    (λ c. search (needs, marks))
+    (λ c. search (needs, marks)))

@@ -1,0 +1,12 @@
+use borrow.Author.Needs.{needs}
+use Rattle.records.proofs.Globals.{fields}
+use Rattle.records.proofs.global.up_to.Statement.{statement}
+use Rattle.records.proofs.global.up_to.Tie as tie
+
+pub up-to-spec : {M : Type 1} → statement M
+up-to-spec =
+    tie.close
+    (tie.spec
+    (λ c. search (needs, fields))
+    (λ c. search (needs, fields))
+    (λ c. search (needs, fields)))

@@ -1,0 +1,13 @@
+use borrow.Author.Needs.{needs}
+use Rattle.records.proofs.Laws.{laws}
+use Rattle.records.proofs.reading.beyond_of.Statement.{statement}
+use Rattle.records.proofs.reading.beyond_of.Tie as tie
+
+pub beyond-of-spec : {M : Type 1} → statement M
+beyond-of-spec =
+    tie.close
+    (tie.spec
+    (λ c. search (needs, laws))
+    (λ c. search (needs, laws))
+    (λ c. search (needs, laws))
+    (λ c. search (needs, laws)))

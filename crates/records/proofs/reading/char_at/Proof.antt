@@ -1,0 +1,18 @@
+use borrow.Author.Needs.{needs}
+use Rattle.records.proofs.Laws.{laws}
+use Rattle.records.proofs.reading.char_at.Statement.{statement}
+use Rattle.records.proofs.reading.char_at.Tie as tie
+
+pub char-at-spec : {M : Type 1} → statement M
+char-at-spec =
+    tie.close
+    (tie.spec
+    (λ c. search (needs, laws))
+    (λ c. search (needs, laws))
+    (λ c. search (needs, laws))
+    (λ c. search (needs, laws))
+    (λ c. search (needs, laws))
+    (λ c. search (needs, laws))
+    (λ c. search (needs, laws))
+    (λ c. search (needs, laws))
+    (λ c. search (needs, laws)))

@@ -1,0 +1,17 @@
+use borrow.Author.Needs.{needs}
+use Rattle.records.proofs.Laws.{ends-laws}
+use Rattle.records.proofs.reading.count_at.Statement.{statement}
+use Rattle.records.proofs.reading.count_at.Tie as tie
+
+pub count-at-spec : {M : Type 1} → statement M
+count-at-spec =
+    tie.close
+    (tie.spec
+    (λ c. search (needs, ends-laws))
+    (λ c. search (needs, ends-laws))
+    (λ c. search (needs, ends-laws))
+    (λ c. search (needs, ends-laws))
+    (λ c. search (needs, ends-laws))
+    (λ c κs. search (needs, ends-laws))
+    (λ c κs. search (needs, ends-laws))
+    (λ c. search (needs, ends-laws)))

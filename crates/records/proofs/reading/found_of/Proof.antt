@@ -1,0 +1,14 @@
+use borrow.Author.Needs.{needs}
+use Rattle.records.proofs.Laws.{laws}
+use Rattle.records.proofs.reading.found_of.Statement.{statement}
+use Rattle.records.proofs.reading.found_of.Tie as tie
+
+pub found-of-spec : {M : Type 1} → statement M
+found-of-spec =
+    tie.close
+    (tie.spec
+    (λ c. search (needs, laws))
+    (λ c. search (needs, laws))
+    (λ c. search (needs, laws))
+    (λ c. search (needs, laws))
+    (λ c. search (needs, laws)))

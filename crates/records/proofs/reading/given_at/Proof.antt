@@ -1,0 +1,16 @@
+use borrow.Author.Needs.{needs}
+use Rattle.records.proofs.Laws.{ends-laws}
+use Rattle.records.proofs.reading.given_at.Statement.{statement}
+use Rattle.records.proofs.reading.given_at.Tie as tie
+
+pub given-at-spec : {M : Type 1} → statement M
+given-at-spec =
+    tie.close
+    (tie.spec
+    (λ c κs. search (needs, ends-laws))
+    (λ c. search (needs, ends-laws))
+    (λ c. search (needs, ends-laws))
+    (λ c. search (needs, ends-laws))
+    (λ c κs. search (needs, ends-laws))
+    (λ c. search (needs, ends-laws))
+    (λ c. search (needs, ends-laws)))

@@ -1,0 +1,12 @@
+use borrow.Author.Needs.{needs}
+use Rattle.records.proofs.Laws.{laws}
+use Rattle.records.proofs.reading.mark_of.Statement.{statement}
+use Rattle.records.proofs.reading.mark_of.Tie as tie
+
+pub mark-of-spec : {M : Type 1} → statement M
+mark-of-spec =
+    tie.close
+    (tie.spec
+    (λ c. search (needs, laws))
+    (λ c. search (needs, laws))
+    (λ c. search (needs, laws)))

@@ -1,0 +1,13 @@
+use borrow.Author.Needs.{needs}
+use Rattle.records.proofs.Laws.{ends-laws}
+use Rattle.records.proofs.reading.plain_at.Statement.{statement}
+use Rattle.records.proofs.reading.plain_at.Tie as tie
+
+pub plain-at-spec : {M : Type 1} → statement M
+plain-at-spec =
+    tie.close
+    (tie.spec
+    (λ c. search (needs, ends-laws))
+    (λ c κs. search (needs, ends-laws))
+    (λ c κs. search (needs, ends-laws))
+    (λ c. search (needs, ends-laws)))

@@ -1,0 +1,51 @@
+-- How a record is written: its values in lines of w columns, as a text of which position p stands on line p / w.
+use mathlib.Core.Bool.{Bool, true, false, cond}
+use mathlib.Core.List.{List, [], _∷_, _++_}
+use Prim.Native.Nat.{ℕ, zero, suc, _+_, _-_, _/_, _%_}
+use lib.ListN.{length, replicate, take, drop}
+use lib.Dec.{leb}
+use Rattle.columns.specs.Decimal.{toLeft}
+use Rattle.values.specs.Value.{Item, default, whole, real, text, head, spelled}
+
+-- how much of a value stands on one line: a number or default with its delimiter; of a string the count, H and the first character
+unfoldable pub firm : Item → ℕ
+firm default = 1
+firm (whole neg size) = length (spelled (whole neg size)) + 1
+firm (real neg m eneg e double) = length (spelled (real neg m eneg e double)) + 1
+firm (text bs) = length (head (length bs)) + 1
+
+-- the blanks to the line's end, if n characters have no room there
+unfoldable pub gap : ℕ → ℕ → ℕ → ℕ
+gap w p n = cond (leb (p % w + n) w) 0 (w - p % w)
+
+-- ',' parts the values, ';' ends the record
+abbrev pub delimiter : Bool → ℕ
+delimiter last = cond last 59 44
+
+-- a value at position p, with its delimiter
+unfoldable pub piece : ℕ → ℕ → Item → Bool → List ℕ
+piece w p v last = replicate (gap w p (firm v)) 32 ++ (spelled v ++ (delimiter last ∷ []))
+
+abbrev pub none : List Item → Bool
+none [] = true
+none (v ∷ vs) = false
+
+-- the values from position p on
+unfoldable pub flow : ℕ → ℕ → List Item → List ℕ
+flow w p [] = []
+flow w p (v ∷ vs) = piece w p v (none vs) ++ flow w (p + length (piece w p v (none vs))) vs
+
+-- ---- a text in lines
+
+-- how many lines of w columns n characters take
+unfoldable pub lineCount : ℕ → ℕ → ℕ
+lineCount w n = (n + (w - 1)) / w
+
+-- the first n lines of w columns of a text, the last filled with blanks
+unfoldable pub cut : ℕ → ℕ → List ℕ → List (List ℕ)
+cut w zero t = []
+cut w (suc n) t = toLeft w (take w t) ∷ cut w n (drop w t)
+
+-- all lines of a text
+unfoldable pub inLines : ℕ → List ℕ → List (List ℕ)
+inLines w t = cut w (lineCount w (length t)) t

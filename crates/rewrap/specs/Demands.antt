@@ -1,0 +1,108 @@
+-- The three demands as statements over the definitions.
+use mathlib.Core.Path.{_≡_}
+use mathlib.Core.Bool.{Bool, true, false}
+use mathlib.Core.List.{List, [], _∷_, map}
+use mathlib.Core.Logic.{_⊎_}
+use Prim.Native.Nat.{ℕ, _+_, _*_, _≤_, _<_}
+use lib.ListN.{length}
+use Rattle.columns.specs.declared.Fault.{Fault}
+use Rattle.columns.specs.declared.Fault.the-variants.{Layout, LayoutReference, TooLong}
+use Rattle.columns.specs.Refusal.{Outcome, accepted, refused, _then_}
+use Rattle.values.specs.Value.{Item}
+use Rattle.cards.specs.Cards.{mostLines, entries}
+use Rattle.directory.specs.declared.Fields.{Fields}
+use Rattle.layouts.specs.Known.{mostList, known, Inside}
+use Rattle.sheets.specs.Sheet.{Row, Sheet, row, sheetText, linesIn, sheetOf as sheetOfLines}
+use Rattle.rewrap.specs.declared.Record.{Record}
+use Rattle.model.specs.Model.{Carried, Model, typeOf, valueIn, sheetOf, modelOf}
+use Rattle.model.specs.Canonical.{lineTotal, canonical}
+use Rattle.model.specs.Read.{Before, Listed, before, readModel, reads}
+use Rattle.model.specs.Write.{writes}
+use Rattle.rewrap.specs.Rules.{MeetsRules, EntryIs, InRange}
+use Rattle.rewrap.specs.Answers.{readsInto, writesInto, tableInto, leftIn, slotsLeft}
+
+abbrev Accepts : {A : Type 0} → Outcome A → Type 0
+Accepts {A} o = (a : A) × (o ≡ accepted a)
+
+abbrev Iff : Type 0 → Type 0 → Type 0
+Iff A B = (A → B) × (B → A)
+
+-- ---- demand 1: every input has an answer (the definitions are functions), and a refusal changes nothing that was lent
+
+abbrev pub RefusalKeepsBuffer : Type 0
+RefusalKeepsBuffer = (o : Outcome (List ℕ)) (out : List ℕ) (n : Fault) (place : ℕ) → o ≡ refused n place → leftIn out o ≡ out
+
+abbrev pub RefusalKeepsTable : Type 0
+RefusalKeepsTable = (o : Outcome (List Record)) (table : List Record) (n : Fault) (place : ℕ) → o ≡ refused n place → slotsLeft table o ≡ table
+
+-- ---- demand 2
+
+-- "a file is accepted exactly if it meets those rules"
+abbrev pub ExactlyTheRules : Type 0
+ExactlyTheRules = (list : ℕ) (f : List ℕ) → Iff (Accepts (reads list f)) (MeetsRules list f)
+
+-- "each parameter line then belongs to exactly one entity"
+abbrev pub OneOwner : Type 0
+OneOwner = (list : ℕ) (f : List ℕ) (r : MeetsRules list f) (k : ℕ) → 1 ≤ k → k ≤ r .counts .p
+    → (i : ℕ) × ((i < entries (r .counts)) × (InRange (r .entry i) k × ((j : ℕ) → j < entries (r .counts) → InRange (r .entry j) k → j ≡ i)))
+
+-- "its sheet, written and read again with the same list, gives that sheet if the written file keeps to 200,000 lines"
+abbrev pub ThereAndBack : Type 0
+ThereAndBack = (list : ℕ) (f : List ℕ) (m : Model) → readModel list f ≡ accepted m → lineTotal m ≤ mostLines
+    → (writes list (sheetText (sheetOf list m)) ≡ accepted (canonical m)) × (reads list (canonical m) ≡ accepted (sheetText (sheetOf list m)))
+
+-- the model that a text's lines tell, and the canonical file that it describes
+abbrev pub described : List ℕ → Model
+described s = modelOf (sheetOfLines (linesIn s))
+
+-- "a sheet is accepted exactly if the canonical file it describes keeps to that limit and reads back as that sheet"; that file is what is written
+abbrev pub SheetsExactly : Type 0
+SheetsExactly = (list : ℕ) (s g : List ℕ)
+    → Iff (writes list s ≡ accepted g) ((g ≡ canonical (described s)) × ((lineTotal (described s) ≤ mostLines) × (reads list g ≡ accepted s)))
+
+-- ---- demand 3
+
+-- "of two type lists, one inside the other"
+pub record OneInside (small large : ℕ) : Type 0 where
+  pub small-list : small ≤ mostList
+  pub large-list : large ≤ mostList
+  pub inside : Inside small large
+
+-- two entries of the two sheets: the same line for line; or only the larger list knows the entity, and the lines differ in their marks alone
+pub data RowsAlike (small large : ℕ) : Row → Row → Type 0 where
+  same : (r : Row) → RowsAlike small large r r
+  marks-only : (x : Fields) (label : List ℕ) (vs ws : List (Bool × Item)) → known small (typeOf x) (x .form .size) ≡ false
+      → known large (typeOf x) (x .form .size) ≡ true → map valueIn vs ≡ map valueIn ws
+      → RowsAlike small large (row false x label vs) (row true x label ws)
+
+pub data AllAlike (small large : ℕ) : List Row → List Row → Type 0 where
+  none : AllAlike small large [] []
+  more : {r q : Row} {rs qs : List Row} → RowsAlike small large r q → AllAlike small large rs qs → AllAlike small large (r ∷ rs) (q ∷ qs)
+
+pub record SheetsAlike (small large : ℕ) (s t : Sheet) : Type 0 where
+  pub starts : s .starts ≡ t .starts
+  pub globals : s .globals ≡ t .globals
+  pub rows : AllAlike small large (s .rows) (t .rows)
+
+-- a. "if the larger accepts a file so does the smaller"; b. "their sheets differ only in the letters that mark an entity only the larger knows, and
+-- its references"; the model is the same
+abbrev pub SmallerAccepts : Type 0
+SmallerAccepts = (small large : ℕ) → OneInside small large → (f : List ℕ) (m : Model) → readModel large f ≡ accepted m
+    → (readModel small f ≡ accepted m) × SheetsAlike small large (sheetOf small m) (sheetOf large m)
+
+-- c. "each written back with its own list gives the same bytes, or each is refused for length"
+abbrev pub SameBytes : Type 0
+SameBytes = (small large : ℕ) → OneInside small large → (f : List ℕ) (m : Model) → readModel large f ≡ accepted m
+    → ((lineTotal m ≤ mostLines) × ((writes small (sheetText (sheetOf small m)) ≡ accepted (canonical m)) × (writes large (sheetText (sheetOf large m)) ≡ accepted (canonical m))))
+    ⊎ ((mostLines < lineTotal m) × ((writes small (sheetText (sheetOf small m)) ≡ refused TooLong 0) × (writes large (sheetText (sheetOf large m)) ≡ refused TooLong 0)))
+
+-- 14 or 15
+abbrev pub Late : Fault → Type 0
+Late n = (n ≡ Layout) ⊎ (n ≡ LayoutReference)
+
+-- d. "if the smaller refuses, the larger gives the same refusal, or 14 or 15 at an earlier directory entry, the last pass over entities counting as
+-- later than all before it": where the smaller refuses before the last pass the larger refuses alike
+abbrev pub LargerRefuses : Type 0
+LargerRefuses = (small large : ℕ) → OneInside small large → (f : List ℕ) (n : Fault) (p : ℕ) → reads small f ≡ refused n p
+    → (reads large f ≡ refused n p)
+    ⊎ ((b : Before) × ((before f ≡ accepted b) × ((m : Fault) × ((q : ℕ) × ((Late m) × ((q < p) × (reads large f ≡ refused m q)))))))

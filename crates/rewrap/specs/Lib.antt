@@ -1,0 +1,5 @@
+pub mod Rules
+pub mod Answers
+pub mod Demands
+pub mod Cases
+pub mod Chair

@@ -1,0 +1,19 @@
+// The two ways of the desk: a file to its sheet, and a sheet to its canonical file; the lent table of records and the name lookup.
+use columns::ParameterLine;
+use directory::Entry;
+
+// Accepted: number 0 and the length. Refused: the paper's number and the place, length 0.
+#[repr(C)]
+pub struct Answer {
+    pub number: u64,
+    pub place: u64,
+    pub length: u64,
+}
+
+// A slot of the lent table: an entry line's fields, parameter pointer and line count.
+pub struct Record {
+    pub entry: Entry,
+    pub label: [u8; 8],
+    pub pointer: ParameterLine,
+    pub lines: u32,
+}

@@ -1,0 +1,4 @@
+pub mod Plain
+pub mod Line
+pub mod Sheet
+pub mod Order

@@ -1,0 +1,99 @@
+-- The order of a sheet's lines, and the first wrong line.
+use mathlib.Core.Bool.{Bool, true, false, cond, not, _&&_}
+use mathlib.Core.List.{List, [], _∷_}
+use Prim.Native.Nat.{ℕ, _+_, _*_}
+use lib.Dec.{ltb, leb, eqb}
+use Rattle.columns.specs.declared.Fault.the-variants.{SheetLine as WrongSheet}
+use Rattle.columns.specs.declared.Signed.{Signed}
+use Rattle.columns.specs.declared.SheetLine.{SheetLine}
+use Rattle.columns.specs.Refusal.{Outcome, accepted, refused}
+use Rattle.values.specs.Value.{isDefault}
+use Rattle.records.specs.Global.{firstField}
+use Rattle.sheets.specs.declared.State.{State}
+use Rattle.sheets.specs.declared.Step.{Step}
+use Rattle.sheets.specs.declared.Step.the-variants.{On, Off}
+use Rattle.sheets.specs.declared.Verdict.{Verdict}
+use Rattle.sheets.specs.declared.Verdict.the-variants.{Good, Wrong}
+use Rattle.sheets.specs.Sheet.{Line, start, global, entry, value, last, none, Sheet, linesIn, sheetOf}
+
+abbrev pub sheetLine : ℕ → SheetLine
+sheetLine n = record { 0 = n }
+
+-- section: 0 at the start, then 1 S, 2 G, 3 entries, 4 Z; field: the last G number; entries and line: how many so far;
+-- run: the line of the first of the defaults that the values end with so far, or 0
+abbrev pub begin : State
+begin = record { section = 0; field = 2; entries = 0; run = 0; line = 0 }
+
+abbrev pub next : State → ℕ → ℕ → ℕ → ℕ → State
+next st section field entries run = record { section = section; field = field; entries = entries; run = run; line = st .line + 1 }
+
+-- this line is the first wrong one
+abbrev pub off : State → Step
+off st = Off (sheetLine (st .line + 1))
+
+-- a line that is no value line ends the values before it: they may not end with a default
+unfoldable pub closed : State → Step → Step
+closed st x = cond (eqb (st .run) 0) x (Off (sheetLine (st .run)))
+
+unfoldable pub startStep : State → Step
+startStep st = closed st (cond (leb (st .section) 1) (On (next st 1 (st .field) (st .entries) 0)) (off st))
+
+-- G numbers rise
+unfoldable pub globalStep : State → ℕ → Step
+globalStep st n =
+    closed st
+    (cond (leb 1 (st .section) && (leb (st .section) 2 && ltb (st .field) n)) (On (next st 2 n (st .entries) 0)) (off st))
+
+-- directory numbers are 1, 3, 5 on
+unfoldable pub entryStep : State → Signed → Step
+entryStep st x =
+    closed st
+    (cond (leb 1 (st .section) && (leb (st .section) 3 && (not (x .neg) && eqb (x .size) (2 * st .entries + 1))))
+    (On (next st 3 (st .field) (st .entries + 1) 0)) (off st))
+
+unfoldable pub valueStep : State → Bool → Step
+valueStep st default =
+    cond (eqb (st .section) 3)
+    (On (next st 3 (st .field) (st .entries) (cond default (cond (eqb (st .run) 0) (st .line + 1) (st .run)) 0))) (off st)
+
+-- the entry count
+unfoldable pub lastStep : State → ℕ → Step
+lastStep st n =
+    closed st
+    (cond (leb 1 (st .section) && (leb (st .section) 3 && eqb n (st .entries))) (On (next st 4 (st .field) (st .entries) 0)) (off st))
+
+unfoldable pub noneStep : State → Bool → Step
+noneStep st b = cond b (off st) (closed st (off st))
+
+abbrev pub stepLine : State → Line → Step
+stepLine st (start t) = startStep st
+stepLine st (global n v) = globalStep st n
+stepLine st (entry known n x label) = entryStep st n
+stepLine st (value reference v) = valueStep st (isDefault v)
+stepLine st (last n) = lastStep st n
+stepLine st (none b) = noneStep st b
+
+abbrev pub verdict : Step → Verdict
+verdict (On st) = Good (st .entries)
+verdict (Off n) = Wrong n
+
+-- the sheet has ended: after Z it is good, else the line after the last is wrong
+unfoldable pub finish : State → Verdict
+finish st = cond (eqb (st .section) 4) (Good (st .entries)) (verdict (closed st (off st)))
+
+-- the entry count, or the first wrong line
+unfoldable pub goLines : State → List Line → Verdict
+goLines st [] = finish st
+goLines st (l ∷ ls) = elim (stepLine st l) [ On st′ ↦ goLines st′ ls | Off n ↦ Wrong n ]
+
+unfoldable pub verdictOf : List ℕ → Verdict
+verdictOf t = goLines begin (linesIn t)
+
+-- 17, at the first wrong line, one past the last if it ends too soon
+abbrev pub outcome : Sheet → Verdict → Outcome Sheet
+outcome s (Good n) = accepted s
+outcome s (Wrong n) = refused WrongSheet (n .0)
+
+-- what a text carries as a sheet
+unfoldable pub readSheet : List ℕ → Outcome Sheet
+readSheet t = outcome (sheetOf (linesIn t)) (verdictOf t)

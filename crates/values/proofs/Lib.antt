@@ -1,0 +1,11 @@
+pub mod Laws
+pub mod Ends
+pub mod Heads
+pub mod Digits
+pub mod Canon
+pub mod Sizes
+pub mod Round
+pub mod Spells
+pub mod Backs
+pub mod OneSpelling
+pub mod Steps

@@ -1,0 +1,7 @@
+pub mod Number
+pub mod Head
+pub mod Value
+pub mod Strict
+pub mod Cases
+pub mod Reading
+pub mod Writing
