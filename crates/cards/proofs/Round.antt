@@ -19,7 +19,8 @@ use Rattle.columns.proofs.Round.{field-zero-filled}
 use Rattle.cards.specs.declared.Counts.{Counts}
 use Rattle.cards.specs.declared.CardsRead.the-variants.{Counted}
 use Rattle.cards.specs.Cards.{mostLines, linesFrom, linesOf, lineOk, seven, tells, totals, cardsOf, total}
-use Rattle.cards.specs.Written.{Body, All, Bodies, none, one, zeros, lineOf, section, totalsOf, countsOf, fileLines, joined, fileOf}
+use Rattle.cards.specs.Written.{Body, All, Bodies, none, one, zeros, lineOf, section, totalsOf, countsOf, fileLines, fileOf}
+use Rattle.columns.specs.Columns.{joined}
 use Rattle.cards.proofs.Growth.{line-among}
 use Rattle.cards.proofs.Complete.{accepted}
 use Rattle.cards.specs.Rules.{LineIs}

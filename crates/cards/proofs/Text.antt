@@ -9,7 +9,8 @@ use lib.Seq.{take-all}
 use Rattle.columns.specs.Columns.{columns, lineAt, textOf}
 use Rattle.columns.proofs.Columns.{line-columns}
 use Rattle.cards.specs.Cards.{mostLines, total}
-use Rattle.cards.specs.Written.{Body, Bodies, joined, countsOf, fileOf}
+use Rattle.cards.specs.Written.{Body, Bodies, countsOf, fileOf}
+use Rattle.columns.specs.Columns.{joined}
 use Rattle.cards.proofs.Round.{body-of, g-columns, p-columns}
 
 -- the first w columns of line k, as they stand in the file

@@ -4,7 +4,7 @@ use mathlib.Core.Path.{_≡_}
 use mathlib.Core.Bool.{true}
 use mathlib.Core.List.{List, [], _∷_, _++_}
 use lib.ListN.{length, replicate}
-use Rattle.columns.specs.Columns.{printable}
+use Rattle.columns.specs.Columns.{printable, joined}
 use Rattle.columns.specs.Decimal.{zeroFilled}
 use Rattle.cards.specs.declared.Counts.{Counts}
 use Rattle.cards.specs.Cards.{counts}
@@ -47,11 +47,6 @@ countsOf S G D P = counts (length S) (length G) (length D) (length P) 1
 -- all its lines
 unfoldable pub fileLines : List (List ℕ) → List (List ℕ) → List (List ℕ) → List (List ℕ) → List (List ℕ)
 fileLines S G D P = section 83 1 S ++ (section 71 1 G ++ (section 68 1 D ++ (section 80 1 P ++ (lineOf (totalsOf (countsOf S G D P)) 84 1 ∷ []))))
-
--- lines one after the other
-unfoldable pub joined : List (List ℕ) → List ℕ
-joined [] = []
-joined (l ∷ ls) = l ++ joined ls
 
 -- the file, given the columns of its S, G, D and P lines
 unfoldable pub fileOf : List (List ℕ) → List (List ℕ) → List (List ℕ) → List (List ℕ) → List ℕ

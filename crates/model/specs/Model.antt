@@ -20,6 +20,7 @@ pub record Model : Type 0 where
   pub globals : List (ℕ × Item)
   pub entries : List Carried
 
+-- an entry's type
 abbrev pub typeOf : Fields → ℕ
 typeOf x = x .entity .size
 
@@ -27,6 +28,7 @@ typeOf x = x .entity .size
 abbrev pub entityOf : Fields → List Item → Entity
 entityOf x vs = record { typ = typeOf x; form = x .form .size; values = vs }
 
+-- an entry's numbers
 abbrev pub fieldsIn : Carried → Fields
 fieldsIn e = e .fields
 
@@ -36,29 +38,36 @@ typesOf es = map typeOf (map fieldsIn es)
 
 -- ---- the sheet of a model under a list: E or U for each entry, R or V for each value
 
+-- values with their marks
 unfoldable pub marked : List Bool → List Item → List (Bool × Item)
 marked [] vs = []
 marked (b ∷ bs) [] = []
 marked (b ∷ bs) (v ∷ vs) = (b, v) ∷ marked bs vs
 
+-- E if the list knows the entity; R where it reads a reference
 unfoldable pub rowOf : ℕ → List ℕ → Carried → Row
 rowOf list types e =
     row (known list (typeOf (e .fields)) (e .fields .form .size)) (e .fields) (e .label)
     (marked (marks list types (entityOf (e .fields) (e .values))) (e .values))
 
+-- what the sheet of a model carries
 unfoldable pub sheetOf : ℕ → Model → Sheet
 sheetOf list m = record { starts = m .starts; globals = m .globals; rows = map (rowOf list (typesOf (m .entries))) (m .entries) }
 
 -- ---- the model of a sheet: the marks are left out
 
+-- a value without its mark
 abbrev pub valueIn : Bool × Item → Item
 valueIn v = v .1
 
+-- the mark of a value
 abbrev pub markIn : Bool × Item → Bool
 markIn v = v .0
 
+-- an entry without marks
 abbrev pub carriedOf : Row → Carried
 carriedOf r = record { fields = r .fields; label = r .label; values = map valueIn (r .values) }
 
+-- what a sheet carries but for the marks
 unfoldable pub modelOf : Sheet → Model
 modelOf s = record { starts = s .starts; globals = s .globals; entries = map carriedOf (s .rows) }

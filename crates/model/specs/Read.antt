@@ -30,12 +30,15 @@ use Rattle.model.specs.Model.{Carried, Model, typeOf, entityOf, sheetOf}
 
 -- ---- S: text of columns 1-72 without trailing blanks
 
+-- a blank
 abbrev pub isBlank : ℕ → Bool
 isBlank b = eqb b 32
 
+-- of line k
 abbrev pub startText : List ℕ → ℕ → List ℕ
 startText f k = trimEnd isBlank (columns (lineAt f k) 0 72)
 
+-- of all S lines
 unfoldable pub startsIn : List ℕ → Counts → List (List ℕ)
 startsIn f c = map (startText f) (upFrom 0 (c .s))
 
@@ -72,9 +75,11 @@ pub record GlobalRead : Type 0 where
   pub record-end : ℕ
   pub fields : List (ℕ × Item)
 
+-- the delimiters and the fields
 abbrev pub globalRead : ℕ → ℕ → List (ℕ × Item) → GlobalRead
 globalRead p d gs = record { parameter = p; record-end = d; fields = gs }
 
+-- 6 or 7; stray text; 8; the fields
 abbrev pub byValues : Counts → List ℕ → ℕ → ℕ → ℕ → Values → Outcome GlobalRead
 byValues c t p d from (wrong n start at) = refused n (spellingLine c t start at)
 byValues c t p d from (values vs end) =
@@ -83,11 +88,13 @@ byValues c t p d from (values vs end) =
     then λ _. demand (eqb k (length vs)) Global (globalLine c (startAt 72 p d t from k))
     then λ _. accepted (globalRead p d (given firstField vs))
 
+-- a wrong opening has the first G line; an opening that ends the record leaves no fields
 abbrev pub byOpening : Counts → List ℕ → Opening → Outcome GlobalRead
 byOpening c t Wrong = refused Spelling (firstG c + 1)
 byOpening c t (Opened p d next true) = noStray c t next then λ _. accepted (globalRead p d [])
 byOpening c t (Opened p d next false) = byValues c t p d next (valuesAt 72 p d t next)
 
+-- what G says, or its first refusal
 unfoldable pub globalIn : List ℕ → Counts → Outcome GlobalRead
 globalIn f c = byOpening c (globalText f c) (openingOf (globalText f c))
 
@@ -100,6 +107,7 @@ pub record Listed : Type 0 where
   pub pointer : ℕ
   pub lines : ℕ
 
+-- 9 for a field that is misspelt, then 9 and 13
 abbrev pub byEntry : List ℕ → ℕ → EntryRead → Outcome Listed
 byEntry label place WrongEntry = refused Directory place
 byEntry label place (Spelt x from count) =
@@ -113,21 +121,27 @@ entryIn f place k = byEntry (labelAt f k) place (entryAt f k)
 abbrev pub two : {A : Type 0} → A → ℕ
 two x = 2
 
+-- the line, from 0, of entry i
 abbrev pub entryLineIn : Counts → ℕ → ℕ
 entryLineIn c i = entryLine c i
 
+-- the place of the first entry
 abbrev pub firstEntry : Counts → ℕ
 firstEntry c = firstD c + 1
 
+-- each entry 9, 13
 unfoldable pub entriesIn : List ℕ → Counts → Outcome (List Listed)
 entriesIn f c = eachAt two (entryIn f) (firstEntry c) (map (entryLineIn c) (upFrom 0 (entries c)))
 
+-- the type of an entry
 abbrev pub listedType : Listed → ℕ
 listedType e = typeOf (e .fields)
 
+-- 10 of one entry
 abbrev pub referencesOf : List ℕ → ℕ → Listed → Outcome (Unit {0})
 referencesOf types place e = referenceRule types (e .fields) place
 
+-- all 10
 unfoldable pub referencesIn : Counts → List Listed → Outcome (List (Unit {0}))
 referencesIn c es = eachAt two (referencesOf (map listedType es)) (firstEntry c) es
 
@@ -144,6 +158,7 @@ isType typ (whole neg n) = not neg && eqb n typ
 isType typ (real neg m eneg x double) = false
 isType typ (text bs) = false
 
+-- what an entry carries
 abbrev pub carried : Listed → List Item → Carried
 carried e vs = record { fields = e .fields; label = e .label; values = vs }
 
@@ -156,15 +171,18 @@ byParameters list types place e (values vs end) =
     then λ _. entityCheck list types (entityOf (e .fields) rest) place
     then λ _. accepted (carried e rest)
 
+-- one entity of the last pass
 unfoldable pub entityIn : ℕ → List ℕ → Counts → GlobalRead → List ℕ → ℕ → Listed → Outcome Carried
 entityIn list f c g types place e =
     byParameters list types place e (valuesAt 64 (g .parameter) (g .record-end) (parametersOf f c e) 0)
 
+-- each entry in turn
 unfoldable pub lastPass : ℕ → List ℕ → Counts → GlobalRead → List Listed → Outcome (List Carried)
 lastPass list f c g es = eachAt two (entityIn list f c g (map listedType es)) (firstEntry c) es
 
 -- ---- the file: 1; each line 2, 3, 4; 5; G 6 and 7, then 8; each entry 9, 13; all 10; 11; the last pass
 
+-- the model of a file
 abbrev pub modelWith : List ℕ → Counts → GlobalRead → List Carried → Model
 modelWith f c g es = record { starts = startsIn f c; globals = g .fields; entries = es }
 
@@ -174,6 +192,7 @@ pub record Before : Type 0 where
   pub global : GlobalRead
   pub listed : List Listed
 
+-- 1 (the length) to 5, 6 to 8 of G, 9, 13, 10, 11
 unfoldable pub before : List ℕ → Outcome Before
 before f =
     outcome (cardsOf f)
@@ -183,6 +202,7 @@ before f =
     then λ _. ownershipOutcome c (ownersIn f c)
     then λ _. accepted (record { counts = c; global = g; listed = es })
 
+-- the model of a file, or its first refusal
 unfoldable pub readModel : ℕ → List ℕ → Outcome Model
 readModel list f =
     demand (leb list mostList) ListOrLength 0

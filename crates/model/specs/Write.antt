@@ -20,36 +20,46 @@ use Rattle.model.specs.Canonical.{lineTotal, canonical}
 
 -- ---- where lines stand: a G line takes one, an entry one and its values'
 
+-- a G line
 abbrev pub one : {A : Type 0} → A → ℕ
 one x = 1
 
+-- an entry line and its value lines
 abbrev pub rowSize : Row → ℕ
 rowSize r = 1 + length (r .values)
 
+-- the place of the first G line
 abbrev pub firstGlobal : Sheet → ℕ
 firstGlobal s = length (s .starts) + 1
 
+-- the place of the first entry line
 abbrev pub firstRow : Sheet → ℕ
 firstRow s = length (s .starts) + length (s .globals) + 1
 
 -- ---- 8; each entry 9, 13; all 10; each entry 14, 15, 18. The place is the G line or the entry line
 
+-- 8
 abbrev pub globalRule : ℕ → ℕ × Item → Outcome (Unit {0})
 globalRule place g = demand (globalFits (g .0) (seen (g .1))) Global place
 
+-- 9, 13
 abbrev pub rowRules : ℕ → Row → Outcome (Unit {0})
 rowRules place r = entryRules (r .fields) place
 
+-- 10
 abbrev pub rowReferences : List ℕ → ℕ → Row → Outcome (Unit {0})
 rowReferences types place r = referenceRule types (r .fields) place
 
+-- an entry as the layouts see it
 abbrev pub rowEntity : Row → Entity
 rowEntity r = entityOf (r .fields) (map valueIn (r .values))
 
+-- two marks are the same
 abbrev pub equal : Bool → Bool → Bool
 equal true b = b
 equal false b = not b
 
+-- all marks are the same
 abbrev pub allEqual : List Bool → List Bool → Bool
 allEqual [] [] = true
 allEqual [] (b ∷ bs) = false
@@ -61,12 +71,15 @@ abbrev pub marksRight : ℕ → List ℕ → Row → Bool
 marksRight list types r =
     equal (r .known) (known list (rowEntity r .typ) (rowEntity r .form)) && allEqual (map markIn (r .values)) (marks list types (rowEntity r))
 
+-- 14, 15, then 18
 abbrev pub rowEntityRules : ℕ → List ℕ → ℕ → Row → Outcome (Unit {0})
 rowEntityRules list types place r = entityCheck list types (rowEntity r) place then λ _. demand (marksRight list types r) Mark place
 
+-- the types of all entries
 abbrev pub rowTypes : Sheet → List ℕ
 rowTypes s = typesOf (modelOf s .entries)
 
+-- 8; each entry 9, 13; all 10; each entry 14, 15, 18
 unfoldable pub sheetRules : ℕ → Sheet → Outcome (Unit {0})
 sheetRules list s =
     eachAt one globalRule (firstGlobal s) (s .globals)
@@ -77,6 +90,7 @@ sheetRules list s =
 
 -- ---- the sheet: 1 (list only); 17; 8; each entry 9, 13; all 10; each entry 14, 15, 18; 19
 
+-- the model of a sheet, or its first refusal
 unfoldable pub writeModel : ℕ → List ℕ → Outcome Model
 writeModel list t =
     demand (leb list mostList) ListOrLength 0

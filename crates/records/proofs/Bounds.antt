@@ -1,22 +1,21 @@
 -- What is read keeps its limits, stands in the text and ends behind its start: `sane`. What callers of `value_at` and `check_from` need of it by
 -- search is the ruleset `bounds`. Assumes nothing.
-use mathlib.Core.Path.{_≡_, refl, sym, ap, _∙_}
+use mathlib.Core.Path.{_≡_, refl}
 use mathlib.Core.Bool.{Bool, true, false, cond, _&&_}
 use mathlib.Core.List.{List, [], _∷_}
-use Prim.Native.Nat.{ℕ, zero, suc, _+_, _-_, _*_, _%_, _^_, _≤_, _<_}
+use Prim.Native.Nat.{ℕ, suc, _+_, _-_, _%_, _^_, _≤_, _<_}
 use native.Mathlib.Omega.{arith}
 use lib.ListN.{length, getD, drop, take, length-drop, length-take}
 use lib.Dec.{leb, eqb}
 use borrow.Author.Tests.{eqb-true, leb-true}
 use Rattle.columns.specs.declared.Fault.{Fault}
 use Rattle.columns.specs.declared.Fault.the-variants.{Spelling}
-use Rattle.columns.specs.Columns.{textOf}
 use Rattle.values.specs.declared.Number.{Number}
 use Rattle.values.specs.declared.Number.the-variants.{Whole as WholeOf, Real as RealOf, Beyond, Bad}
 use Rattle.values.specs.declared.Head.{Head}
 use Rattle.values.specs.declared.Head.the-variants.{Count, Plain}
 use Rattle.values.specs.declared.Value.{Value}
-use Rattle.values.specs.declared.Value.the-variants.{Default, Whole, Real, Text}
+use Rattle.values.specs.declared.Value.the-variants.{Whole, Real, Text}
 use Rattle.values.specs.Number.{digits, value, numberOf}
 use Rattle.values.specs.Head.{headOf}
 use Rattle.values.specs.Reading.{Within}
@@ -24,7 +23,7 @@ use Rattle.values.proofs.Laws.{three}
 use Rattle.values.proofs.Digits.{digits-ds, value-below}
 use Rattle.values.proofs.Ends.{inside, ends}
 use Rattle.values.proofs.Canon.{Canon, FineHead, head-fine}
-use Rattle.values.proofs.Round.{sizes}
+use Rattle.values.proofs.Sizes.{sizes}
 use Rattle.values.proofs.Heads.{within-more}
 use Rattle.records.specs.declared.Next.{Next}
 use Rattle.records.specs.declared.Next.the-variants.{Delimiter, Other}

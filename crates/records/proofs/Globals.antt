@@ -1,21 +1,21 @@
 -- The Global opening and its fields: a law for each test of the code; and `delimits`, what any opening that is accepted names. Assumes nothing.
-use mathlib.Core.Path.{_≡_, refl, sym, ap, _∙_}
-use mathlib.Core.Bool.{Bool, true, false, cond, not, _&&_, _||_, and-false, false≢true}
-use mathlib.Core.List.{List, [], _∷_}
+use mathlib.Core.Path.{_≡_, refl, sym, _∙_}
+use mathlib.Core.Bool.{Bool, true, false, cond, not, _&&_, _||_}
+use mathlib.Core.List.{List}
 use Prim.Native.Nat.{ℕ, _+_, _≤_, _<_}
 use native.Mathlib.Omega.{arith}
-use lib.ListN.{length, getD}
+use lib.ListN.{getD}
 use lib.Dec.{leb, ltb, eqb}
-use borrow.Author.Tests.{eqb-true, eqb-false, leb-true, leb-false, ltb-true, ltb-false, eq-eqb, ne-eqb, le-leb, lt-leb, lt-ltb, le-ltb, not-true, not-false}
+use borrow.Author.Tests.{eqb-false, leb-true, ltb-true, ltb-false, eq-eqb, ne-eqb, le-leb, lt-leb, not-true, not-false}
 use Rattle.columns.proofs.Tests.{both-left}
 use Rattle.values.specs.declared.Value.{Value}
-use Rattle.values.specs.declared.Value.the-variants.{Default, Whole, Real, Text}
+use Rattle.values.specs.declared.Value.the-variants.{Default, Whole}
 use Rattle.values.specs.Number.{isDigit, joins}
 use Rattle.records.specs.declared.Opening.{Opening}
 use Rattle.records.specs.declared.Opening.the-variants.{Opened, Wrong}
 use Rattle.records.specs.declared.GlobalKind.{GlobalKind}
 use Rattle.records.specs.declared.GlobalKind.the-variants.{String, Real as RealKind, Integer}
-use Rattle.records.specs.Global.{mayDelimit, opened, oneH, recordDelimiter, openingOf, within, kindOf, upTo, inRange, isKind, lastField, globalFits}
+use Rattle.records.specs.Global.{mayDelimit, opened, oneH, recordDelimiter, openingOf, within, kindOf, upTo, inRange, isKind, globalFits}
 use Rattle.records.specs.Reading.{Delimits, setsApart}
 
 -- ---- delimiters

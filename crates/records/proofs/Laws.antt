@@ -1,15 +1,15 @@
--- What the functions of src/ go by, one law for each need. Assumes nothing.
+-- What the functions that read go by, one law for each need. Assumes nothing.
 use mathlib.Core.Path.{_≡_, refl, sym, ap, _∙_}
-use mathlib.Core.Bool.{Bool, true, false, cond, _&&_, and-false}
-use mathlib.Core.List.{List, [], _∷_, _++_}
-use Prim.Native.Nat.{ℕ, zero, suc, _+_, _-_, _*_, _/_, _%_, _^_, _≤_, _<_, min}
-use native.Mathlib.Nat.{zero-add, add-zero, sub-self}
+use mathlib.Core.Bool.{Bool, true, false, cond}
+use mathlib.Core.List.{List}
+use Prim.Native.Nat.{ℕ, suc, _+_, _-_, _*_, _/_, _%_, _^_, _≤_, _<_}
+use native.Mathlib.Nat.{sub-self}
 use native.Mathlib.Numerals.{add-one}
 use native.Mathlib.Omega.{arith}
-use lib.ListN.{length, getD, drop, take, length-append, length-take, length-drop, drop-of-length-le}
+use lib.ListN.{length, getD, drop, take, length-take, drop-of-length-le}
 use lib.Seq.{drop-cons, take-nil}
-use lib.Dec.{ltb, leb, eqb}
-use borrow.Author.Tests.{eqb-true, leb-true, eq-eqb, ne-eqb, le-leb, lt-leb}
+use lib.Dec.{eqb}
+use borrow.Author.Tests.{eq-eqb, ne-eqb, le-leb, lt-leb}
 use Rattle.values.specs.declared.Token.{Token}
 use Rattle.values.specs.declared.Number.{Number}
 use Rattle.values.specs.declared.Number.the-variants.{Whole as WholeOf, Real as RealOf, Beyond, Bad}
@@ -26,8 +26,7 @@ use Rattle.records.specs.declared.Got.the-variants.{Found, Refused}
 use Rattle.records.specs.declared.Next.{Next}
 use Rattle.records.specs.declared.Next.the-variants.{Delimiter, Other}
 use Rattle.columns.specs.Columns.{textOf}
-use Rattle.records.specs.Reading.{Stands}
-use Rattle.records.specs.Reading.{place, Sane}
+use Rattle.records.specs.Reading.{Stands, place, Sane}
 use Rattle.records.specs.Record.{blanks, mark, nextAt, found, beyond, plain, headed, byNext, valueAt}
 use Rattle.records.proofs.Bounds.{within, sane}
 use Rattle.records.proofs.Texts.{length-text, small, column, index, char-of, char-end, rest-of, rest-in}

@@ -3,4 +3,9 @@ pub mod Bounds
 pub mod Laws
 pub mod Steps
 pub mod Globals
+pub mod Round
+pub mod Lines
+pub mod Fine
+pub mod Puts
+pub mod Overs
 pub mod Items

@@ -1,8 +1,8 @@
 -- The values of a record, one after the other: each ends behind its start, so the fuel is never looked at again. Assumes nothing.
 use mathlib.Core.Path.{_≡_, refl, sym, ap, ap₂, _∙_}
-use mathlib.Core.Bool.{Bool, true, false, cond}
+use mathlib.Core.Bool.{Bool, true, false}
 use mathlib.Core.List.{List, [], _∷_}
-use Prim.Native.Nat.{ℕ, zero, suc, _+_, _-_, _*_, _%_, _^_, _≤_, _<_}
+use Prim.Native.Nat.{ℕ, zero, suc, _+_, _-_, _*_, _^_, _≤_, _<_}
 use native.Mathlib.Nat.{zero-add}
 use native.Mathlib.Omega.{arith}
 use lib.ListN.{length}
@@ -10,13 +10,13 @@ use Rattle.columns.specs.declared.Fault.{Fault}
 use Rattle.columns.specs.Columns.{textOf}
 use Rattle.values.specs.declared.Value.{Value}
 use Rattle.values.specs.declared.Value.the-variants.{Default, Whole, Real, Text}
-use Rattle.values.specs.Value.{Item, itemOf, isDefault}
+use Rattle.values.specs.Value.{Item, itemOf}
 use Rattle.records.specs.declared.Got.{Got}
 use Rattle.records.specs.declared.Got.the-variants.{Found, Refused}
 use Rattle.records.specs.declared.Check.{Check}
 use Rattle.records.specs.declared.Check.the-variants.{Done, Wrong}
-use Rattle.records.specs.Record.{valueAt, Values, values, wrong, more, after, valuesFrom, valuesAt, trim, trimmed, kept}
-use Rattle.records.specs.Reading.{Stands, Sane, SaneCheck, Writable, keptAfter, keptFrom, checkFrom, checked}
+use Rattle.records.specs.Record.{valueAt, Values, values, wrong, more, after, valuesFrom, valuesAt, trim, trimmed}
+use Rattle.records.specs.Reading.{Stands, Sane, keptAfter, keptFrom, checkFrom, checked}
 use Rattle.records.proofs.Texts.{length-text, small}
 use Rattle.records.proofs.Bounds.{sane, next-more, next-less, next-in, wrong-from, wrong-behind, wrong-at}
 
@@ -51,6 +51,22 @@ module _ (w c d : ℕ) (t : List ℕ) (pc : 0 < c) (pd : 0 < d) where
     pub at-wrong : {fault : Fault} {s at : ℕ} → valueAt w c d t p ≡ Refused fault s at → valuesAt w c d t p ≡ wrong fault s at
     unfolding valuesAt valuesFrom
     at-wrong e = rw (valuesFrom, e)
+
+-- the values after the first
+rest-of : (i : Item) (x : Values) {vs : List Item} {end : ℕ} → more i x ≡ values vs end → (us : List Item) × (vs ≡ i ∷ us) × (x ≡ values us end)
+rest-of i (values us e) h = (us, (cc), (cc))
+rest-of i (wrong fault s at) h = let z : _≡_ {A = ℕ} 0 1 = cc in absurd (omega arith)
+
+-- a record that is accepted, value by value: the last, one more, and none that is refused
+module _ (w c d : ℕ) (t : List ℕ) (pc : 0 < c) (pd : 0 < d) (p : ℕ) (h : p ≤ length t) {vs : List Item} {end : ℕ} (r : valuesAt w c d t p ≡ values vs end) where
+  pub last-is : {v : Value} {s next : ℕ} → valueAt w c d t p ≡ Found v s next true → (vs ≡ itemOf t v ∷ []) × (next ≡ end)
+  last-is e = let q = sym (at-last w c d t pc pd p e) ∙ r in ((cc), (cc))
+
+  pub more-is : {v : Value} {s next : ℕ} → valueAt w c d t p ≡ Found v s next false → (us : List Item) × (vs ≡ itemOf t v ∷ us) × (valuesAt w c d t next ≡ values us end)
+  more-is {v} {s} {next} e = rest-of (itemOf t v) (valuesAt w c d t next) (sym (at-more w c d t pc pd p h e) ∙ r)
+
+  pub none-wrong : {fault : Fault} {s at : ℕ} → valueAt w c d t p ≡ Refused fault s at → ⊥
+  none-wrong e = let q = sym (at-wrong w c d t pc pd p e) ∙ r in let z : _≡_ {A = ℕ} 0 1 = cc in omega arith
 
 -- ---- the loop over a record
 

@@ -1,6 +1,6 @@
 -- Worked examples: texts in lines of w columns, with ',' and ';', and the values that they hold or their refusal; openings; a record as it is written.
 use mathlib.Core.Path.{_≡_, refl}
-use mathlib.Core.Bool.{Bool, true, false}
+use mathlib.Core.Bool.{true, false}
 use mathlib.Core.List.{List, [], _∷_, map}
 use Prim.Native.Nat.{ℕ}
 use Prim.Native.String.{String}
@@ -9,7 +9,7 @@ use Rattle.columns.specs.Decimal.{dec, lastDigits, toLeft}
 use Rattle.values.specs.Number.{numberOf, powerAt, power}
 use Rattle.values.specs.Head.{headOf}
 use Rattle.values.specs.Value.{default, whole, real, text, spelled}
-use Rattle.values.specs.Cases.{codes}
+use Rattle.columns.specs.Quoted.{codes}
 use Rattle.records.specs.declared.Opening.{Opening}
 use Rattle.records.specs.declared.Opening.the-variants.{Opened, Wrong}
 use Rattle.records.specs.Record.{nextAt, valueAt, Values, values, wrong, valuesFrom, valuesAt, trimmed}

@@ -5,7 +5,7 @@ use Prim.Native.Nat.{ℕ, zero, suc, _+_, _-_, _/_, _%_}
 use lib.ListN.{length, replicate, take, drop}
 use lib.Dec.{leb}
 use Rattle.columns.specs.Decimal.{toLeft}
-use Rattle.values.specs.Value.{Item, default, whole, real, text, head, spelled}
+use Rattle.values.specs.Value.{Item, default, whole, real, text, head, spelled, Fine, Printed}
 
 -- how much of a value stands on one line: a number or default with its delimiter; of a string the count, H and the first character
 unfoldable pub firm : Item → ℕ
@@ -26,6 +26,7 @@ delimiter last = cond last 59 44
 unfoldable pub piece : ℕ → ℕ → Item → Bool → List ℕ
 piece w p v last = replicate (gap w p (firm v)) 32 ++ (spelled v ++ (delimiter last ∷ []))
 
+-- whether no value is left: then the delimiter ends the record
 abbrev pub none : List Item → Bool
 none [] = true
 none (v ∷ vs) = false
@@ -34,6 +35,16 @@ none (v ∷ vs) = false
 unfoldable pub flow : ℕ → ℕ → List Item → List ℕ
 flow w p [] = []
 flow w p (v ∷ vs) = piece w p v (none vs) ++ flow w (p + length (piece w p v (none vs))) vs
+
+-- the values that a record can hold, one at least
+pub data Fines : List Item → Type 0 where
+  fine-one : {v : Item} → Fine v → Fines (v ∷ [])
+  fine-more : {v u : Item} {vs : List Item} → Fine v → Fines (u ∷ vs) → Fines (v ∷ (u ∷ vs))
+
+-- whose strings are of bytes that a line may hold
+abbrev pub Prints : List Item → Type 0
+Prints [] = Unit {0}
+Prints (v ∷ vs) = Printed v × Prints vs
 
 -- ---- a text in lines
 

@@ -2,11 +2,13 @@
 use mathlib.Core.Bool.{Bool, true, false, cond, not, _&&_, _||_}
 use mathlib.Core.List.{List, [], _∷_, _++_}
 use Prim.Native.Nat.{ℕ, _+_}
-use lib.ListN.{length, getD}
-use lib.Dec.{leb, ltb, eqb}
+use lib.ListN.{getD}
+use lib.Dec.{leb, eqb}
 use Rattle.values.specs.declared.Value.{Value}
 use Rattle.values.specs.declared.Value.the-variants.{Default, Whole, Real, Text}
 use Rattle.values.specs.Number.{joins}
+use Rattle.columns.specs.Quoted.{codes}
+use Rattle.records.specs.Flow.{delimiter}
 use Rattle.records.specs.declared.Opening.{Opening}
 use Rattle.records.specs.declared.Opening.the-variants.{Opened, Wrong}
 use Rattle.records.specs.declared.GlobalKind.{GlobalKind}
@@ -43,15 +45,21 @@ openingOf t =
     cond (eqb (getD t 0 0) 44) (recordDelimiter 44 t 1)
     (cond (oneH t 0 && eqb (getD t 3 0) c) (recordDelimiter c t 4) Wrong)
 
+-- the opening as it is written: `1H,,1H;,`, or `1H,,1H;;` if all else is default
+unfoldable pub canonicalOpening : Bool → List ℕ
+canonicalOpening last = codes "1H,,1H;" ++ (delimiter last ∷ [])
+
 -- ---- kinds and ranges
 
 -- the fields that follow the delimiters
 abbrev pub firstField : ℕ
 firstField = 3
 
+-- more than 24 fields are refused
 abbrev pub lastField : ℕ
 lastField = 24
 
+-- from low to high
 abbrev pub within : ℕ → ℕ → ℕ → Bool
 within low high n = leb low n && leb n high
 
@@ -61,6 +69,7 @@ kindOf n =
     cond (within 3 6 n || (eqb n 12 || (eqb n 15 || (eqb n 18 || (eqb n 21 || eqb n 22))))) String
     (cond (eqb n 13 || (eqb n 17 || (eqb n 19 || eqb n 20))) RealKind Integer)
 
+-- 1 to high, without a sign
 abbrev pub upTo : ℕ → Bool → ℕ → Bool
 upTo high neg size = not neg && within 1 high size
 
@@ -68,6 +77,7 @@ upTo high neg size = not neg && within 1 high size
 unfoldable pub inRange : ℕ → Bool → ℕ → Bool
 inRange n neg size = cond (eqb n 14) (upTo 11 neg size) (cond (eqb n 23) (upTo 6 neg size) true)
 
+-- a default fits every kind; an integer its range too
 abbrev pub isKind : GlobalKind → ℕ → Value → Bool
 isKind String n Default = true
 isKind String n (Whole neg size) = false

@@ -1,6 +1,6 @@
 -- The values of a record. Its text t is columns 1 to w of its lines, joined: position p stands on line p / w, so what "stands on one line" is read
 -- in the rest of the line of its first character. c parts the values, d ends the record.
-use mathlib.Core.Bool.{Bool, true, false, cond, _&&_}
+use mathlib.Core.Bool.{true, false, cond}
 use mathlib.Core.List.{List, [], _∷_}
 use Prim.Native.Nat.{ℕ, zero, suc, _+_, _-_, _%_}
 use lib.ListN.{length, getD, take, drop}
@@ -10,7 +10,6 @@ use Rattle.columns.specs.declared.Fault.the-variants.{Spelling, Limit}
 use Rattle.columns.specs.Trim.{trimOnto, trimEnd}
 use Rattle.values.specs.declared.Value.{Value}
 use Rattle.values.specs.declared.Value.the-variants.{Default, Whole, Real, Text}
-use Rattle.values.specs.declared.Token.{Token}
 use Rattle.values.specs.declared.Number.{Number}
 use Rattle.values.specs.declared.Number.the-variants.{Whole as WholeNumber, Real as RealNumber, Beyond, Bad}
 use Rattle.values.specs.declared.Head.{Head}
@@ -47,6 +46,7 @@ abbrev pub beyond : ℕ → Next → Got
 beyond s (Delimiter at last) = Refused Limit s at
 beyond s (Other at) = Refused Spelling s at
 
+-- a number that starts at s and ends at end, and what stands behind it
 abbrev pub plain : ℕ → ℕ → Next → Number → Got
 plain s end n (WholeNumber neg size) = found (Whole neg size) s n
 plain s end n (RealNumber neg m eneg e double) = found (Real neg m eneg e double) s n
@@ -76,6 +76,7 @@ pub data Values : Type 0 where
   values : List Item → ℕ → Values
   wrong : Fault → (start at : ℕ) → Values
 
+-- one value before the others
 abbrev pub more : Item → Values → Values
 more v (values vs end) = values (v ∷ vs) end
 more v (wrong n s at) = wrong n s at
@@ -108,11 +109,12 @@ kept vs = length (trimmed vs)
 
 -- ---- where the values stand
 
--- where a value starts (a default where its delimiter stands), and the position behind its delimiter
+-- where a value starts: a default where its delimiter stands
 abbrev pub startOf : Got → ℕ
 startOf (Found v s next last) = s
 startOf (Refused n s at) = s
 
+-- the position behind its delimiter
 abbrev pub behind : Got → ℕ
 behind (Found v s next last) = next
 behind (Refused n s at) = at

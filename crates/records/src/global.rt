@@ -4,7 +4,7 @@ use crate::Opening;
 use crate::reading;
 use values::Value;
 ghost use mathlib.Core.Path.{_≡_};
-ghost use Prim.Native.Nat.{ℕ, _+_, _*_, _≤_};
+ghost use Prim.Native.Nat.{_+_, _*_, _≤_};
 ghost use lib.ListN.{drop};
 ghost use Rattle.columns.specs.Columns.{textOf};
 ghost use Rattle.records.specs.Record.{blanks};

@@ -1,10 +1,14 @@
 // The values of a G or P record, one after the other, where they stand in the file; and the canonical flow of values into lines.
 // `reading` reads the next value of a record, `global` the Global opening and the kinds of its fields, `flow` writes values into lines of a file.
+pub mod flow;
 pub mod global;
 pub mod reading;
 
 use columns::Fault;
 use values::Value;
+
+// A line's bytes with its LF.
+const LINE: usize = 81;
 
 // What stands behind the blanks: a delimiter, and whether it ends the record, or something else.
 pub enum Next {

@@ -1,6 +1,7 @@
 // The values of a record, read where they stand in the file: the first w columns of so many lines, the first of them at base.
 use crate::Check;
 use crate::Got;
+use crate::LINE;
 use crate::Next;
 use columns::Fault;
 use values::Head;
@@ -9,16 +10,13 @@ use values::Token;
 use values::Value;
 use values::numbers;
 ghost use mathlib.Core.Path.{_≡_};
-ghost use Prim.Native.Nat.{ℕ, _+_, _-_, _*_, _%_, _≤_, _<_};
-ghost use lib.ListN.{length, getD, take, drop};
+ghost use Prim.Native.Nat.{_+_, _-_, _*_, _%_, _≤_, _<_};
+ghost use lib.ListN.{getD, take, drop};
 ghost use Rattle.columns.specs.Columns.{textOf};
 ghost use Rattle.values.specs.Head.{headOf};
 ghost use Rattle.values.specs.Reading.{Within};
 ghost use Rattle.records.specs.Record.{blanks, mark, nextAt, found, beyond, plain, headed, byNext, valueAt, valuesAt};
 ghost use Rattle.records.specs.Reading.{Stands, place, Sane, keptAfter, checked, SaneCheck};
-
-// A line's bytes with its LF.
-const LINE: usize = 81;
 
 // The character at position p of the text; 0 past its end.
 pub fn char_at(file: &[u8], base: usize, w: usize, lines: usize, p: usize) -> u8
@@ -197,8 +195,8 @@ fn count_at(
             at: lines * w,
         };
     }
-    let n = next_at(file, base, w, lines, c, d, end);
-    found_of(Value::Text { start: at, count }, s, n)
+    let behind = next_at(file, base, w, lines, c, d, end);
+    found_of(Value::Text { start: at, count }, s, behind)
 }
 
 // The value that starts at s.

@@ -71,6 +71,7 @@ abbrev expected : Case → Told
 expected (value t x) = x
 expected (status t x) = x
 
+-- each case is as the paper has it
 pub cases : map computed table ≡ map expected table
 unfolding digitsOf fieldOf lastDigits dec power powerAt numberOf headOf spelled nextAt valueAt valuesFrom valuesAt statusOk
 cases = refl

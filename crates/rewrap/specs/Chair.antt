@@ -25,7 +25,8 @@ use Rattle.directory.specs.Lines.{slots, slotIn, numberIn, numbersFrom, entryAt
 use Rattle.directory.specs.Reading.{slotAt, after, slotsFrom, firstLine, secondLine}
 use Rattle.directory.specs.Rules.{statusOk, rangesOk, entryRules, referenceRule}
 use Rattle.cards.specs.Cards.{linesFrom, linesOf as cards-linesOf, lineOk, seven, placeOf, numberedOf, stepOf, pass, tells, totals, closes, closed as cards-closed, lengthOk, cardsOf}
-use Rattle.cards.specs.Written.{zeros, lineOf as cards-lineOf, section, totalsOf, fileLines, joined, fileOf}
+use Rattle.cards.specs.Written.{zeros, lineOf as cards-lineOf, section, totalsOf, fileLines, fileOf}
+use Rattle.columns.specs.Columns.{joined}
 use Rattle.owners.specs.InFile.{numberOr0, sizeOr0, sizeAt, nameOf, ownerIn, fromIn, countIn, ownersIn}
 use Rattle.owners.specs.Owners.{nameIs, entryOwns, inRange as owners-inRange, lineOwned, ownersOf, startOf as owners-startOf}
 use Rattle.layouts.specs.Entities.{run as layouts-run, verdictFrom, verdict, entityCheck, marksFrom, marks}
@@ -49,6 +50,7 @@ line l = l ++ (10 ∷ [])
 abbrev field : List ℕ → List ℕ
 field l = 9 ∷ l
 
+-- the file in canonical form
 abbrev pub file : List ℕ
 file =
     line (codes "SET PIECE                                                               S0000001")
@@ -58,6 +60,7 @@ file =
     ++ line (codes "116,15.E-1,0.,2.;                                                      1P0000001")
     ++ line (codes "S0000001G0000001D0000002P0000001                                        T0000001")
 
+-- the sheet that igsheet prints
 abbrev pub sheet : List ℕ
 sheet =
     line (codes "S" ++ field (codes "SET PIECE"))
@@ -69,13 +72,16 @@ sheet =
     ++ line (codes "V" ++ field (codes "2."))
     ++ line (codes "Z" ++ field (codes "1"))
 
+-- it has 107 bytes
 pub sheet-length : length sheet ≡ 107
 sheet-length = refl
 
+-- the file is read to the sheet
 pub read-chair : reads mostList file ≡ accepted sheet
 unfolding columns printable blank sameBytes lineAt columns-textOf lastDigits dec signedDec toRight toLeft firstNot upFrom digitsOf fieldOf isNumber signedOf eachAt headOf power powerAt numberOf strictOf spelled firm gap piece flow lineCount cut inLines mayDelimit opened recordDelimiter openingOf kindOf records-inRange globalFits nextAt valueAt valuesFrom valuesAt positionOf startAt classOf classAt ruleOf wantedOf restFit directory-entryOf slots slotIn numberIn numbersFrom entryAt labelAt entryLines slotAt after slotsFrom firstLine secondLine statusOk rangesOk entryRules referenceRule linesFrom cards-linesOf lineOk seven placeOf numberedOf stepOf pass tells totals closes cards-closed lengthOk cardsOf zeros cards-lineOf section totalsOf fileLines joined fileOf numberOr0 sizeOr0 sizeAt nameOf ownerIn fromIn countIn ownersIn nameIs entryOwns owners-inRange lineOwned ownersOf owners-startOf layouts-run verdictFrom verdict entityCheck marksFrom marks known paper table layouts-startOf placeAt bitOf settle onward takes start step layouts-finish end named sheets-run isLabel numOf numbersOf sheets-entryOf labelOf spell spells entryLine sheets-closed startStep globalStep entryStep valueStep lastStep noneStep sheets-finish goLines verdictOf readSheet digitAfter sizeFrom minusOf signedPlain statusFrom statusPlain sheets-startLines sheets-globalLines valueLines rowLines sheets-linesOf sheets-lineOf sheets-textOf sheetText isMark isStart startLine globalLine lastLine byMark saidBy into piecesOf lastPiece saidByAll linesIn partsOf sheets-sheetOf model-startLines filled globalText model-globalLines parameterText blockOf directoryLines parameterLines lineTotal canonical marked rowOf model-sheetOf modelOf startsIn noStray given globalIn entryIn entriesIn referencesIn entityIn lastPass before readModel reads sheetRules writeModel writes
 read-chair = refl
 
+-- the sheet is written to the file
 pub written-chair : writes mostList sheet ≡ accepted file
 unfolding columns printable blank sameBytes lineAt columns-textOf lastDigits dec signedDec toRight toLeft firstNot upFrom digitsOf fieldOf isNumber signedOf eachAt headOf power powerAt numberOf strictOf spelled firm gap piece flow lineCount cut inLines mayDelimit opened recordDelimiter openingOf kindOf records-inRange globalFits nextAt valueAt valuesFrom valuesAt positionOf startAt classOf classAt ruleOf wantedOf restFit directory-entryOf slots slotIn numberIn numbersFrom entryAt labelAt entryLines slotAt after slotsFrom firstLine secondLine statusOk rangesOk entryRules referenceRule linesFrom cards-linesOf lineOk seven placeOf numberedOf stepOf pass tells totals closes cards-closed lengthOk cardsOf zeros cards-lineOf section totalsOf fileLines joined fileOf numberOr0 sizeOr0 sizeAt nameOf ownerIn fromIn countIn ownersIn nameIs entryOwns owners-inRange lineOwned ownersOf owners-startOf layouts-run verdictFrom verdict entityCheck marksFrom marks known paper table layouts-startOf placeAt bitOf settle onward takes start step layouts-finish end named sheets-run isLabel numOf numbersOf sheets-entryOf labelOf spell spells entryLine sheets-closed startStep globalStep entryStep valueStep lastStep noneStep sheets-finish goLines verdictOf readSheet digitAfter sizeFrom minusOf signedPlain statusFrom statusPlain sheets-startLines sheets-globalLines valueLines rowLines sheets-linesOf sheets-lineOf sheets-textOf sheetText isMark isStart startLine globalLine lastLine byMark saidBy into piecesOf lastPiece saidByAll linesIn partsOf sheets-sheetOf model-startLines filled globalText model-globalLines parameterText blockOf directoryLines parameterLines lineTotal canonical marked rowOf model-sheetOf modelOf startsIn noStray given globalIn entryIn entriesIn referencesIn entityIn lastPass before readModel reads sheetRules writeModel writes
 written-chair = refl

@@ -6,12 +6,13 @@ use mathlib.Core.Logic.{_⊎_}
 use Prim.Native.Nat.{ℕ, _+_, _*_, _≤_, _<_}
 use lib.ListN.{length}
 use Rattle.columns.specs.declared.Fault.{Fault}
-use Rattle.columns.specs.declared.Fault.the-variants.{Layout, LayoutReference, TooLong}
+use Rattle.columns.specs.declared.Fault.the-variants.{TooLong}
 use Rattle.columns.specs.Refusal.{Outcome, accepted, refused, _then_}
 use Rattle.values.specs.Value.{Item}
 use Rattle.cards.specs.Cards.{mostLines, entries}
 use Rattle.directory.specs.declared.Fields.{Fields}
 use Rattle.layouts.specs.Known.{mostList, known, Inside}
+use Rattle.layouts.specs.Larger.{Late}
 use Rattle.sheets.specs.Sheet.{Row, Sheet, row, sheetText, linesIn, sheetOf as sheetOfLines}
 use Rattle.rewrap.specs.declared.Record.{Record}
 use Rattle.model.specs.Model.{Carried, Model, typeOf, valueIn, sheetOf, modelOf}
@@ -29,9 +30,11 @@ Iff A B = (A → B) × (B → A)
 
 -- ---- demand 1: every input has an answer (the definitions are functions), and a refusal changes nothing that was lent
 
+-- of an output buffer
 abbrev pub RefusalKeepsBuffer : Type 0
 RefusalKeepsBuffer = (o : Outcome (List ℕ)) (out : List ℕ) (n : Fault) (place : ℕ) → o ≡ refused n place → leftIn out o ≡ out
 
+-- of a lent table
 abbrev pub RefusalKeepsTable : Type 0
 RefusalKeepsTable = (o : Outcome (List Record)) (table : List Record) (n : Fault) (place : ℕ) → o ≡ refused n place → slotsLeft table o ≡ table
 
@@ -75,10 +78,12 @@ pub data RowsAlike (small large : ℕ) : Row → Row → Type 0 where
       → known large (typeOf x) (x .form .size) ≡ true → map valueIn vs ≡ map valueIn ws
       → RowsAlike small large (row false x label vs) (row true x label ws)
 
+-- all entries of the two sheets, in order
 pub data AllAlike (small large : ℕ) : List Row → List Row → Type 0 where
   none : AllAlike small large [] []
   more : {r q : Row} {rs qs : List Row} → RowsAlike small large r q → AllAlike small large rs qs → AllAlike small large (r ∷ rs) (q ∷ qs)
 
+-- the two sheets
 pub record SheetsAlike (small large : ℕ) (s t : Sheet) : Type 0 where
   pub starts : s .starts ≡ t .starts
   pub globals : s .globals ≡ t .globals
@@ -95,10 +100,6 @@ abbrev pub SameBytes : Type 0
 SameBytes = (small large : ℕ) → OneInside small large → (f : List ℕ) (m : Model) → readModel large f ≡ accepted m
     → ((lineTotal m ≤ mostLines) × ((writes small (sheetText (sheetOf small m)) ≡ accepted (canonical m)) × (writes large (sheetText (sheetOf large m)) ≡ accepted (canonical m))))
     ⊎ ((mostLines < lineTotal m) × ((writes small (sheetText (sheetOf small m)) ≡ refused TooLong 0) × (writes large (sheetText (sheetOf large m)) ≡ refused TooLong 0)))
-
--- 14 or 15
-abbrev pub Late : Fault → Type 0
-Late n = (n ≡ Layout) ⊎ (n ≡ LayoutReference)
 
 -- d. "if the smaller refuses, the larger gives the same refusal, or 14 or 15 at an earlier directory entry, the last pass over entities counting as
 -- later than all before it": where the smaller refuses before the last pass the larger refuses alike

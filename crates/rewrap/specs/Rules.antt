@@ -66,11 +66,9 @@ pub record EntryMeets (list : ℕ) (f : List ℕ) (counts : Counts) (c d : ℕ) 
   -- a known entity keeps to its layout
   pub layout : known list (typeOf (e .fields)) (e .fields .form .size) ≡ true → verdict types (entityOf (e .fields) (trimmed values)) ≡ Good
 
+-- an entry's type
 abbrev pub entryType : EntryIs → ℕ
 entryType e = typeOf (e .fields)
-
-abbrev pub noEntryIs : Fields → EntryIs
-noEntryIs x = record { fields = x; pointer = 0; lines = 0 }
 
 -- a file meets the rules under a list
 pub record MeetsRules (list : ℕ) (f : List ℕ) : Type 0 where

@@ -3,14 +3,14 @@ use mathlib.Core.Path.{_≡_, refl}
 use mathlib.Core.Bool.{Bool, true, false, cond}
 use mathlib.Core.List.{List, [], _∷_, _++_, map}
 use Prim.Native.Nat.{ℕ, _+_}
-use Prim.Native.Char.{Char, code}
-use Prim.Native.String.{String, [] as []ˢ, _∷_ as _∷ˢ_}
+use Prim.Native.String.{String}
 use lib.ListN.{length, take, drop}
 use lib.Dec.{eqb}
 use Rattle.columns.specs.Refusal.{Outcome, accepted, refused, number}
 use Rattle.columns.specs.declared.Fault.{Fault}
 use Rattle.columns.specs.declared.Fault.the-variants.{Spelling, Limit}
 use Rattle.columns.specs.Decimal.{lastDigits, dec}
+use Rattle.columns.specs.Quoted.{codes}
 use Rattle.values.specs.declared.Number.{Number}
 use Rattle.values.specs.declared.Number.the-variants.{Whole, Real, Beyond, Bad}
 use Rattle.values.specs.declared.Head.{Head}
@@ -23,11 +23,6 @@ use Rattle.values.specs.Value.{Item, whole, real, text, spelled}
 pub data Answer : Type 0 where
   is : List ℕ → Answer
   gives : ℕ → Answer
-
--- a text's characters
-abbrev pub codes : String → List ℕ
-codes []ˢ = []
-codes (c ∷ˢ s) = code c ∷ codes s
 
 -- a number's spelling, or its refusal
 abbrev pub of : Number → Answer

@@ -1,3 +1,4 @@
+-- There is no field past the last; else its kind decides.
 use borrow.Author.Needs.{needs}
 use Rattle.records.proofs.Globals.{fields}
 use Rattle.records.proofs.global.global_fits.Statement.{statement}

@@ -1,3 +1,4 @@
+-- Two fields have a range.
 use borrow.Author.Needs.{needs}
 use Rattle.records.proofs.Globals.{fields}
 use Rattle.records.proofs.global.in_range.Statement.{statement}

@@ -1,3 +1,4 @@
+-- The table of kinds by the value's cases.
 use borrow.Author.Needs.{needs}
 use Rattle.records.proofs.Globals.{fields}
 use Rattle.records.proofs.global.is_kind.Statement.{statement}

@@ -1,3 +1,4 @@
+-- Each field that holds a string or a real is one of the table.
 use mathlib.Core.Path.{sym, ap}
 use Rattle.records.specs.Global.{kindOf}
 use borrow.Author.Needs.{needs}

@@ -1,3 +1,4 @@
+-- None of the six that numbers and counts are spelt with, no blank and no digit.
 use mathlib.Core.Path.{sym, ap}
 use Rattle.records.specs.Global.{mayDelimit}
 use borrow.Author.Needs.{needs}

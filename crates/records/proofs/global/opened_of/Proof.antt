@@ -1,3 +1,4 @@
+-- Both may delimit, and they differ.
 use borrow.Author.Needs.{needs}
 use Rattle.records.proofs.Globals.{marks}
 use Rattle.records.proofs.global.opened_of.Statement.{statement}

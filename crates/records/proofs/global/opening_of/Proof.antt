@@ -1,3 +1,4 @@
+-- The opening's first half, test by test; what it names is sane because the definition's is.
 use borrow.Author.Needs.{needs}
 use Rattle.records.proofs.Globals.{openings}
 use Rattle.records.proofs.global.opening_of.Statement.{statement}

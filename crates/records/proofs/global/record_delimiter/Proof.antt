@@ -1,3 +1,4 @@
+-- The opening's second half, test by test.
 use borrow.Author.Needs.{needs}
 use Rattle.records.proofs.Globals.{openings}
 use Rattle.records.proofs.global.record_delimiter.Statement.{statement}

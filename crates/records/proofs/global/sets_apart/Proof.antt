@@ -1,3 +1,4 @@
+-- A byte from 33 on that is no digit.
 use borrow.Author.Needs.{needs}
 use Rattle.records.proofs.Globals.{marks}
 use Rattle.records.proofs.global.sets_apart.Statement.{statement}

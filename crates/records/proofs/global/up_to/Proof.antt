@@ -1,3 +1,4 @@
+-- A sign and two tests.
 use borrow.Author.Needs.{needs}
 use Rattle.records.proofs.Globals.{fields}
 use Rattle.records.proofs.global.up_to.Statement.{statement}

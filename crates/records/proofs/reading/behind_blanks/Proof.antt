@@ -1,3 +1,4 @@
+-- The blanks from the start are those passed and those from here on.
 use Prim.Native.Nat.{_+_, _-_, _*_, _≤_}
 use mathlib.Core.Path.{_≡_}
 use lib.ListN.{drop}

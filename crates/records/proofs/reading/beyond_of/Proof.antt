@@ -1,3 +1,4 @@
+-- The two cases of what stands behind a number beyond its limits.
 use borrow.Author.Needs.{needs}
 use Rattle.records.proofs.Laws.{laws}
 use Rattle.records.proofs.reading.beyond_of.Statement.{statement}

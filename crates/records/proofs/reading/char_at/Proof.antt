@@ -1,3 +1,4 @@
+-- A position stands at a computed place of the file; past the text's end there is nothing.
 use borrow.Author.Needs.{needs}
 use Rattle.records.proofs.Laws.{laws}
 use Rattle.records.proofs.reading.char_at.Statement.{statement}

@@ -1,3 +1,4 @@
+-- A string that runs into the text's end is refused; else what stands behind it decides.
 use borrow.Author.Needs.{needs}
 use Rattle.records.proofs.Laws.{ends-laws}
 use Rattle.records.proofs.reading.count_at.Statement.{statement}

@@ -1,3 +1,4 @@
+-- A head is a string's count or a number.
 use borrow.Author.Needs.{needs}
 use Rattle.records.proofs.Laws.{ends-laws}
 use Rattle.records.proofs.reading.given_at.Statement.{statement}

@@ -1,3 +1,4 @@
+-- The rest of a line is a part of the file.
 use borrow.Author.Needs.{needs}
 use Rattle.records.proofs.Laws.{laws}
 use Rattle.records.proofs.reading.head_at.Statement.{statement}

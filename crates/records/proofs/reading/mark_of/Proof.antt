@@ -1,3 +1,4 @@
+-- The three cases of a mark.
 use borrow.Author.Needs.{needs}
 use Rattle.records.proofs.Laws.{laws}
 use Rattle.records.proofs.reading.mark_of.Statement.{statement}

@@ -1,3 +1,4 @@
+-- The mark of what stands behind the blanks.
 use borrow.Author.Needs.{needs}
 use Rattle.records.proofs.Laws.{laws}
 use Rattle.records.proofs.reading.next_at.Statement.{statement}

@@ -1,3 +1,4 @@
+-- A number, and what stands behind it.
 use borrow.Author.Needs.{needs}
 use Rattle.records.proofs.Laws.{ends-laws}
 use Rattle.records.proofs.reading.plain_at.Statement.{statement}

@@ -1,3 +1,4 @@
+-- The cases of a number.
 use borrow.Author.Needs.{needs}
 use Rattle.records.proofs.Laws.{laws}
 use Rattle.records.proofs.reading.plain_of.Statement.{statement}
