@@ -14,6 +14,7 @@ unfoldable pub printable : List ℕ → Bool
 printable [] = true
 printable (b ∷ bs) = leb 32 b && (leb b 126 && printable bs)
 
+-- blanks alone
 unfoldable pub blank : List ℕ → Bool
 blank [] = true
 blank (b ∷ bs) = eqb b 32 && blank bs
@@ -24,6 +25,11 @@ sameBytes [] [] = true
 sameBytes [] (b ∷ ys) = false
 sameBytes (a ∷ xs) [] = false
 sameBytes (a ∷ xs) (b ∷ ys) = eqb a b && sameBytes xs ys
+
+-- lines, one behind the other
+unfoldable pub joined : List (List ℕ) → List ℕ
+joined [] = []
+joined (l ∷ ls) = l ++ joined ls
 
 -- a line's bytes with its LF
 abbrev pub lineBytes : ℕ

@@ -19,6 +19,7 @@ dec n = lastDigits (suc n) n
 abbrev pub minus : Bool → List ℕ
 minus neg = cond neg (45 ∷ []) []
 
+-- a number with its sign
 unfoldable pub signedDec : Signed → List ℕ
 signedDec x = minus (x .neg) ++ dec (x .size)
 
@@ -30,6 +31,7 @@ toRight b width t = replicate (width - length t) b ++ t
 abbrev pub padded : ℕ → List ℕ → List ℕ
 padded width t = toRight 32 width t
 
+-- a number with zeros in front
 abbrev pub zeroFilled : ℕ → ℕ → List ℕ
 zeroFilled width n = toRight 48 width (dec n)
 

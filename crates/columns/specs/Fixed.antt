@@ -15,6 +15,7 @@ unfoldable pub digitsOf : ℕ → List ℕ → Field
 digitsOf n [] = Number n
 digitsOf n (b ∷ bs) = cond (leb 48 b && leb b 57) (digitsOf (n * 10 + (b - 48)) bs) Bad
 
+-- blanks, then digits
 unfoldable pub fieldOf : List ℕ → Field
 fieldOf [] = Number 0
 fieldOf (b ∷ bs) = cond (eqb b 32) (fieldOf bs) (digitsOf 0 (b ∷ bs))
@@ -32,6 +33,7 @@ signed neg n = record { neg = cond (eqb n 0) false neg; size = n }
 abbrev pub NormalSign : Signed → Type 0
 NormalSign x = x .size ≡ 0 → x .neg ≡ false
 
+-- a number with the sign before it
 abbrev pub withSign : Bool → Field → SignedField
 withSign neg (Number n) = SignedNumber (signed neg n)
 withSign neg Bad = SignedBad

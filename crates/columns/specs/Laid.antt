@@ -7,9 +7,11 @@ use mathlib.Core.List.{List, [], _∷_, _++_, append-assoc}
 use lib.ListN.{length, take, drop, set, length-append}
 use lib.Seq.{sets, sets-eq, length-sets, set-out}
 
+-- bs laid over o from at on
 unfoldable pub laid : List ℕ → ℕ → List ℕ → List ℕ
 laid o at bs = sets o at bs
 
+-- the list's length stays
 pub length-laid : (o : List ℕ) (at : ℕ) (bs : List ℕ) → length (laid o at bs) ≡ length o
 unfolding laid
 length-laid o at bs = length-sets o at bs
@@ -24,6 +26,7 @@ pub laid-out : (o : List ℕ) (at b : ℕ) → length o ≤ at → laid o at (b 
 unfolding laid
 laid-out o at b h = set-out o at b h
 
+-- nothing is laid
 pub laid-nil : (o : List ℕ) (at : ℕ) → laid o at [] ≡ o
 unfolding laid
 laid-nil o at = refl

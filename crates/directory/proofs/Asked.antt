@@ -2,17 +2,17 @@
 use mathlib.Core.Path.{_≡_, refl, sym, ap, _∙_}
 use mathlib.Core.Bool.{Bool, true, false, cond, not, _&&_}
 use mathlib.Core.List.{List, [], _∷_, _++_}
-use Prim.Native.Nat.{ℕ, zero, suc, _+_, _≤_, _<_}
+use Prim.Native.Nat.{ℕ, _+_, _≤_, _<_}
 use native.Mathlib.Numerals.{add-one}
 use native.Mathlib.Omega.{arith}
-use lib.ListN.{length, getD, drop, drop-of-length-le}
+use lib.ListN.{drop-of-length-le}
 use lib.Seq.{drop-cons}
 use lib.Dec.{eqb}
-use borrow.Author.Tests.{eq-eqb, ne-eqb}
+use borrow.Author.Tests.{eqb-true}
 use Rattle.columns.specs.declared.Signed.{Signed}
 use Rattle.columns.specs.declared.DirectoryNumber.{DirectoryNumber}
-use Rattle.columns.specs.Fixed.{signed}
-use Rattle.columns.proofs.Tests.{cond-same, and-true, and-assoc}
+use Rattle.columns.specs.Fixed.{NormalSign}
+use Rattle.columns.proofs.Tests.{cond-same, and-true, and-assoc, true-false}
 use Rattle.references.specs.References.{any, entry124, entry314, classAt, fits}
 use Rattle.directory.specs.declared.Fields.{Fields}
 use Rattle.directory.specs.declared.Attribute.{Attribute}
@@ -40,6 +40,15 @@ number-minus a d e = rw e (pick (eqb (d .0) 0))
     pick : (b : Bool) → _≡_ {A = Signed} (record { neg = not b; size = d .0 }) (record { neg = cond b false true; size = d .0 })
     pick true = refl
     pick false = refl
+
+-- a number that is no nought with a sign comes back
+pub attribute-number : (x : Signed) → NormalSign x → numberOf (attributeOf x) ≡ x
+attribute-number x h = pick (x .neg) (eqb (x .size) 0) refl refl
+  where
+    pick : (b z : Bool) → x .neg ≡ b → eqb (x .size) 0 ≡ z → numberOf (cond b (Reference (named (x .size))) (Number (x .size))) ≡ record { neg = b; size = x .size }
+    pick true true e f = absurd (true-false e (h (eqb-true (x .size) 0 f)))
+    pick true false e f = rw f
+    pick false z e f = rw (cond-same (eqb (x .size) 0) false)
 
 pub entry-is : (x : Fields) (font level colour : Attribute) → font ≡ attributeOf (x .font) → level ≡ attributeOf (x .level) → colour ≡ attributeOf (x .colour)
     → record {

@@ -1,22 +1,20 @@
 -- The two D lines as they are written, slot by slot.
 use mathlib.Core.Path.{_≡_, refl, sym, ap, _∙_}
-use mathlib.Core.Bool.{Bool, true, false, cond}
 use mathlib.Core.List.{List, [], _∷_, _++_, map}
-use Prim.Native.Nat.{ℕ, zero, suc, _+_, _-_, _*_, _≤_, _<_}
+use Prim.Native.Nat.{ℕ, suc, _+_, _-_, _≤_, _<_}
 use native.Mathlib.Nat.{add-zero}
 use native.Mathlib.Numerals.{add-one}
 use native.Mathlib.Omega.{arith}
-use lib.ListN.{length, getD, take, drop, replicate, List·getD-map}
+use lib.ListN.{length, getD, replicate, List·getD-map}
 use lib.Seq.{drop-cons}
-use lib.Dec.{ltb, eqb}
-use borrow.Author.Tests.{lt-ltb, le-ltb, eq-eqb, ne-eqb}
+use borrow.Author.Tests.{lt-ltb, le-ltb, ne-eqb}
 use Rattle.columns.specs.declared.Signed.{Signed}
 use Rattle.columns.specs.Decimal.{dec, signedDec, toRight}
 use Rattle.columns.specs.Laid.{Wrote, Owes}
 use Rattle.columns.proofs.Writes.{owes-all, owes-less, owes-none, owes-same}
 use Rattle.directory.specs.declared.Fields.{Fields}
 use Rattle.directory.specs.Fields.{nought, inOrder}
-use Rattle.directory.specs.Lines.{Slot, number, again, pointer, lines, reserved, label, slots, slotsALine, written, slotOf, joined, entryLines}
+use Rattle.directory.specs.Lines.{Slot, number, lines, slots, written, entryLines}
 use Rattle.directory.specs.Reading.{slotOfCode, slotFrom, slotsFrom, firstLine, secondLine}
 
 -- ---- one slot

@@ -1,26 +1,25 @@
 -- Ranges of an entry's numbers: one that is out of its range fails the whole, and so does one that is too wide.
 use mathlib.Core.Path.{_≡_, refl, sym, ap, _∙_}
-use mathlib.Core.Bool.{Bool, true, false, cond, not, _&&_, _||_}
-use mathlib.Core.List.{List, [], _∷_}
-use Prim.Native.Nat.{ℕ, zero, suc, _+_, _-_, _/_, _%_, _^_, _≤_, _<_}
+use mathlib.Core.Bool.{Bool, true, false, cond, not, _&&_}
+use mathlib.Core.List.{List}
+use Prim.Native.Nat.{ℕ, suc, _+_, _/_, _^_, _≤_, _<_}
 use native.Mathlib.Numerals.{add-one}
 use native.Mathlib.Omega.{arith}
 use native.Mathlib.Decide.{decLt}
 use lib.ListN.{length, getD, drop, drop-of-length-le}
 use lib.Seq.{drop-cons}
 use lib.Dec.{leb, ltb, eqb}
-use borrow.Author.Tests.{le-leb, lt-leb, lt-ltb, le-ltb, eq-eqb, ne-eqb, not-true, not-false}
+use borrow.Author.Tests.{le-leb, lt-leb, lt-ltb, le-ltb, ne-eqb, not-true, not-false}
 use Rattle.columns.specs.declared.Fault.the-variants.{Directory, Macro}
 use Rattle.columns.specs.declared.Signed.{Signed}
 use Rattle.columns.specs.Decimal.{dec, minus, signedDec}
-use Rattle.columns.specs.Refusal.{Outcome, accepted, refused, _then_, demand}
+use Rattle.columns.specs.Refusal.{_then_, demand}
 use Rattle.columns.proofs.Tests.{and-false}
 use Rattle.columns.proofs.Decimals.{dec-below, length-dec-below, length-signed}
 use Rattle.directory.specs.declared.Fields.{Fields}
-use Rattle.directory.specs.declared.Rule.{Rule}
 use Rattle.directory.specs.declared.Rule.the-variants.{Good, Refused}
 use Rattle.directory.specs.Fields.{nought, inOrder}
-use Rattle.directory.specs.Rules.{orMore, orLess, upTo, signsOk, limitsOk, pairOk, statusOk, narrow, rangesOk, entryRules}
+use Rattle.directory.specs.Rules.{orLess, upTo, signsOk, limitsOk, pairOk, statusOk, narrow, rangesOk, entryRules}
 use Rattle.directory.specs.Asking.{outcomeOf, ruleOf}
 
 -- ---- one number

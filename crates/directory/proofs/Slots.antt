@@ -1,13 +1,13 @@
 -- Where each slot of an entry stands, by computation from the one list of slots.
 use mathlib.Core.Path.{_≡_, refl, sym, ap, _∙_}
-use mathlib.Core.Bool.{Bool, true, false, cond, _&&_, _||_}
+use mathlib.Core.Bool.{Bool, true, false, _&&_}
 use mathlib.Core.List.{List, [], _∷_, map}
-use Prim.Native.Nat.{ℕ, zero, suc, _+_, _*_, _/_, _%_, _^_, _≤_, _<_}
+use Prim.Native.Nat.{ℕ, zero, suc, _+_, _*_, _/_, _%_, _<_}
 use native.Mathlib.Nat.{zero-add}
 use native.Mathlib.Omega.{arith}
-use lib.ListN.{length, getD, List·getD-map}
+use lib.ListN.{getD, List·getD-map}
 use lib.Dec.{ltb, eqb}
-use borrow.Author.Tests.{eq-eqb, ne-eqb, ltb-true}
+use borrow.Author.Tests.{ne-eqb, ltb-true}
 use Rattle.columns.specs.declared.Field.{Field}
 use Rattle.columns.specs.declared.Field.the-variants.{Number, Bad}
 use Rattle.columns.specs.declared.SignedField.{SignedField}
@@ -17,9 +17,9 @@ use Rattle.columns.specs.First.{upFrom}
 use Rattle.columns.specs.Fixed.{fieldOf, signedOf, withSign}
 use Rattle.columns.proofs.Tests.{cond-same, both-left, both-right}
 use Rattle.columns.proofs.Columns.{line-columns}
-use Rattle.columns.proofs.First.{getD-upFrom, length-upFrom}
+use Rattle.columns.proofs.First.{getD-upFrom}
 use Rattle.directory.specs.Fields.{typeAt, formAt, structureAt, fontAt, levelAt, viewAt, matrixAt, displayAt, statusAt, weightAt, colourAt, subscriptAt, fieldCount}
-use Rattle.directory.specs.Lines.{Slot, number, again, pointer, lines, reserved, label, slots, seek, slotsALine, slotColumns, slotIn, unsigned, numberIn, sizeOf, labelAt}
+use Rattle.directory.specs.Lines.{Slot, number, again, pointer, lines, label, slots, seek, slotsALine, slotColumns, slotIn, unsigned, numberIn, labelAt}
 use Rattle.directory.specs.Reading.{slotAt, startOf}
 
 -- ---- the columns of each slot
@@ -143,9 +143,6 @@ all-below m z (x ∷ xs) h (suc n) = all-below m z xs (both-right (ltb x m) (all
 pub placed-low : (n : ℕ) → getD places n 0 < 18
 placed-low n = all-below 18 (omega arith) places refl n
 
-pub placed-fits : (n : ℕ) → getD places n 0 < 2 ^ 64
-placed-fits n = omega (arith, placed-low n)
-
 -- ---- what the functions that read a slot are asked
 
 pub plain-number : (f : Field) (n : ℕ) → f ≡ Number n → SignedNumber (record { neg = false; size = n }) ≡ withSign false f
@@ -180,7 +177,7 @@ subscript-unsigned n e = rw e
 pub others-signed : (n : ℕ) → (n ≡ 8 → ⊥) → (n ≡ 11 → ⊥) → unsigned n ≡ false
 others-signed n h l = simp (ne-eqb _ _ h, ne-eqb _ _ l)
 
-pub ruleset slotted = (placed, placed-low, placed-fits, plain-number, plain-bad, slot-signed, slot-plain, number-plain, number-signed, status-unsigned, subscript-unsigned, others-signed)
+pub ruleset slotted = (placed, placed-low, plain-number, plain-bad, slot-signed, slot-plain, number-plain, number-signed, status-unsigned, subscript-unsigned, others-signed)
 
 -- the label in the file
 pub label-columns : (f : List ℕ) (k : ℕ) → labelAt f k ≡ columns f (81 * (k + 1) + 56) (81 * (k + 1) + 64)

@@ -1,13 +1,13 @@
 -- An entry put together of its numbers, its type again, its parameter pointer and its line count.
 use mathlib.Core.Path.{_≡_, refl, sym, ap, _∙_}
-use mathlib.Core.Bool.{Bool, true, false, cond, not, _&&_}
+use mathlib.Core.Bool.{Bool, true, false, not}
 use mathlib.Core.List.{List, [], _∷_, _++_, append-nil}
-use Prim.Native.Nat.{ℕ, zero, suc, _+_, _-_, _*_, _≤_, _<_}
+use Prim.Native.Nat.{ℕ, suc, _+_, _-_, _≤_, _<_}
 use native.Mathlib.Numerals.{add-one}
 use native.Mathlib.Omega.{arith}
-use lib.ListN.{length, getD, take, set}
+use lib.ListN.{length, take, set}
 use lib.Seq.{take-suc-set, take-all}
-use lib.Dec.{leb, eqb}
+use lib.Dec.{leb}
 use borrow.Author.Tests.{eq-eqb, ne-eqb, not-true, not-false}
 use Rattle.columns.specs.declared.Signed.{Signed}
 use Rattle.columns.specs.declared.SignedField.{SignedField}
@@ -18,8 +18,8 @@ use Rattle.columns.proofs.Tests.{and-false}
 use Rattle.directory.specs.declared.Fields.{Fields}
 use Rattle.directory.specs.declared.EntryRead.{EntryRead}
 use Rattle.directory.specs.declared.EntryRead.the-variants.{Spelt, Wrong}
-use Rattle.directory.specs.Fields.{typeAt, fieldCount, fieldsOf}
-use Rattle.directory.specs.Lines.{Slot, number, again, pointer, lines, slots, seek, slotIn, numberIn, Numbers, numbers, misspelt, with, numbersFrom, positive, sizeOf, isSame, parameterLine, speltAs, spelt, entryAt}
+use Rattle.directory.specs.Fields.{typeAt, fieldsOf}
+use Rattle.directory.specs.Lines.{Slot, number, again, pointer, lines, slots, seek, slotIn, numberIn, Numbers, numbers, misspelt, with, numbersFrom, positive, sizeOf, isSame, parameterLine, speltAs, entryAt}
 use Rattle.directory.specs.Reading.{slotAt, after}
 use Rattle.directory.proofs.Slots.{in-at}
 

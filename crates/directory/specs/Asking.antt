@@ -24,11 +24,13 @@ abbrev pub outcomeOf : Rule → ℕ → Outcome (Unit {0})
 outcomeOf Good place = accepted tt
 outcomeOf (Refused fault) place = refused fault place
 
+-- 9, then 13
 unfoldable pub ruleOf : Fields → Rule
 ruleOf x = cond (rangesOk x) (cond (eqb (x .entity .size) 306) (Refused Macro) Good) (Refused Directory)
 
 -- ---- 10: each of the references, asked or not
 
+-- whether it asks, the number that it names and the class that it wants
 abbrev pub asking : Bool → ℕ → ℕ → Wanted
 asking asked number want = record { asked = asked; number = number; want = want }
 
@@ -45,11 +47,13 @@ ofAttribute (Reference d) want = asking true (d .0) want
 abbrev pub referenceCount : ℕ
 referenceCount = 7
 
+-- the seven, in the order of references
 abbrev pub wants : Entry → List Wanted
 wants e =
     ofNumber (e .structure) any ∷ ofAttribute (e .font) any ∷ ofAttribute (e .level) any ∷ ofNumber (e .view) any ∷ ofNumber (e .matrix) entry124
     ∷ ofNumber (e .display) any ∷ ofAttribute (e .colour) entry314 ∷ []
 
+-- one of them
 unfoldable pub wantedOf : Entry → ℕ → Wanted
 wantedOf e j = getD (wants e) j (asking false 0 any)
 
@@ -57,6 +61,7 @@ wantedOf e j = getD (wants e) j (asking false 0 any)
 abbrev pub asksOk : List ℕ → Wanted → Bool
 asksOk types w = cond (w .asked) (fits (w .want) (classAt types (w .number))) true
 
+-- all of them
 abbrev pub allAskOk : List ℕ → List Wanted → Bool
 allAskOk types [] = true
 allAskOk types (w ∷ ws) = asksOk types w && allAskOk types ws

@@ -1,5 +1,5 @@
 -- The numbers of an entry, and what they mean.
-use mathlib.Core.Bool.{Bool, true, false, cond}
+use mathlib.Core.Bool.{true, false, cond}
 use mathlib.Core.List.{List, [], _∷_}
 use Prim.Native.Nat.{ℕ}
 use lib.ListN.{getD}
@@ -13,39 +13,51 @@ use Rattle.directory.specs.declared.Entry.{Entry}
 
 -- ---- their order: that of the sheet's entry line, said once
 
+-- the type
 abbrev pub typeAt : ℕ
 typeAt = 0
 
+-- the form
 abbrev pub formAt : ℕ
 formAt = 1
 
+-- the structure
 abbrev pub structureAt : ℕ
 structureAt = 2
 
+-- the line font
 abbrev pub fontAt : ℕ
 fontAt = 3
 
+-- the level
 abbrev pub levelAt : ℕ
 levelAt = 4
 
+-- the view
 abbrev pub viewAt : ℕ
 viewAt = 5
 
+-- the matrix
 abbrev pub matrixAt : ℕ
 matrixAt = 6
 
+-- the label display
 abbrev pub displayAt : ℕ
 displayAt = 7
 
+-- the status
 abbrev pub statusAt : ℕ
 statusAt = 8
 
+-- the weight
 abbrev pub weightAt : ℕ
 weightAt = 9
 
+-- the colour
 abbrev pub colourAt : ℕ
 colourAt = 10
 
+-- the subscript
 abbrev pub subscriptAt : ℕ
 subscriptAt = 11
 
@@ -53,6 +65,7 @@ subscriptAt = 11
 abbrev pub fieldCount : ℕ
 fieldCount = 12
 
+-- 0
 abbrev pub nought : Signed
 nought = signed false 0
 
@@ -62,6 +75,7 @@ inOrder x =
     x .entity ∷ x .form ∷ x .structure ∷ x .font ∷ x .level ∷ x .view ∷ x .matrix ∷ x .display ∷ x .status ∷ x .weight ∷ x .colour
     ∷ x .subscript ∷ []
 
+-- and back
 abbrev pub fieldsOf : List Signed → Fields
 fieldsOf ns = record {
   entity = getD ns typeAt nought;
@@ -80,6 +94,7 @@ fieldsOf ns = record {
 
 -- ---- what they mean
 
+-- as the code has it
 abbrev pub named : ℕ → DirectoryNumber
 named n = record { 0 = n }
 

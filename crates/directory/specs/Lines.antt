@@ -1,17 +1,15 @@
 -- The two D lines of an entry: eight-column fields, nine to a line.
-use mathlib.Core.Path.{_≡_}
 use mathlib.Core.Bool.{Bool, true, false, cond, not, _&&_, _||_}
 use mathlib.Core.List.{List, [], _∷_, _++_, map}
-use Prim.Native.Nat.{ℕ, zero, suc, _+_, _-_, _*_, _/_, _%_}
-use lib.ListN.{length, getD, replicate, take, drop}
-use lib.Dec.{leb, ltb, eqb}
+use Prim.Native.Nat.{ℕ, zero, suc, _+_, _*_, _/_, _%_}
+use lib.ListN.{getD, replicate, take, drop}
+use lib.Dec.{leb, eqb}
 use Rattle.columns.specs.declared.Signed.{Signed}
 use Rattle.columns.specs.declared.SignedField.{SignedField}
 use Rattle.columns.specs.declared.SignedField.the-variants.{Number, Bad}
 use Rattle.columns.specs.declared.ParameterLine.{ParameterLine}
-use Rattle.columns.specs.First.{upFrom}
 use Rattle.columns.specs.Columns.{columns, lineAt}
-use Rattle.columns.specs.Fixed.{fieldOf, signedOf, withSign, signed}
+use Rattle.columns.specs.Fixed.{fieldOf, signedOf, withSign}
 use Rattle.columns.specs.Decimal.{dec, signedDec, padded, zeroFilled}
 use Rattle.directory.specs.declared.Fields.{Fields}
 use Rattle.directory.specs.declared.EntryRead.{EntryRead}
@@ -36,9 +34,11 @@ slots =
     number typeAt ∷ pointer ∷ number structureAt ∷ number fontAt ∷ number levelAt ∷ number viewAt ∷ number matrixAt ∷ number displayAt ∷ number statusAt
     ∷ again ∷ number weightAt ∷ number colourAt ∷ lines ∷ number formAt ∷ reserved ∷ reserved ∷ label ∷ number subscriptAt ∷ []
 
+-- nine fields fill the columns 1-72 of a line
 abbrev pub slotsALine : ℕ
 slotsALine = 9
 
+-- a field has eight columns
 abbrev pub slotColumns : ℕ
 slotColumns = 8
 
@@ -56,6 +56,7 @@ isSlot lines x = elim x [ number k ↦ false | again ↦ false | pointer ↦ fal
 isSlot reserved x = elim x [ number k ↦ false | again ↦ false | pointer ↦ false | lines ↦ false | reserved ↦ true | label ↦ false ]
 isSlot label x = elim x [ number k ↦ false | again ↦ false | pointer ↦ false | lines ↦ false | reserved ↦ false | label ↦ true ]
 
+-- which of them it is, from 0
 abbrev pub seek : Slot → List Slot → ℕ
 seek x [] = 0
 seek x (y ∷ ys) = cond (isSlot x y) 0 (suc (seek x ys))
@@ -73,6 +74,7 @@ slotIn f k x =
 abbrev pub unsigned : ℕ → Bool
 unsigned n = eqb n statusAt || eqb n subscriptAt
 
+-- number n of the entry
 unfoldable pub numberIn : List ℕ → ℕ → ℕ → SignedField
 numberIn f k n = cond (unsigned n) (withSign false (fieldOf (slotIn f k (number n)))) (signedOf (slotIn f k (number n)))
 
@@ -81,11 +83,13 @@ pub data Numbers : Type 0 where
   numbers : List Signed → Numbers
   misspelt : Numbers
 
+-- one number more in front
 abbrev pub with : SignedField → Numbers → Numbers
 with (Number n) (numbers ns) = numbers (n ∷ ns)
 with (Number n) misspelt = misspelt
 with Bad ns = misspelt
 
+-- so many numbers, from number n on
 unfoldable pub numbersFrom : List ℕ → ℕ → ℕ → ℕ → Numbers
 numbersFrom f k n zero = numbers []
 numbersFrom f k n (suc more) = with (numberIn f k n) (numbersFrom f k (n + 1) more)
@@ -95,6 +99,7 @@ abbrev pub positive : SignedField → Bool
 positive (Number n) = not (n .neg) && leb 1 (n .size)
 positive Bad = false
 
+-- the size of a field
 abbrev pub sizeOf : SignedField → ℕ
 sizeOf (Number n) = n .size
 sizeOf Bad = 0
@@ -104,6 +109,7 @@ abbrev pub isSame : Signed → SignedField → Bool
 isSame x (Number n) = eqb (x .size) (n .size) && cond (x .neg) (n .neg) (not (n .neg))
 isSame x Bad = false
 
+-- as the code has it
 abbrev pub parameterLine : ℕ → ParameterLine
 parameterLine n = record { 0 = n }
 
@@ -112,6 +118,7 @@ abbrev pub speltAs : Fields → SignedField → SignedField → SignedField → 
 speltAs x type² from count =
     cond (isSame (x .entity) type² && (positive from && positive count)) (Spelt x (parameterLine (sizeOf from)) (sizeOf count)) Wrong
 
+-- all of it, or a wrong field
 abbrev pub spelt : Numbers → SignedField → SignedField → SignedField → EntryRead
 spelt misspelt type² from count = Wrong
 spelt (numbers ns) type² from count = speltAs (fieldsOf ns) type² from count
@@ -126,9 +133,11 @@ labelAt f k = slotIn f k label
 
 -- ---- writing: numbers right-justified with blanks, status 8 digits, reserved columns blank
 
+-- number n of the entry
 abbrev pub written : ℕ → Signed → List ℕ
 written n x = cond (eqb n statusAt) (zeroFilled slotColumns (x .size)) (padded slotColumns (signedDec x))
 
+-- what stands in a field
 abbrev pub slotOf : Fields → ℕ → ℕ → List ℕ → Slot → List ℕ
 slotOf x from count name (number n) = written n (getD (inOrder x) n nought)
 slotOf x from count name again = written typeAt (x .entity)
@@ -137,6 +146,7 @@ slotOf x from count name lines = padded slotColumns (dec count)
 slotOf x from count name reserved = replicate slotColumns 32
 slotOf x from count name label = name
 
+-- fields, one behind the other
 abbrev pub joined : List (List ℕ) → List ℕ
 joined [] = []
 joined (l ∷ ls) = l ++ joined ls

@@ -1,13 +1,12 @@
--- What the code goes by besides its answers: where a slot stands, and how large what was read can be.
+-- What the code goes by besides its answers: where a slot stands, the two lines slot by slot, how large what was read can be, and what can be read back.
 use mathlib.Core.Path.{_≡_}
-use mathlib.Core.Bool.{Bool, true, false, cond}
+use mathlib.Core.Bool.{true, false, cond}
 use mathlib.Core.List.{List, [], _∷_, map}
 use Prim.Native.Nat.{ℕ, _+_, _*_, _/_, _%_, _≤_, _<_}
 use lib.ListN.{length, getD, replicate, take, drop}
 use lib.Dec.{ltb, eqb}
 use Rattle.columns.specs.declared.Signed.{Signed}
-use Rattle.columns.specs.declared.SignedField.{SignedField}
-use Rattle.columns.specs.declared.SignedField.the-variants.{Number, Bad}
+use Rattle.columns.specs.declared.SignedField.the-variants.{Number}
 use Rattle.columns.specs.declared.ParameterLine.{ParameterLine}
 use Rattle.columns.specs.Columns.{columns, lineBytes, lineAt}
 use Rattle.columns.specs.Fixed.{NormalSign}
@@ -15,8 +14,9 @@ use Rattle.columns.specs.Decimal.{dec, signedDec, padded}
 use Rattle.directory.specs.declared.Fields.{Fields}
 use Rattle.directory.specs.declared.EntryRead.{EntryRead}
 use Rattle.directory.specs.declared.EntryRead.the-variants.{Spelt, Wrong}
-use Rattle.directory.specs.Fields.{typeAt, fieldCount, nought}
-use Rattle.directory.specs.Lines.{Slot, number, again, pointer, lines, reserved, label, slots, slotsALine, slotColumns, Numbers, numbers, misspelt, with, written, slotOf, joined}
+use Rattle.directory.specs.Fields.{typeAt, fieldCount, nought, inOrder}
+use Rattle.directory.specs.Rules.{rangesOk}
+use Rattle.directory.specs.Lines.{Slot, number, again, pointer, lines, reserved, label, slots, slotsALine, slotColumns, Numbers, numbers, with, written, slotOf, joined}
 
 -- ---- where a slot stands
 
@@ -57,6 +57,7 @@ slotsFrom xs from count name j many = joined (map (slotFrom xs from count name) 
 unfoldable pub firstLine : Fields → ℕ → List ℕ
 firstLine x from = joined (map (slotOf x from 0 []) (take slotsALine slots))
 
+-- the columns of the second line
 unfoldable pub secondLine : Fields → ℕ → List ℕ → List ℕ
 secondLine x count name = joined (map (slotOf x 0 count name) (drop slotsALine slots))
 
@@ -89,6 +90,23 @@ pub record Within (x : Fields) (from : ParameterLine) (count : ℕ) : Type 0 whe
   pub countLow : 1 ≤ count
   pub countHigh : count ≤ 99999999
 
+-- the same of an entry, if it was read
 abbrev pub Small : EntryRead → Type 0
 Small (Spelt x from count) = Within x from count
 Small Wrong = Unit {0}
+
+-- none is a nought with a sign
+abbrev pub Normals : List Signed → Type 0
+Normals [] = Unit {0}
+Normals (x ∷ xs) = NormalSign x × Normals xs
+
+-- what can be written and read back: numbers in their ranges, a pointer, a line count and a label that fit their columns
+pub record Writable (x : Fields) (from count : ℕ) (name : List ℕ) : Type 0 where
+  pub ranges : rangesOk x ≡ true
+  pub normal : Normals (inOrder x)
+  pub statusPlain : x .status .neg ≡ false
+  pub fromLow : 1 ≤ from
+  pub fromHigh : from ≤ 99999999
+  pub countLow : 1 ≤ count
+  pub countHigh : count ≤ 99999999
+  pub label : length name ≡ 8

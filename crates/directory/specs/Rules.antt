@@ -1,5 +1,5 @@
 -- What rules 9, 13 and 10 ask of an entry, in a file and in a sheet.
-use mathlib.Core.Bool.{Bool, true, false, cond, not, _&&_, _||_}
+use mathlib.Core.Bool.{Bool, true, cond, not, _&&_, _||_}
 use mathlib.Core.List.{List, [], _∷_, _++_}
 use Prim.Native.Nat.{ℕ, _/_, _%_}
 use lib.ListN.{length}
@@ -19,13 +19,15 @@ use Rattle.directory.specs.Lines.{slotColumns}
 
 -- ---- 9: ranges
 
--- 0 or more; 0 or less; up to a number, or negated a reference
+-- 0 or more
 abbrev pub orMore : Signed → Bool
 orMore x = not (x .neg)
 
+-- 0 or less
 abbrev pub orLess : Signed → Bool
 orLess x = x .neg || eqb (x .size) 0
 
+-- up to a number, or negated a reference
 abbrev pub upTo : ℕ → Signed → Bool
 upTo most x = x .neg || leb (x .size) most
 
@@ -52,6 +54,7 @@ signsOk x =
 abbrev pub limitsOk : Fields → Bool
 limitsOk x = orLess (x .structure) && (upTo 5 (x .font) && upTo 8 (x .colour))
 
+-- all of them
 unfoldable pub rangesOk : Fields → Bool
 rangesOk x = signsOk x && (limitsOk x && (statusOk (x .status .size) && narrow (inOrder x)))
 
@@ -65,6 +68,7 @@ entryRules x place = demand (rangesOk x) Directory place then λ _. demand (not 
 abbrev pub unless0 : DirectoryNumber → ℕ → List (ℕ × ℕ)
 unless0 d want = cond (eqb (d .0) 0) [] ((d .0, want) ∷ [])
 
+-- a colour, font or level that is a reference
 abbrev pub ifReference : Attribute → ℕ → List (ℕ × ℕ)
 ifReference (NumberOf n) want = []
 ifReference (ReferenceTo d) want = (d .0, want) ∷ []
@@ -75,6 +79,7 @@ references e =
     unless0 (e .structure) any ++ (ifReference (e .font) any ++ (ifReference (e .level) any ++ (unless0 (e .view) any
     ++ (unless0 (e .matrix) entry124 ++ (unless0 (e .display) any ++ ifReference (e .colour) entry314)))))
 
+-- each names what it must name
 abbrev pub allFit : List ℕ → List (ℕ × ℕ) → Bool
 allFit types [] = true
 allFit types (r ∷ rs) = fits (r .1) (classAt types (r .0)) && allFit types rs

@@ -9,6 +9,16 @@ use columns::Fault;
 use columns::ParameterLine;
 use columns::Signed;
 
+// Columns of a slot on a D line, and slots of a line.
+pub const SLOT_COLUMNS: usize = 8;
+
+pub const SLOTS_A_LINE: usize = 9;
+
+// The two numbers of an entry that have no sign, counted in the order of `Fields`.
+pub const STATUS: usize = 8;
+
+pub const SUBSCRIPT: usize = 11;
+
 // The numbers of an entry as they are spelt, in a file or in a sheet; `entity` is its type, `display` its label display.
 pub struct Fields {
     pub entity: Signed,

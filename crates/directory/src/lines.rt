@@ -1,6 +1,10 @@
 // The two D lines of an entry, read where they stand.
 use crate::EntryRead;
 use crate::Fields;
+use crate::SLOT_COLUMNS;
+use crate::SLOTS_A_LINE;
+use crate::STATUS;
+use crate::SUBSCRIPT;
 use columns::Field;
 use columns::ParameterLine;
 use columns::Signed;
@@ -15,15 +19,11 @@ ghost use Rattle.directory.specs.Fields.{typeAt, fieldsOf};
 ghost use Rattle.directory.specs.Lines.{Slot, slots, seek, slotIn, numberIn, positive, sizeOf, isSame, speltAs, entryAt};
 ghost use Rattle.directory.specs.Reading.{slotAt, startOf, Small};
 
-// Bytes of a line, columns of a slot, slots of a line.
-const LINE: usize = 81;
-
-const WIDTH: usize = 8;
-
-const A_LINE: usize = 9;
+// Bytes of a line, its LF with it.
+const LINE_BYTES: usize = 81;
 
 // The slot of each number of an entry, in the order of `Fields`.
-const PLACES: [u8; 12] = [0, 13, 2, 3, 4, 5, 6, 7, 8, 10, 11, 17];
+const PLACES: [usize; 12] = [0, 13, 2, 3, 4, 5, 6, 7, 8, 10, 11, 17];
 
 // The slots of the type, the parameter pointer, the type again, the parameter line count and the label.
 const TYPE: usize = 0;
@@ -42,7 +42,7 @@ fn place_of(n: usize) -> usize
     ensures { λ r. ⌜ r ≡ seek (Slot.number n) slots ⌝ }
     ensures { λ r. ⌜ r < 18 ⌝ }
 {
-    PLACES[n] as usize
+    PLACES[n]
 }
 
 // Where slot j starts, of the entry whose first D line is line k.
@@ -50,7 +50,7 @@ fn start_of(k: usize, j: usize) -> usize
     requires { ⌜ (81 * k + 162 < 2 ^ 64) × (j < 18) ⌝ }
     ensures { λ r. ⌜ r ≡ startOf k j ⌝ }
 {
-    LINE * (k + j / A_LINE) + WIDTH * (j % A_LINE)
+    LINE_BYTES * (k + j / SLOTS_A_LINE) + SLOT_COLUMNS * (j % SLOTS_A_LINE)
 }
 
 // What slot j holds, a sign allowed.
@@ -60,7 +60,7 @@ fn signed_in(file: &[u8], k: usize, j: usize) -> SignedField
     ensures { λ r. ⌜ SizeBelow 100000000 r ⌝ }
 {
     let at = start_of(k, j);
-    columns::fields::read_signed(file, at, at + WIDTH)
+    columns::fields::read_signed(file, at, at + SLOT_COLUMNS)
 }
 
 // A field without a sign.
@@ -82,7 +82,7 @@ fn plain_in(file: &[u8], k: usize, j: usize) -> SignedField
     ensures { λ r. ⌜ r ≡ withSign false (fieldOf (slotAt (now (file .entry)) k j)) ⌝ }
 {
     let at = start_of(k, j);
-    plain(columns::fields::read_field(file, at, at + WIDTH))
+    plain(columns::fields::read_field(file, at, at + SLOT_COLUMNS))
 }
 
 // Number n of the entry: status and subscript have no sign.
@@ -91,10 +91,10 @@ fn number_in(file: &[u8], k: usize, n: usize) -> SignedField
     ensures { λ r. ⌜ r ≡ numberIn (now (file .entry)) k n ⌝ }
 {
     let j = place_of(n);
-    if n == 8 {
+    if n == STATUS {
         return plain_in(file, k, j);
     }
-    if n == 11 {
+    if n == SUBSCRIPT {
         return plain_in(file, k, j);
     }
     signed_in(file, k, j)

@@ -1,5 +1,8 @@
 // The two D lines of an entry, laid over a lent buffer: columns 1 to 72 of each.
 use crate::Fields;
+use crate::SLOT_COLUMNS;
+use crate::SLOTS_A_LINE;
+use crate::STATUS;
 use columns::Signed;
 ghost use mathlib.Core.Path.{_≡_};
 ghost use Prim.Native.Nat.{_+_, _^_, _≤_, _<_};
@@ -8,15 +11,10 @@ ghost use Rattle.columns.specs.Laid.{Wrote};
 ghost use Rattle.directory.specs.Lines.{slotsALine, written};
 ghost use Rattle.directory.specs.Reading.{slotOfCode, slotFrom, slotsFrom, firstLine, secondLine};
 
-const WIDTH: usize = 8;
-
-const A_LINE: usize = 9;
-
-const STATUS: usize = 8;
-
 // The slots of the two lines by their codes: below 12 the number of an entry that stands there.
 const SLOTS: [u8; 18] = [0, 13, 2, 3, 4, 5, 6, 7, 8, 12, 9, 10, 14, 1, 15, 15, 16, 11];
 
+// The others.
 const AGAIN: u8 = 12;
 
 const POINTER: u8 = 13;
@@ -32,9 +30,9 @@ fn put_number(out: &mut [u8], at: usize, n: usize, x: Signed) -> usize
     ensures { λ r. ⌜ r ≤ at + 28 ⌝ }
 {
     if n == STATUS {
-        return columns::emit::put_right(out, at, 48, WIDTH, x.size as u64);
+        return columns::emit::put_right(out, at, 48, SLOT_COLUMNS, x.size as u64);
     }
-    columns::emit::put_signed_right(out, at, WIDTH, x)
+    columns::emit::put_signed_right(out, at, SLOT_COLUMNS, x)
 }
 
 // Writes the slot of this code.
@@ -61,13 +59,13 @@ fn put_slot(
         return put_number(out, at, 0, x);
     }
     if slot == POINTER {
-        return columns::emit::put_right(out, at, 32, WIDTH, from as u64);
+        return columns::emit::put_right(out, at, 32, SLOT_COLUMNS, from as u64);
     }
     if slot == LINES {
-        return columns::emit::put_right(out, at, 32, WIDTH, count as u64);
+        return columns::emit::put_right(out, at, 32, SLOT_COLUMNS, count as u64);
     }
     if slot == RESERVED {
-        return columns::emit::put_run(out, at, 32, WIDTH);
+        return columns::emit::put_run(out, at, 32, SLOT_COLUMNS);
     }
     columns::emit::put_all(out, at, label)
 }
@@ -88,7 +86,7 @@ fn put_slots(
 {
     let mut next = at;
     let mut i = 0;
-    while i < A_LINE {
+    while i < SLOTS_A_LINE {
         let slot = SLOTS[first + i];
         next = put_slot(out, next, slot, xs, from, count, label);
         i += 1;
@@ -113,5 +111,5 @@ pub fn put_second(out: &mut [u8], at: usize, x: Fields, count: u32, label: &[u8]
     ensures { λ r. ⌜ r ≤ at + 252 ⌝ }
 {
     let xs = crate::rules::in_order(x);
-    put_slots(out, at, A_LINE, xs, 0, count, label)
+    put_slots(out, at, SLOTS_A_LINE, xs, 0, count, label)
 }

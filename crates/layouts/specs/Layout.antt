@@ -75,6 +75,7 @@ abbrev flat : List Row → List Place
 flat [] = []
 flat (r ∷ rs) = (r .places ++ tail) ++ flat rs
 
+-- all of them
 unfoldable pub table : List Place
 table = flat paper
 

@@ -66,6 +66,7 @@ openings =
     ∷ ("        ", Wrong)
     ∷ []
 
+-- what is computed is what is expected
 pub record Examples : Type 0 where
   pub read : map (λ (e : ℕ × String × Values). valuesAt (e .0) 44 59 (codes (e .1)) 0) records ≡ map (λ (e : ℕ × String × Values). e .2) records
   pub opened : map (λ (e : String × Opening). openingOf (codes (e .0))) openings ≡ map (λ (e : String × Opening). e .1) openings
@@ -74,6 +75,7 @@ pub record Examples : Type 0 where
       ≡ codes "116,    " ∷ (codes "15.E-1,," ∷ (codes "-2.D0,  " ∷ (codes "3Ha;,;  " ∷ [])))
   pub kept : trimmed (default ∷ (whole false 1 ∷ (default ∷ (default ∷ [])))) ≡ default ∷ (whole false 1 ∷ [])
 
+-- all of them
 pub examples : Examples
 unfolding valuesAt valuesFrom valueAt nextAt headOf numberOf powerAt power mayDelimit opened recordDelimiter openingOf inLines lineCount cut toLeft flow piece gap firm spelled dec lastDigits
 examples = record { read = refl; opened = refl; written = refl; kept = refl }

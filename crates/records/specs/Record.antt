@@ -96,10 +96,11 @@ valuesFrom (suc fuel) w c d t p = after t (valuesFrom fuel w c d t) (valueAt w c
 unfoldable pub valuesAt : ℕ → ℕ → ℕ → List ℕ → ℕ → Values
 valuesAt w c d t p = valuesFrom (suc (length t)) w c d t p
 
--- the values without the defaults at the end
+-- v before values of which none at the end is a default
 abbrev pub trim : Item → List Item → List Item
 trim v vs = trimOnto isDefault v vs
 
+-- the values without the defaults at the end
 abbrev pub trimmed : List Item → List Item
 trimmed vs = trimEnd isDefault vs
 

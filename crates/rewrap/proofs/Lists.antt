@@ -58,7 +58,7 @@ module _ (small large : ℕ) (inside : Inside small large) where
   entity-too : (f : List ℕ) (c : Counts) (g : GlobalRead) (types : List ℕ) (p : ℕ) (e : Listed) (y : Carried)
       → entityIn large f c g types p e ≡ accepted y → entityIn small f c g types p e ≡ accepted y
   unfolding entityIn
-  entity-too f c g types p e y h = parameters-too types p e _ y h
+  entity-too f c g types p e y h = parameters-too types p e (valuesAt 64 (g .parameter) (g .record-end) (parametersOf f c e) 0) y h
 
   pub last-too : (f : List ℕ) (c : Counts) (g : GlobalRead) (es : List Listed) (ys : List Carried) → lastPass large f c g es ≡ accepted ys
       → lastPass small f c g es ≡ accepted ys
@@ -103,7 +103,7 @@ module _ (small large : ℕ) (inside : Inside small large) where
   parameters-more : (types : List ℕ) (p : ℕ) (e : Listed) (vs : Values) → Added p (byParameters small types p e vs) (byParameters large types p e vs)
   parameters-more types p e (wrong n start at) = alike n
   parameters-more types p e (values vs end) =
-      added-then p (demand (isType (typeOf (e .fields)) (getD vs 0 default)) FirstValue p) _ _ (only-demand _ FirstValue p)
+      added-then p (demand (isType (typeOf (e .fields)) (getD vs 0 default)) FirstValue p) _ _ (only-demand (isType (typeOf (e .fields)) (getD vs 0 default)) FirstValue p)
       (λ _. added-after p (entityCheck small types x p) (entityCheck large types x p) (λ _. y) (λ _. y) (entity-more types small large inside x p))
     where
       x : Entity
@@ -115,7 +115,7 @@ module _ (small large : ℕ) (inside : Inside small large) where
   entity-more-in : (f : List ℕ) (c : Counts) (g : GlobalRead) (types : List ℕ) (p : ℕ) (e : Listed)
       → Added p (entityIn small f c g types p e) (entityIn large f c g types p e)
   unfolding entityIn
-  entity-more-in f c g types p e = parameters-more types p e _
+  entity-more-in f c g types p e = parameters-more types p e (valuesAt 64 (g .parameter) (g .record-end) (parametersOf f c e) 0)
 
   pub last-sooner : (f : List ℕ) (c : Counts) (g : GlobalRead) (es : List Listed) → Sooner (lastPass small f c g es) (lastPass large f c g es)
   unfolding lastPass

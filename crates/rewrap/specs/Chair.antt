@@ -6,7 +6,7 @@ use lib.ListN.{length}
 use Rattle.columns.specs.Quoted.{codes}
 use Rattle.columns.specs.Refusal.{accepted}
 use Rattle.layouts.specs.Known.{mostList}
-use Rattle.columns.specs.Columns.{columns, printable, blank, sameBytes, lineAt, textOf as columns-textOf}
+use Rattle.columns.specs.Columns.{columns, printable, blank, sameBytes, joined, lineAt, textOf as columns-textOf}
 use Rattle.columns.specs.Decimal.{lastDigits, dec, signedDec, toRight, toLeft}
 use Rattle.columns.specs.First.{firstNot, upFrom}
 use Rattle.columns.specs.Fixed.{digitsOf, fieldOf, isNumber, signedOf}
@@ -16,17 +16,14 @@ use Rattle.values.specs.Number.{power, powerAt, numberOf}
 use Rattle.values.specs.Strict.{strictOf}
 use Rattle.values.specs.Value.{spelled}
 use Rattle.records.specs.Flow.{firm, gap, piece, flow, lineCount, cut, inLines}
-use Rattle.records.specs.Global.{mayDelimit, opened, recordDelimiter, openingOf, kindOf, inRange as records-inRange, globalFits}
+use Rattle.records.specs.Global.{mayDelimit, opened, recordDelimiter, openingOf, canonicalOpening, kindOf, inRange as records-inRange, globalFits}
 use Rattle.records.specs.Record.{nextAt, valueAt, valuesFrom, valuesAt, positionOf, startAt}
 use Rattle.references.specs.References.{classOf, classAt}
-use Rattle.directory.specs.Asking.{ruleOf, wantedOf, restFit}
 use Rattle.directory.specs.Fields.{entryOf as directory-entryOf}
 use Rattle.directory.specs.Lines.{slots, slotIn, numberIn, numbersFrom, entryAt, labelAt, entryLines}
-use Rattle.directory.specs.Reading.{slotAt, after, slotsFrom, firstLine, secondLine}
 use Rattle.directory.specs.Rules.{statusOk, rangesOk, entryRules, referenceRule}
 use Rattle.cards.specs.Cards.{linesFrom, linesOf as cards-linesOf, lineOk, seven, placeOf, numberedOf, stepOf, pass, tells, totals, closes, closed as cards-closed, lengthOk, cardsOf}
 use Rattle.cards.specs.Written.{zeros, lineOf as cards-lineOf, section, totalsOf, fileLines, fileOf}
-use Rattle.columns.specs.Columns.{joined}
 use Rattle.owners.specs.InFile.{numberOr0, sizeOr0, sizeAt, nameOf, ownerIn, fromIn, countIn, ownersIn}
 use Rattle.owners.specs.Owners.{nameIs, entryOwns, inRange as owners-inRange, lineOwned, ownersOf, startOf as owners-startOf}
 use Rattle.layouts.specs.Entities.{run as layouts-run, verdictFrom, verdict, entityCheck, marksFrom, marks}
@@ -37,7 +34,7 @@ use Rattle.layouts.specs.Named.{named}
 use Rattle.sheets.specs.Line.{run as sheets-run, isLabel, numOf, numbersOf, entryOf as sheets-entryOf, labelOf, spell, spells, entryLine}
 use Rattle.sheets.specs.Order.{closed as sheets-closed, startStep, globalStep, entryStep, valueStep, lastStep, noneStep, finish as sheets-finish, goLines, verdictOf, readSheet}
 use Rattle.sheets.specs.Plain.{digitAfter, sizeFrom, minusOf, signedPlain, statusFrom, statusPlain}
-use Rattle.sheets.specs.Sheet.{startLines as sheets-startLines, globalLines as sheets-globalLines, valueLines, rowLines, linesOf as sheets-linesOf, lineOf as sheets-lineOf, textOf as sheets-textOf, sheetText, isMark, isStart, startLine, globalLine, lastLine, byMark, saidBy, into, piecesOf, lastPiece, saidByAll, linesIn, partsOf, sheetOf as sheets-sheetOf}
+use Rattle.sheets.specs.Sheet.{startLines as sheets-startLines, globalLines as sheets-globalLines, valueLines, rowLines, linesOf as sheets-linesOf, lineOf as sheets-lineOf, textOf as sheets-textOf, sheetText, isMark, isStart, startLine, globalLine, lastLine, byMark, saysOf, saidBy, into, piecesOf, lastPiece, saidByAll, linesIn, partsOf, sheetOf as sheets-sheetOf}
 use Rattle.model.specs.Canonical.{startLines as model-startLines, filled, globalText, globalLines as model-globalLines, parameterText, blockOf, directoryLines, parameterLines, lineTotal, canonical}
 use Rattle.model.specs.Model.{marked, rowOf, sheetOf as model-sheetOf, modelOf}
 use Rattle.model.specs.Read.{startsIn, noStray, given, globalIn, entryIn, entriesIn, referencesIn, entityIn, lastPass, before, readModel, reads}
@@ -78,10 +75,10 @@ sheet-length = refl
 
 -- the file is read to the sheet
 pub read-chair : reads mostList file ≡ accepted sheet
-unfolding columns printable blank sameBytes lineAt columns-textOf lastDigits dec signedDec toRight toLeft firstNot upFrom digitsOf fieldOf isNumber signedOf eachAt headOf power powerAt numberOf strictOf spelled firm gap piece flow lineCount cut inLines mayDelimit opened recordDelimiter openingOf kindOf records-inRange globalFits nextAt valueAt valuesFrom valuesAt positionOf startAt classOf classAt ruleOf wantedOf restFit directory-entryOf slots slotIn numberIn numbersFrom entryAt labelAt entryLines slotAt after slotsFrom firstLine secondLine statusOk rangesOk entryRules referenceRule linesFrom cards-linesOf lineOk seven placeOf numberedOf stepOf pass tells totals closes cards-closed lengthOk cardsOf zeros cards-lineOf section totalsOf fileLines joined fileOf numberOr0 sizeOr0 sizeAt nameOf ownerIn fromIn countIn ownersIn nameIs entryOwns owners-inRange lineOwned ownersOf owners-startOf layouts-run verdictFrom verdict entityCheck marksFrom marks known paper table layouts-startOf placeAt bitOf settle onward takes start step layouts-finish end named sheets-run isLabel numOf numbersOf sheets-entryOf labelOf spell spells entryLine sheets-closed startStep globalStep entryStep valueStep lastStep noneStep sheets-finish goLines verdictOf readSheet digitAfter sizeFrom minusOf signedPlain statusFrom statusPlain sheets-startLines sheets-globalLines valueLines rowLines sheets-linesOf sheets-lineOf sheets-textOf sheetText isMark isStart startLine globalLine lastLine byMark saidBy into piecesOf lastPiece saidByAll linesIn partsOf sheets-sheetOf model-startLines filled globalText model-globalLines parameterText blockOf directoryLines parameterLines lineTotal canonical marked rowOf model-sheetOf modelOf startsIn noStray given globalIn entryIn entriesIn referencesIn entityIn lastPass before readModel reads sheetRules writeModel writes
+unfolding columns printable blank sameBytes joined lineAt columns-textOf lastDigits dec signedDec toRight toLeft firstNot upFrom digitsOf fieldOf isNumber signedOf eachAt headOf power powerAt numberOf strictOf spelled firm gap piece flow lineCount cut inLines mayDelimit opened recordDelimiter openingOf canonicalOpening kindOf records-inRange globalFits nextAt valueAt valuesFrom valuesAt positionOf startAt classOf classAt directory-entryOf slots slotIn numberIn numbersFrom entryAt labelAt entryLines statusOk rangesOk entryRules referenceRule linesFrom cards-linesOf lineOk seven placeOf numberedOf stepOf pass tells totals closes cards-closed lengthOk cardsOf zeros cards-lineOf section totalsOf fileLines fileOf numberOr0 sizeOr0 sizeAt nameOf ownerIn fromIn countIn ownersIn nameIs entryOwns owners-inRange lineOwned ownersOf owners-startOf layouts-run verdictFrom verdict entityCheck marksFrom marks known paper table layouts-startOf placeAt bitOf settle onward takes start step layouts-finish end named sheets-run isLabel numOf numbersOf sheets-entryOf labelOf spell spells entryLine sheets-closed startStep globalStep entryStep valueStep lastStep noneStep sheets-finish goLines verdictOf readSheet digitAfter sizeFrom minusOf signedPlain statusFrom statusPlain sheets-startLines sheets-globalLines valueLines rowLines sheets-linesOf sheets-lineOf sheets-textOf sheetText isMark isStart startLine globalLine lastLine byMark saysOf saidBy into piecesOf lastPiece saidByAll linesIn partsOf sheets-sheetOf model-startLines filled globalText model-globalLines parameterText blockOf directoryLines parameterLines lineTotal canonical marked rowOf model-sheetOf modelOf startsIn noStray given globalIn entryIn entriesIn referencesIn entityIn lastPass before readModel reads sheetRules writeModel writes
 read-chair = refl
 
 -- the sheet is written to the file
 pub written-chair : writes mostList sheet ≡ accepted file
-unfolding columns printable blank sameBytes lineAt columns-textOf lastDigits dec signedDec toRight toLeft firstNot upFrom digitsOf fieldOf isNumber signedOf eachAt headOf power powerAt numberOf strictOf spelled firm gap piece flow lineCount cut inLines mayDelimit opened recordDelimiter openingOf kindOf records-inRange globalFits nextAt valueAt valuesFrom valuesAt positionOf startAt classOf classAt ruleOf wantedOf restFit directory-entryOf slots slotIn numberIn numbersFrom entryAt labelAt entryLines slotAt after slotsFrom firstLine secondLine statusOk rangesOk entryRules referenceRule linesFrom cards-linesOf lineOk seven placeOf numberedOf stepOf pass tells totals closes cards-closed lengthOk cardsOf zeros cards-lineOf section totalsOf fileLines joined fileOf numberOr0 sizeOr0 sizeAt nameOf ownerIn fromIn countIn ownersIn nameIs entryOwns owners-inRange lineOwned ownersOf owners-startOf layouts-run verdictFrom verdict entityCheck marksFrom marks known paper table layouts-startOf placeAt bitOf settle onward takes start step layouts-finish end named sheets-run isLabel numOf numbersOf sheets-entryOf labelOf spell spells entryLine sheets-closed startStep globalStep entryStep valueStep lastStep noneStep sheets-finish goLines verdictOf readSheet digitAfter sizeFrom minusOf signedPlain statusFrom statusPlain sheets-startLines sheets-globalLines valueLines rowLines sheets-linesOf sheets-lineOf sheets-textOf sheetText isMark isStart startLine globalLine lastLine byMark saidBy into piecesOf lastPiece saidByAll linesIn partsOf sheets-sheetOf model-startLines filled globalText model-globalLines parameterText blockOf directoryLines parameterLines lineTotal canonical marked rowOf model-sheetOf modelOf startsIn noStray given globalIn entryIn entriesIn referencesIn entityIn lastPass before readModel reads sheetRules writeModel writes
+unfolding columns printable blank sameBytes joined lineAt columns-textOf lastDigits dec signedDec toRight toLeft firstNot upFrom digitsOf fieldOf isNumber signedOf eachAt headOf power powerAt numberOf strictOf spelled firm gap piece flow lineCount cut inLines mayDelimit opened recordDelimiter openingOf canonicalOpening kindOf records-inRange globalFits nextAt valueAt valuesFrom valuesAt positionOf startAt classOf classAt directory-entryOf slots slotIn numberIn numbersFrom entryAt labelAt entryLines statusOk rangesOk entryRules referenceRule linesFrom cards-linesOf lineOk seven placeOf numberedOf stepOf pass tells totals closes cards-closed lengthOk cardsOf zeros cards-lineOf section totalsOf fileLines fileOf numberOr0 sizeOr0 sizeAt nameOf ownerIn fromIn countIn ownersIn nameIs entryOwns owners-inRange lineOwned ownersOf owners-startOf layouts-run verdictFrom verdict entityCheck marksFrom marks known paper table layouts-startOf placeAt bitOf settle onward takes start step layouts-finish end named sheets-run isLabel numOf numbersOf sheets-entryOf labelOf spell spells entryLine sheets-closed startStep globalStep entryStep valueStep lastStep noneStep sheets-finish goLines verdictOf readSheet digitAfter sizeFrom minusOf signedPlain statusFrom statusPlain sheets-startLines sheets-globalLines valueLines rowLines sheets-linesOf sheets-lineOf sheets-textOf sheetText isMark isStart startLine globalLine lastLine byMark saysOf saidBy into piecesOf lastPiece saidByAll linesIn partsOf sheets-sheetOf model-startLines filled globalText model-globalLines parameterText blockOf directoryLines parameterLines lineTotal canonical marked rowOf model-sheetOf modelOf startsIn noStray given globalIn entryIn entriesIn referencesIn entityIn lastPass before readModel reads sheetRules writeModel writes
 written-chair = refl

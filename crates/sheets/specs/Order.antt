@@ -8,7 +8,6 @@ use Rattle.columns.specs.declared.Signed.{Signed}
 use Rattle.columns.specs.declared.SheetLine.{SheetLine}
 use Rattle.columns.specs.Refusal.{Outcome, accepted, refused}
 use Rattle.values.specs.Value.{isDefault}
-use Rattle.records.specs.Global.{firstField}
 use Rattle.sheets.specs.declared.State.{State}
 use Rattle.sheets.specs.declared.Step.{Step}
 use Rattle.sheets.specs.declared.Step.the-variants.{On, Off}

@@ -8,14 +8,17 @@ use Rattle.columns.specs.declared.Signed.{Signed}
 use Rattle.columns.specs.Columns.{printable}
 use Rattle.columns.specs.Decimal.{dec}
 use Rattle.values.specs.declared.Value.{Value}
+use Rattle.values.specs.declared.Value.the-variants.{Default, Whole, Real, Text}
 use Rattle.values.specs.declared.Strict.{Strict}
 use Rattle.values.specs.declared.Strict.the-variants.{Is, Not}
-use Rattle.values.specs.Value.{Item, itemOf, isDefault, spelled}
+use Rattle.values.specs.Value.{Item, itemOf, spelled}
 use Rattle.values.specs.Strict.{strictOf}
 use Rattle.records.specs.Global.{firstField, lastField}
 use Rattle.directory.specs.declared.Fields.{Fields}
 use Rattle.sheets.specs.declared.EntryLine.{EntryLine}
 use Rattle.sheets.specs.declared.EntryLine.the-variants.{Got, Wrong}
+use Rattle.sheets.specs.declared.Said.{Said}
+use Rattle.sheets.specs.declared.Said.the-variants.{Start, Global, Entry, Value as Given, Last, Nothing}
 use Rattle.sheets.specs.Plain.{most, plainOf, sized}
 use Rattle.sheets.specs.Line.{run, entryOf, labelOf, entryLine}
 
@@ -86,53 +89,76 @@ sheetText s = textOf (linesOf s)
 
 -- ---- what a line says: it has one spelling
 
+-- a default
+abbrev pub isMissing : Value → Bool
+isMissing Default = true
+isMissing (Whole neg size) = false
+isMissing (Real neg m eneg e double) = false
+isMissing (Text at count) = false
+
 -- a byte is R (82) or V (86)
 unfoldable pub isMark : ℕ → Bool
 isMark b = eqb b 82 || eqb b 86
+
+-- the line that is read of l: its text, its value or its label stand there
+abbrev pub lineFrom : List ℕ → Said → Line
+lineFrom l Start = start (drop 2 l)
+lineFrom l (Global n at v) = global n (itemOf (drop at l) v)
+lineFrom l (Entry known n x) = entry known n x (labelOf l)
+lineFrom l (Given reference v) = value reference (itemOf (drop 2 l) v)
+lineFrom l (Last n) = last n
+lineFrom l (Nothing b) = none b
 
 -- a start text: plain, at most 72 bytes, no blank at its end
 unfoldable pub isStart : List ℕ → Bool
 isStart t = leb (length t) 72 && (not (eqb (getD t (length t - 1) 0) 32) && printable t)
 
-unfoldable pub startLine : List ℕ → Line
-startLine t = cond (isStart t) (start t) (none false)
+-- S, tab, a start text
+unfoldable pub startLine : List ℕ → Said
+startLine t = cond (isStart t) Start (Nothing false)
 
 -- a G value that is spelt, and no default
-abbrev pub globalOf : Bool → ℕ → List ℕ → Strict → Line
-globalOf good n t Not = none false
-globalOf good n t (Is v) = cond (good && not (isDefault (itemOf t v))) (global n (itemOf t v)) (none false)
+abbrev pub globalOf : Bool → ℕ → ℕ → Strict → Said
+globalOf good n at Not = Nothing false
+globalOf good n at (Is v) = cond (good && not (isMissing v)) (Global n at v) (Nothing false)
 
 -- a number from 3 to 24, a tab, a value
-unfoldable pub globalLine : List ℕ → Line
+unfoldable pub globalLine : List ℕ → Said
 globalLine t =
     let n = plainOf (take (run 9 t) t) in
-    let v = drop (suc (run 9 t)) t in
-    globalOf (ltb (run 9 t) (length t) && (leb firstField n && leb n lastField)) n v (strictOf v)
+    globalOf (ltb (run 9 t) (length t) && (leb firstField n && leb n lastField)) n (2 + suc (run 9 t)) (strictOf (drop (suc (run 9 t)) t))
 
-abbrev pub entryLineOf : EntryLine → List ℕ → Line
-entryLineOf (Got known n x) label = entry known n x label
-entryLineOf Wrong label = none false
+-- E or U, tab, the numbers and the label
+abbrev pub entryLineOf : EntryLine → Said
+entryLineOf (Got known n x) = Entry known n x
+entryLineOf Wrong = Nothing false
 
 -- a default, or a value
-abbrev pub valueOf : Bool → List ℕ → Strict → Line
-valueOf reference t (Is v) = value reference (itemOf t v)
-valueOf reference t Not = none true
+abbrev pub valueOf : Bool → Strict → Said
+valueOf reference (Is v) = Given reference v
+valueOf reference Not = Nothing true
 
-unfoldable pub lastLine : List ℕ → Line
-lastLine t = cond (leb (plainOf t) most) (last (plainOf t)) (none false)
+-- Z, tab, the entry count
+unfoldable pub lastLine : List ℕ → Said
+lastLine t = cond (leb (plainOf t) most) (Last (plainOf t)) (Nothing false)
 
 -- by the line's first byte, S G E U R V Z; the second is a tab, and t is what follows
-unfoldable pub byMark : ℕ → List ℕ → List ℕ → Line
+unfoldable pub byMark : ℕ → List ℕ → List ℕ → Said
 byMark b l t =
     cond (eqb b 83) (startLine t)
     (cond (eqb b 71) (globalLine t)
-    (cond (eqb b 69 || eqb b 85) (entryLineOf (entryOf l) (labelOf l))
-    (cond (eqb b 82) (valueOf true t (strictOf t))
-    (cond (eqb b 86) (valueOf false t (strictOf t))
-    (cond (eqb b 90) (lastLine t) (none false))))))
+    (cond (eqb b 69 || eqb b 85) (entryLineOf (entryOf l))
+    (cond (eqb b 82) (valueOf true (strictOf t))
+    (cond (eqb b 86) (valueOf false (strictOf t))
+    (cond (eqb b 90) (lastLine t) (Nothing false))))))
 
+-- what is read of a line, with where its value stands
+unfoldable pub saysOf : List ℕ → Said
+saysOf l = cond (eqb (getD l 1 0) 9) (byMark (getD l 0 0) l (drop 2 l)) (Nothing (isMark (getD l 0 0)))
+
+-- what a line says
 unfoldable pub saidBy : List ℕ → Line
-saidBy l = cond (eqb (getD l 1 0) 9) (byMark (getD l 0 0) l (drop 2 l)) (none (isMark (getD l 0 0)))
+saidBy l = lineFrom l (saysOf l)
 
 -- ---- the lines of a text
 

@@ -1,12 +1,41 @@
 // Sheet lines in and out: what each line says, and the order of lines.
+// `plain` reads the numbers of a sheet, `reading` its lines and whole sheets, `order` is the machine over the lines, `writing` writes lines.
 use columns::SheetLine;
 use columns::Signed;
 use directory::Fields;
+use values::Value;
+
+pub mod order;
+pub mod plain;
+pub mod reading;
+pub mod writing;
 
 // What an entry line says: whether it is marked E, the directory number, and the entry's numbers; or a wrong line.
 pub enum EntryLine {
     Got(bool, Signed, Fields),
     Wrong,
+}
+
+// What a line says. A value is told with where a string stands in what follows the line's tabs: for a Global field that is from `at` on.
+// `Nothing` tells whether the line begins as a value line does.
+pub enum Said {
+    Start,
+    Global {
+        number: u32,
+        at: usize,
+        value: Value,
+    },
+    Entry {
+        known: bool,
+        number: Signed,
+        fields: Fields,
+    },
+    Value {
+        reference: bool,
+        value: Value,
+    },
+    Last(usize),
+    Nothing(bool),
 }
 
 // Where in the order of lines one stands: the section reached (0 none, 1 S, 2 G, 3 entries, 4 Z), the last G number, how many entries and

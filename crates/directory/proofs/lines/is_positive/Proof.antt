@@ -1,3 +1,4 @@
+-- Without a sign and at least 1.
 use borrow.Author.Needs.{needs}
 use Rattle.directory.proofs.Spelt.{fielded}
 use Rattle.directory.proofs.lines.is_positive.Statement.{statement}

@@ -1,3 +1,4 @@
+-- Equal in size and in sign.
 use borrow.Author.Needs.{needs}
 use Rattle.directory.proofs.Spelt.{fielded}
 use Rattle.directory.proofs.lines.is_same.Statement.{statement}

@@ -1,3 +1,4 @@
+-- The parameter line count stands in slot 12.
 use borrow.Author.Needs.{needs}
 use Rattle.directory.proofs.Spelt.{sizes}
 use Rattle.directory.proofs.lines.lines_at.Statement.{statement}

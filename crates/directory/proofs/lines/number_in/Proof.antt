@@ -1,3 +1,4 @@
+-- Status and subscript are the two numbers without a sign.
 use borrow.Author.Needs.{needs}
 use Rattle.directory.proofs.Slots.{slotted}
 use Rattle.directory.proofs.lines.number_in.Statement.{statement}

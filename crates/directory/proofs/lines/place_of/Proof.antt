@@ -1,3 +1,4 @@
+-- The table holds the slot of each number, by computation from the list of slots.
 use borrow.Author.Needs.{needs}
 use Rattle.directory.proofs.Slots.{slotted}
 use Rattle.directory.proofs.lines.place_of.Statement.{statement}

@@ -1,3 +1,4 @@
+-- A field without a sign is a number without a sign.
 use borrow.Author.Needs.{needs}
 use Rattle.directory.proofs.Slots.{slotted}
 use Rattle.directory.proofs.lines.plain.Statement.{statement}

@@ -1,3 +1,4 @@
+-- The slot is read where it stands in the file, as a field without a sign.
 use borrow.Author.Needs.{needs}
 use Rattle.directory.proofs.Slots.{slotted}
 use Rattle.directory.proofs.lines.plain_in.Statement.{statement}

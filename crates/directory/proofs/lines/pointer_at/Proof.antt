@@ -1,3 +1,4 @@
+-- The parameter pointer stands in slot 1.
 use borrow.Author.Needs.{needs}
 use Rattle.directory.proofs.Spelt.{sizes}
 use Rattle.directory.proofs.lines.pointer_at.Statement.{statement}

@@ -1,3 +1,4 @@
+-- The slot is read where it stands in the file.
 use borrow.Author.Needs.{needs}
 use Rattle.directory.proofs.Slots.{slotted}
 use Rattle.directory.proofs.lines.signed_in.Statement.{statement}

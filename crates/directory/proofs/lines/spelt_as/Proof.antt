@@ -1,3 +1,4 @@
+-- Each of the three tests that fails makes the entry wrong.
 use borrow.Author.Needs.{needs}
 use Rattle.directory.proofs.Spelt.{spelling}
 use Rattle.directory.proofs.lines.spelt_as.Statement.{statement}

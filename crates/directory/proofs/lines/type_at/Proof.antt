@@ -1,3 +1,4 @@
+-- The type stands in slot 0.
 use borrow.Author.Needs.{needs}
 use Rattle.directory.proofs.Spelt.{sizes}
 use Rattle.directory.proofs.lines.type_at.Statement.{statement}

@@ -1,3 +1,4 @@
+-- A number with a sign is a reference.
 use borrow.Author.Needs.{needs}
 use Rattle.directory.proofs.Asked.{meaning}
 use Rattle.directory.proofs.rules.attribute_of.Statement.{statement}

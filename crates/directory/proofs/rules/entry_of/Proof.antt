@@ -1,3 +1,4 @@
+-- Font, level and colour are attributes, the other numbers are taken as they are.
 use borrow.Author.Needs.{needs}
 use Rattle.directory.proofs.Asked.{meaning}
 use Rattle.directory.proofs.rules.entry_of.Statement.{statement}

@@ -1,3 +1,4 @@
+-- 9 is asked before 13.
 use borrow.Author.Needs.{needs}
 use Rattle.directory.proofs.Ranges.{ruling}
 use Rattle.directory.proofs.rules.entry_rules.Statement.{statement}

@@ -1,3 +1,4 @@
+-- So many digits fit as columns are left beside the sign.
 use borrow.Author.Needs.{needs}
 use Rattle.directory.proofs.Ranges.{numbered}
 use Rattle.directory.proofs.rules.is_narrow.Statement.{statement}

@@ -1,3 +1,4 @@
+-- One of the three past its limit fails the whole.
 use borrow.Author.Needs.{needs}
 use Rattle.directory.proofs.Ranges.{ranging}
 use Rattle.directory.proofs.rules.limits_ok.Statement.{statement}

@@ -1,3 +1,4 @@
+-- A reference is negated; a reference of 0 is nought, which has no sign.
 use borrow.Author.Needs.{needs}
 use Rattle.directory.proofs.Asked.{meaning}
 use Rattle.directory.proofs.rules.number_of.Statement.{statement}

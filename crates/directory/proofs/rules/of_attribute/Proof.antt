@@ -1,3 +1,4 @@
+-- A number asks nothing, a reference asks.
 use borrow.Author.Needs.{needs}
 use Rattle.directory.proofs.Asked.{wanting}
 use Rattle.directory.proofs.rules.of_attribute.Statement.{statement}

@@ -1,3 +1,4 @@
+-- A negative number, or nought.
 use borrow.Author.Needs.{needs}
 use Rattle.directory.proofs.Ranges.{numbered}
 use Rattle.directory.proofs.rules.or_less.Statement.{statement}

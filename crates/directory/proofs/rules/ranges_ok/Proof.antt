@@ -1,3 +1,4 @@
+-- One of the four tests that fails makes the whole fail.
 use borrow.Author.Needs.{needs}
 use Rattle.directory.proofs.Ranges.{ruling}
 use Rattle.directory.proofs.rules.ranges_ok.Statement.{statement}

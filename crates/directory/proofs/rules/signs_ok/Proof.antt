@@ -1,3 +1,4 @@
+-- A sign at one of the seven fails the whole.
 use borrow.Author.Needs.{needs}
 use Rattle.directory.proofs.Ranges.{ranging}
 use Rattle.directory.proofs.rules.signs_ok.Statement.{statement}

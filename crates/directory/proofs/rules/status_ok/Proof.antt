@@ -1,3 +1,4 @@
+-- One pair past its limit fails the whole.
 use borrow.Author.Needs.{needs}
 use Rattle.directory.proofs.Ranges.{ranging}
 use Rattle.directory.proofs.rules.status_ok.Statement.{statement}

@@ -1,3 +1,4 @@
+-- A negative number, or one up to the most.
 use borrow.Author.Needs.{needs}
 use Rattle.directory.proofs.Ranges.{numbered}
 use Rattle.directory.proofs.rules.up_to.Statement.{statement}

@@ -1,3 +1,4 @@
+-- The seven references in their order.
 use borrow.Author.Needs.{needs}
 use Rattle.directory.proofs.Asked.{wanting}
 use Rattle.directory.proofs.rules.wanted.Statement.{statement}

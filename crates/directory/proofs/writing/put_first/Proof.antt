@@ -1,3 +1,4 @@
+-- The first nine slots are the first line, whatever stands on the second.
 use borrow.Author.Needs.{needs}
 use Rattle.directory.proofs.Puts.{lining}
 use Rattle.directory.proofs.writing.put_first.Statement.{statement}

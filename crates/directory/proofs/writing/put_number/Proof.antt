@@ -1,3 +1,4 @@
+-- Status is zero-filled, the others are right-justified with blanks.
 use borrow.Author.Needs.{needs}
 use Rattle.directory.proofs.Puts.{slotting}
 use Rattle.directory.proofs.writing.put_number.Statement.{statement}

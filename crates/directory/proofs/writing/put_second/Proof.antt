@@ -1,3 +1,4 @@
+-- The other nine slots are the second line, whatever stands on the first.
 use borrow.Author.Needs.{needs}
 use Rattle.directory.proofs.Puts.{lining}
 use Rattle.directory.proofs.writing.put_second.Statement.{statement}

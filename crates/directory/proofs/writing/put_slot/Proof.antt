@@ -1,3 +1,4 @@
+-- Each code has its own test; the label is what is left.
 use borrow.Author.Needs.{needs}
 use Rattle.directory.proofs.Puts.{slotting}
 use Rattle.directory.proofs.writing.put_slot.Statement.{statement}

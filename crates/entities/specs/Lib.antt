@@ -1,0 +1,4 @@
+pub mod Naming
+pub mod Taking
+pub mod Answers
+pub mod Marks

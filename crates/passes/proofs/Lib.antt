@@ -1,0 +1,10 @@
+pub mod Passes
+pub mod Listing
+pub mod Walks
+pub mod Spellings
+pub mod Referring
+pub mod GlobalText
+pub mod GlobalAnswers
+pub mod Whole
+pub mod Facts
+pub mod After

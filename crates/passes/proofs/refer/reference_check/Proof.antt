@@ -1,0 +1,20 @@
+-- The entry that stands there asks by its references.
+use borrow.Author.Needs.{needs}
+use Rattle.passes.proofs.Referring.{refers}
+use Rattle.passes.proofs.refer.reference_check.Statement.{statement}
+use Rattle.passes.proofs.refer.reference_check.Tie as tie
+
+pub reference-check-spec : {M : Type 1} → statement M
+reference-check-spec =
+    tie.close
+    (tie.spec
+    (λ c κs. search (needs, refers))
+    (λ c. search (needs, refers))
+    (λ c κs. search (needs, refers))
+    (λ c. search (needs, refers))
+    (λ c. search (needs, refers))
+    (λ c. search (needs, refers))
+    (λ c κs. search (needs, refers))
+    (λ c κs. search (needs, refers))
+    (λ c. search (needs, refers))
+    (λ c. search (needs, refers)))

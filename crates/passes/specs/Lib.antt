@@ -1,0 +1,4 @@
+pub mod Passes
+pub mod Listed
+pub mod Walks
+pub mod Ready

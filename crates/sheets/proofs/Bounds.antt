@@ -1,0 +1,171 @@
+-- Where what a line says stands: within the line. And a verdict's count is at most the sheet's length.
+use mathlib.Core.Path.{_≡_, refl, sym, ap, _∙_}
+use mathlib.Core.Bool.{Bool, true, false, cond, not, _&&_, _||_}
+use mathlib.Core.List.{List, [], _∷_}
+use Prim.Native.Nat.{ℕ, zero, suc, _+_, _-_, _≤_, _<_}
+use native.Mathlib.Omega.{arith}
+use lib.ListN.{length, getD, take, drop, length-drop, List·getD-eq-default}
+use lib.Dec.{ltb, leb, eqb}
+use borrow.Author.Tests.{eqb-true, ltb-true, leb-true}
+use Rattle.columns.specs.declared.Signed.{Signed}
+use Rattle.columns.specs.Columns.{columns, printable}
+use Rattle.columns.proofs.Tests.{cond-cases, both, both-left, both-right}
+use Rattle.columns.proofs.Columns.{length-columns}
+use Rattle.values.specs.declared.Value.{Value}
+use Rattle.values.specs.declared.Value.the-variants.{Text}
+use Rattle.values.specs.declared.Head.{Head}
+use Rattle.values.specs.declared.Head.the-variants.{Count, Plain}
+use Rattle.values.specs.declared.Strict.{Strict}
+use Rattle.values.specs.declared.Strict.the-variants.{Is, Not}
+use Rattle.values.specs.Value.{head}
+use Rattle.values.specs.Head.{headOf}
+use Rattle.values.specs.Writing.{Inside, Placed}
+use Rattle.values.specs.Strict.{byHead, strictOf}
+use Rattle.values.proofs.Backs.{placed-numeral}
+use Rattle.directory.specs.declared.Fields.{Fields}
+use Rattle.sheets.specs.declared.EntryLine.{EntryLine}
+use Rattle.sheets.specs.declared.EntryLine.the-variants.{Got, Wrong as WrongEntry}
+use Rattle.sheets.specs.declared.Said.{Said}
+use Rattle.sheets.specs.declared.Said.the-variants.{Start, Global, Entry, Value as Given, Last, Nothing}
+use Rattle.sheets.specs.declared.State.{State}
+use Rattle.sheets.specs.declared.Step.the-variants.{On, Off}
+use Rattle.sheets.specs.declared.Verdict.{Verdict}
+use Rattle.sheets.specs.declared.Verdict.the-variants.{Good, Wrong}
+use Rattle.sheets.specs.Plain.{sizeFrom}
+use Rattle.sheets.specs.Line.{run, isLabel, entryOf, labelOf}
+use Rattle.sheets.specs.Sheet.{isMissing, isMark, isStart, startLine, globalOf, globalLine, entryLineOf, valueOf, lastLine, byMark, saysOf}
+use Rattle.sheets.specs.Order.{sheetLine, closed, verdict, finish}
+use Rattle.sheets.specs.Reading.{pieceVerdict, Within, Counted}
+use Rattle.sheets.proofs.Machine.{numbered}
+use Rattle.sheets.proofs.Round.{entry-back}
+use Rattle.sheets.proofs.Walk.{none-off}
+
+-- ---- a line
+
+-- a string stands in the text that it was read back from
+pub strict-inside : (l : List ℕ) → Placed (length l) (strictOf l)
+unfolding strictOf
+strict-inside [] = tt
+strict-inside (b ∷ bs) = by-head (headOf (b ∷ bs))
+  where
+    l : List ℕ
+    l = b ∷ bs
+
+    string-in : (count len : ℕ) (a c : Bool) → eqb (len + count) (length l) ≡ a → Placed (length l) (cond (a && c) (Is (Text len count)) Not)
+    string-in count len true true e =
+        let k : len + count ≡ length l = eqb-true (len + count) (length l) e in
+        omega arith
+    string-in count len true false e = tt
+    string-in count len false c e = tt
+
+    by-head : (h : Head) → Placed (length l) (byHead l h)
+    by-head (Count count len) = string-in count len (eqb (len + count) (length l)) (eqb len (length (head count)) && printable (drop len l)) refl
+    by-head (Plain k) = placed-numeral l (length l) (k .number) refl
+
+label-eight : (l : List ℕ) → isLabel l ≡ true → length l ≡ 8
+unfolding isLabel
+label-eight l e = eqb-true (length l) 8 (both-left (eqb (length l) 8) (printable l) e)
+
+length-label : (l : List ℕ) → length (labelOf l) ≡ length l - (length l - 8)
+unfolding labelOf
+length-label l = length-drop (length l - 8) l
+
+entry-within : (l : List ℕ) → Within (length l) (entryLineOf (entryOf l))
+entry-within l = pick (entryOf l) refl
+  where
+    pick : (r : EntryLine) → entryOf l ≡ r → Within (length l) (entryLineOf r)
+    pick (Got known n x) h = omega (arith, label-eight (labelOf l) (entry-back l known n x h .label), length-label l)
+    pick WrongEntry h = tt
+
+module _ (l : List ℕ) (two : 2 ≤ length l) where
+  rest : length (drop 2 l) ≡ length l - 2
+  rest = length-drop 2 l
+
+  value-within : (reference : Bool) → Within (length l) (valueOf reference (strictOf (drop 2 l)))
+  value-within reference = pick (strictOf (drop 2 l)) (strict-inside (drop 2 l))
+    where
+      pick : (x : Strict) → Placed (length (drop 2 l)) x → Within (length l) (valueOf reference x)
+      pick (Is v) h = (two, rw rest at h)
+      pick Not h = tt
+
+  global-within : Within (length l) (globalLine (drop 2 l))
+  unfolding globalLine
+  global-within = pick (strictOf (drop (suc (run 9 t)) t)) (strict-inside (drop (suc (run 9 t)) t))
+    where
+      t : List ℕ
+      t = drop 2 l
+
+      pick : (x : Strict) → Placed (length (drop (suc (run 9 t)) t)) x → Within (length l) (globalOf (numbered t) (sizeFrom 2147483649 (take (run 9 t) t)) (2 + suc (run 9 t)) x)
+      pick (Is v) h =
+          cond-cases (Within (length l)) (numbered t && not (isMissing v)) (Global (sizeFrom 2147483649 (take (run 9 t) t)) (2 + suc (run 9 t)) v) (Nothing false)
+          (λ e. inside (both (ltb (run 9 t) (length t)) (leb 3 n && leb n 24) (both-left (numbered t) (not (isMissing v)) e))) (λ e. tt)
+        where
+          n : ℕ
+          n = sizeFrom 2147483649 (take (run 9 t) t)
+
+          inside : (ltb (run 9 t) (length t) ≡ true) × (leb 3 n && leb n 24 ≡ true) → (3 ≤ n) × (n ≤ 24) × (2 + suc (run 9 t) ≤ length l) × Inside (length l - (2 + suc (run 9 t))) v
+          inside e =
+              let k : run 9 t < length t = ltb-true (run 9 t) (length t) (e .0) in
+              let a : length (drop (suc (run 9 t)) t) ≡ length l - (2 + suc (run 9 t)) = length-drop (suc (run 9 t)) t ∙ omega (arith, rest) in
+              (leb-true 3 n (both-left (leb 3 n) (leb n 24) (e .1)), leb-true n 24 (both-right (leb 3 n) (leb n 24) (e .1)), omega (arith, rest), rw a at h)
+      pick Not h = tt
+
+  mark-within : (b : ℕ) → Within (length l) (byMark b l (drop 2 l))
+  unfolding byMark startLine lastLine
+  mark-within b =
+      cond-cases W (eqb b 83) (startLine (drop 2 l)) _ (λ _. cond-cases W (isStart (drop 2 l)) Start (Nothing false) (λ _. two) (λ _. tt))
+      (λ _. cond-cases W (eqb b 71) (globalLine (drop 2 l)) _ (λ _. global-within)
+      (λ _. cond-cases W (eqb b 69 || eqb b 85) (entryLineOf (entryOf l)) _ (λ _. entry-within l)
+      (λ _. cond-cases W (eqb b 82) (valueOf true (strictOf (drop 2 l))) _ (λ _. value-within true)
+      (λ _. cond-cases W (eqb b 86) (valueOf false (strictOf (drop 2 l))) _ (λ _. value-within false)
+      (λ _. cond-cases W (eqb b 90) (lastLine (drop 2 l)) (Nothing false)
+      (λ _. cond-cases W (leb (sizeFrom 2147483649 (drop 2 l)) 2147483647) (Last (sizeFrom 2147483649 (drop 2 l))) (Nothing false) (λ _. tt) (λ _. tt)) (λ _. tt))))))
+    where
+      W : Said → Type 0
+      W = Within (length l)
+
+pub says-within : (l : List ℕ) → Within (length l) (saysOf l)
+unfolding saysOf
+says-within l =
+    cond-cases (Within (length l)) (eqb (getD l 1 0) 9) (byMark (getD l 0 0) l (drop 2 l)) (Nothing (isMark (getD l 0 0)))
+    (λ e. mark-within l (long (eqb-true (getD l 1 0) 9 e)) (getD l 0 0)) (λ _. tt)
+  where
+    long : getD l 1 0 ≡ 9 → 2 ≤ length l
+    long e = short l e
+      where
+        short : (l : List ℕ) → getD l 1 0 ≡ 9 → 2 ≤ length l
+        short [] e = absurd (omega arith)
+        short (a ∷ []) e = absurd (omega arith)
+        short (a ∷ (b ∷ l)) e = omega arith
+
+pub line-within : (s : List ℕ) (at end : ℕ) (r : Said) → r ≡ saysOf (columns s at end) → at ≤ end → end ≤ length s → Within (end - at) r
+line-within s at end r e h k = rw (e, ← length-columns s at end h k) (says-within (columns s at end))
+
+pub whole-within : (l : List ℕ) (r : Said) → r ≡ saysOf l → Within (length l) r
+whole-within l r e = rw e (says-within l)
+
+pub strict-placed : (s : List ℕ) (at end : ℕ) (r : Strict) → at ≤ end → end ≤ length s → r ≡ strictOf (columns s at end) → Placed (end - at) r
+strict-placed s at end r h k e = rw (e, ← length-columns s at end h k) (strict-inside (columns s at end))
+
+pub ruleset within = (line-within, whole-within, strict-placed)
+
+-- ---- a verdict
+
+pub finish-counted : (m : ℕ) (st : State) (r : Verdict) → r ≡ finish st → st .entries ≤ m → Counted m r
+unfolding finish closed
+finish-counted m st r e h = rw e (pick (eqb (st .section) 4) (eqb (st .run) 0))
+  where
+    pick : (a b : Bool) → Counted m (cond a (Good (st .entries)) (verdict (cond b (Off (sheetLine (st .line + 1))) (Off (sheetLine (st .run))))))
+    pick true b = h
+    pick false true = tt
+    pick false false = tt
+
+pub piece-counted : (m : ℕ) (st : State) (b : Bool) (r : Verdict) → r ≡ pieceVerdict st b → Counted m r
+piece-counted m st b r e =
+    let o = none-off st b in
+    rw (e, o .1) tt
+
+pub end-counted : (s : List ℕ) (at n : ℕ) (st : State) (r : Verdict) → r ≡ finish st → st .entries ≤ st .line → st .line ≤ at → at ≤ n → n ≡ length s → Counted (length s) r
+end-counted s at n st r e a b c d = finish-counted (length s) st r e (omega arith)
+
+pub ruleset counts = (piece-counted, end-counted)

@@ -1,0 +1,14 @@
+pub mod Plains
+pub mod Entries
+pub mod Steps
+pub mod Machine
+pub mod Digits
+pub mod Round
+pub mod Spellings
+pub mod Says
+pub mod Taken
+pub mod Takes
+pub mod Walk
+pub mod Sheets
+pub mod Written
+pub mod Bounds

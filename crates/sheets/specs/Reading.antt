@@ -1,0 +1,40 @@
+-- How the code goes about it: a line's step is told by what was read of it, and a piece with no LF by its first byte.
+use mathlib.Core.Bool.{Bool}
+use Prim.Native.Nat.{ℕ, _-_, _≤_}
+use Rattle.values.specs.Writing.{Inside}
+use Rattle.records.specs.Global.{firstField, lastField}
+use Rattle.sheets.specs.declared.Said.{Said}
+use Rattle.sheets.specs.declared.Said.the-variants.{Start, Global, Entry, Value as Given, Last, Nothing}
+use Rattle.sheets.specs.declared.State.{State}
+use Rattle.sheets.specs.declared.Step.{Step}
+use Rattle.sheets.specs.declared.Verdict.{Verdict}
+use Rattle.sheets.specs.declared.Verdict.the-variants.{Good, Wrong}
+use Rattle.sheets.specs.Sheet.{isMissing}
+use Rattle.sheets.specs.Order.{startStep, globalStep, entryStep, valueStep, lastStep, noneStep, verdict}
+
+-- the step of a line, without the line
+abbrev pub stepSaid : State → Said → Step
+stepSaid st Start = startStep st
+stepSaid st (Global n at v) = globalStep st n
+stepSaid st (Entry known n x) = entryStep st n
+stepSaid st (Given reference v) = valueStep st (isMissing v)
+stepSaid st (Last n) = lastStep st n
+stepSaid st (Nothing b) = noneStep st b
+
+-- the verdict where a piece stands behind the last line
+abbrev pub pieceVerdict : State → Bool → Verdict
+pieceVerdict st b = verdict (noneStep st b)
+
+-- what a line of n bytes says stands in it: a text, a value, an entry's label; a Global field has its number
+abbrev pub Within : ℕ → Said → Type 0
+Within n Start = 2 ≤ n
+Within n (Global m at v) = (firstField ≤ m) × (m ≤ lastField) × (at ≤ n) × Inside (n - at) v
+Within n (Entry known m x) = 8 ≤ n
+Within n (Given reference v) = (2 ≤ n) × Inside (n - 2) v
+Within n (Last m) = Unit {0}
+Within n (Nothing b) = Unit {0}
+
+-- at most n entries
+abbrev pub Counted : ℕ → Verdict → Type 0
+Counted n (Good m) = m ≤ n
+Counted n (Wrong w) = Unit {0}

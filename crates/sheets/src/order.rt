@@ -1,0 +1,227 @@
+// The order of a sheet's lines: what each line does to the state, and the verdict at the end.
+use crate::Said;
+use crate::State;
+use crate::Step;
+use crate::Verdict;
+use columns::SheetLine;
+use columns::Signed;
+use values::Value;
+ghost use mathlib.Core.Path.{_≡_};
+ghost use mathlib.Core.Bool.{Bool, true, false};
+ghost use Prim.Native.Nat.{ℕ, _+_, _*_, _^_, _≤_, _<_};
+ghost use Rattle.sheets.specs.Sheet.{isMissing};
+ghost use Rattle.sheets.specs.Order.{startStep, globalStep, entryStep, valueStep, lastStep, noneStep, finish};
+ghost use Rattle.sheets.specs.Reading.{stepSaid, pieceVerdict};
+
+fn start_step(st: State) -> Step
+    requires { ⌜ st .line < 2 ^ 63 ⌝ }
+    ensures { λ r. ⌜ r ≡ startStep st ⌝ }
+{
+    if st.run != 0 {
+        return Step::Off(SheetLine(st.run));
+    }
+    if 1 < st.section {
+        return Step::Off(SheetLine(st.line + 1));
+    }
+    Step::On(State {
+        section: 1,
+        field: st.field,
+        entries: st.entries,
+        run: 0,
+        line: st.line + 1,
+    })
+}
+
+// G numbers rise.
+fn global_step(st: State, n: u32) -> Step
+    requires { ⌜ st .line < 2 ^ 63 ⌝ }
+    ensures { λ r. ⌜ r ≡ globalStep st n ⌝ }
+{
+    if st.run != 0 {
+        return Step::Off(SheetLine(st.run));
+    }
+    if st.section < 1 {
+        return Step::Off(SheetLine(st.line + 1));
+    }
+    if 2 < st.section {
+        return Step::Off(SheetLine(st.line + 1));
+    }
+    if n <= st.field {
+        return Step::Off(SheetLine(st.line + 1));
+    }
+    Step::On(State {
+        section: 2,
+        field: n,
+        entries: st.entries,
+        run: 0,
+        line: st.line + 1,
+    })
+}
+
+// Directory numbers are 1, 3, 5 on.
+fn entry_step(st: State, x: Signed) -> Step
+    requires { ⌜ (st .line < 2 ^ 63) × (st .entries ≤ st .line) ⌝ }
+    ensures { λ r. ⌜ r ≡ entryStep st x ⌝ }
+{
+    if st.run != 0 {
+        return Step::Off(SheetLine(st.run));
+    }
+    if st.section < 1 {
+        return Step::Off(SheetLine(st.line + 1));
+    }
+    if 3 < st.section {
+        return Step::Off(SheetLine(st.line + 1));
+    }
+    if x.neg {
+        return Step::Off(SheetLine(st.line + 1));
+    }
+    if x.size as usize != 2 * st.entries + 1 {
+        return Step::Off(SheetLine(st.line + 1));
+    }
+    Step::On(State {
+        section: 3,
+        field: st.field,
+        entries: st.entries + 1,
+        run: 0,
+        line: st.line + 1,
+    })
+}
+
+// Values may not end with a default: the first of such a run is remembered.
+fn value_step(st: State, default: bool) -> Step
+    requires { ⌜ st .line < 2 ^ 63 ⌝ }
+    ensures { λ r. ⌜ r ≡ valueStep st default ⌝ }
+{
+    let line = st.line + 1;
+    if st.section != 3 {
+        return Step::Off(SheetLine(line));
+    }
+    if default {
+        if st.run == 0 {
+            return Step::On(State {
+                section: 3,
+                field: st.field,
+                entries: st.entries,
+                run: line,
+                line,
+            });
+        }
+        return Step::On(State {
+            section: 3,
+            field: st.field,
+            entries: st.entries,
+            run: st.run,
+            line,
+        });
+    }
+    Step::On(State {
+        section: 3,
+        field: st.field,
+        entries: st.entries,
+        run: 0,
+        line,
+    })
+}
+
+// The Z line counts the entries.
+fn last_step(st: State, n: usize) -> Step
+    requires { ⌜ st .line < 2 ^ 63 ⌝ }
+    ensures { λ r. ⌜ r ≡ lastStep st n ⌝ }
+{
+    if st.run != 0 {
+        return Step::Off(SheetLine(st.run));
+    }
+    if st.section < 1 {
+        return Step::Off(SheetLine(st.line + 1));
+    }
+    if 3 < st.section {
+        return Step::Off(SheetLine(st.line + 1));
+    }
+    if n != st.entries {
+        return Step::Off(SheetLine(st.line + 1));
+    }
+    Step::On(State {
+        section: 4,
+        field: st.field,
+        entries: st.entries,
+        run: 0,
+        line: st.line + 1,
+    })
+}
+
+fn none_step(st: State, b: bool) -> Step
+    requires { ⌜ st .line < 2 ^ 63 ⌝ }
+    ensures { λ r. ⌜ r ≡ noneStep st b ⌝ }
+{
+    let line = st.line + 1;
+    if b {
+        return Step::Off(SheetLine(line));
+    }
+    if st.run != 0 {
+        return Step::Off(SheetLine(st.run));
+    }
+    Step::Off(SheetLine(line))
+}
+
+// Whether a value is missing.
+pub fn is_missing(v: Value) -> bool
+    ensures { λ r. ⌜ r ≡ isMissing v ⌝ }
+{
+    match v {
+        Value::Default => true,
+        Value::Whole { .. } => false,
+        Value::Real { .. } => false,
+        Value::Text { .. } => false,
+    }
+}
+
+// What a line does.
+pub fn step_line(st: State, x: Said) -> Step
+    requires { ⌜ (st .line < 2 ^ 63) × (st .entries ≤ st .line) ⌝ }
+    ensures { λ r. ⌜ r ≡ stepSaid st x ⌝ }
+{
+    match x {
+        Said::Start => start_step(st),
+        Said::Global {
+            number,
+            at: _,
+            value: _,
+        } => global_step(st, number),
+        Said::Entry {
+            known: _,
+            number,
+            fields: _,
+        } => entry_step(st, number),
+        Said::Value {
+            reference: _,
+            value,
+        } => value_step(st, is_missing(value)),
+        Said::Last(n) => last_step(st, n),
+        Said::Nothing(b) => none_step(st, b),
+    }
+}
+
+// The verdict where the sheet has ended.
+pub fn finish_of(st: State) -> Verdict
+    requires { ⌜ st .line < 2 ^ 63 ⌝ }
+    ensures { λ r. ⌜ r ≡ finish st ⌝ }
+{
+    if st.section == 4 {
+        return Verdict::Good(st.entries);
+    }
+    if st.run != 0 {
+        return Verdict::Wrong(SheetLine(st.run));
+    }
+    Verdict::Wrong(SheetLine(st.line + 1))
+}
+
+// The verdict where a piece with no LF stands behind the last line; b tells whether it begins as a value line does.
+pub fn wrong_piece(st: State, b: bool) -> Verdict
+    requires { ⌜ st .line < 2 ^ 63 ⌝ }
+    ensures { λ r. ⌜ r ≡ pieceVerdict st b ⌝ }
+{
+    match none_step(st, b) {
+        Step::On(x) => Verdict::Good(x.entries),
+        Step::Off(w) => Verdict::Wrong(w),
+    }
+}
