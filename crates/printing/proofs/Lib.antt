@@ -1,0 +1,10 @@
+pub mod Texts
+pub mod Taken
+pub mod Valued
+pub mod Started
+pub mod Given
+pub mod Rowed
+pub mod Wholes
+pub mod Listed
+pub mod Demand
+pub mod Opened

@@ -1,0 +1,14 @@
+-- A record that ends with its opening has no fields.
+use borrow.Author.Needs.{needs}
+use Rattle.printing.proofs.Wholes.{wholes}
+use Rattle.printing.proofs.sheet.put_fields.Statement.{statement}
+use Rattle.printing.proofs.sheet.put_fields.Tie as tie
+
+pub put-fields-spec : {M : Type 1} → statement M
+put-fields-spec =
+    tie.close
+    (tie.spec
+    (λ c. search (needs, wholes))
+    (λ c κs. search (needs, wholes))
+    (λ c. search (needs, wholes))
+    (λ c. search (needs, wholes)))

@@ -1,0 +1,229 @@
+// The lines of the entries: for each the entry line and its values, then the Z line.
+use crate::carried::put_values;
+use cards::LINE_BYTES;
+use columns::DirectoryNumber;
+use directory::EntryRead;
+use directory::Fields;
+use directory::lines::entry_at;
+use directory::lines::label_at;
+use layouts::list::known;
+use sheets::writing::put_entry;
+use sheets::writing::put_last;
+ghost use mathlib.Core.Bool.{false};
+ghost use mathlib.Core.Path.{_≡_};
+ghost use mathlib.Core.List.{[], _∷_, _++_};
+ghost use Prim.Native.Nat.{ℕ, _+_, _-_, _*_, _^_, _≤_, _<_};
+ghost use lib.ListN.{length};
+ghost use Rattle.columns.specs.Columns.{textOf};
+ghost use Rattle.columns.specs.Laid.{Wrote};
+ghost use Rattle.records.specs.Record.{valuesAt};
+ghost use Rattle.records.specs.Reading.{Stands};
+ghost use Rattle.directory.specs.Lines.{labelAt};
+ghost use Rattle.layouts.specs.Known.{known};
+ghost use Rattle.sheets.specs.Plain.{sized};
+ghost use Rattle.sheets.specs.Sheet.{Line, lineOf};
+ghost use Rattle.entities.specs.Naming.{typesAt};
+ghost use Rattle.entities.specs.Marks.{carriedIn};
+ghost use Rattle.printing.specs.Bytes.{entityBytes};
+ghost use Rattle.printing.specs.Rows.{speltBytes, rowBytes, rowsBytes};
+
+// The columns of a label.
+const LABEL: usize = 8;
+
+// The entry line of the entry whose first D line is line k: its label stands in the file.
+fn put_entry_line(
+    out: &mut [u8],
+    at: usize,
+    list: u64,
+    file: &[u8],
+    k: usize,
+    number: DirectoryNumber,
+    x: Fields,
+) -> usize
+    requires { ⌜ (81 * k + 162 ≤ length (now file)) × (at < 2 ^ 59) ⌝ }
+    ensures { λ r. ⌜ Wrote (now (out .entry)) at (lineOf (Line.entry (known list (x .entity .size) (x .form .size)) (sized false (number .0)) x (labelAt (now (file .entry)) k)) ++ (10 ∷ [])) (now (out .exit)) r ⌝ }
+    ensures { λ r. ⌜ r ≤ at + 388 ⌝ }
+{
+    let entity = x.entity;
+    let form = x.form;
+    let e = known(list, entity.size, form.size);
+    let from = label_at(k);
+    let end = from + LABEL;
+    put_entry(out, at, e, number, x, &file[from..end])
+}
+
+// The entry whose first D line is line k, its record in so many P lines from base on.
+pub fn put_entity(
+    out: &mut [u8],
+    at: usize,
+    list: u64,
+    file: &[u8],
+    k: usize,
+    number: DirectoryNumber,
+    x: Fields,
+    base: usize,
+    lines: usize,
+    c: u8,
+    d: u8,
+    first: usize,
+    n: usize,
+) -> usize
+    requires { ⌜ Stands (now file) base 64 lines × (0 < c) × (0 < d) × (81 * (first + 2 * n) ≤ length (now file)) × (81 * k + 162 ≤ length (now file)) × (at < 2 ^ 57) ⌝ }
+    ensures { λ r. ⌜ Wrote (now (out .entry)) at (entityBytes list (typesAt (now (file .entry)) first n) (number .0) x (labelAt (now (file .entry)) k) (carriedIn (valuesAt 64 c d (textOf (now (file .entry)) base 64 lines) 0))) (now (out .exit)) r ⌝ }
+    ensures { λ r. ⌜ r ≤ at + 388 + 70400 * lines ⌝ }
+{
+    let entity = x.entity;
+    let form = x.form;
+    let a = put_entry_line(out, at, list, file, k, number, x);
+    put_values(
+        out,
+        a,
+        list,
+        file,
+        base,
+        lines,
+        c,
+        d,
+        entity.size,
+        form.size,
+        first,
+        n,
+    )
+}
+
+// The directory number of entry i.
+fn number_of(i: usize) -> DirectoryNumber
+    requires { ⌜ i < 2 ^ 30 ⌝ }
+    ensures { λ r. ⌜ r .0 ≡ 2 * i + 1 ⌝ }
+{
+    let n = i as u32;
+    DirectoryNumber(2 * n + 1)
+}
+
+// How many P lines stand before the one with this number.
+fn before(number: u32) -> usize
+    ensures { λ r. ⌜ (r ≡ number - 1) × (r < 2 ^ 32) ⌝ }
+{
+    if number == 0 {
+        return 0;
+    }
+    (number - 1) as usize
+}
+
+fn wide(n: u32) -> usize
+    ensures { λ r. ⌜ (r ≡ n) × (r < 2 ^ 32) ⌝ }
+{
+    n as usize
+}
+
+// Entry i as its D lines tell it, if its P lines stand in the file.
+fn put_spelt(
+    out: &mut [u8],
+    at: usize,
+    list: u64,
+    file: &[u8],
+    first: usize,
+    n: usize,
+    parameters: usize,
+    c: u8,
+    d: u8,
+    i: usize,
+    x: Fields,
+    pointer: u32,
+    count: u32,
+) -> usize
+    requires { ⌜ (length (now file) ≤ 16200000) × (0 < c) × (0 < d) × (81 * (first + 2 * n) ≤ length (now file)) × (i < n) × (parameters ≤ 200000) × (at < 2 ^ 57) ⌝ }
+    ensures { λ r. ⌜ Wrote (now (out .entry)) at (speltBytes list (now (file .entry)) first n parameters c d i x pointer count) (now (out .exit)) r ⌝ }
+    ensures { λ r. ⌜ r ≤ at + 15000000000 ⌝ }
+{
+    let b = before(pointer);
+    let lines = wide(count);
+    let base = LINE_BYTES * (parameters + b);
+    let end = base + lines * LINE_BYTES;
+    if file.len() < end {
+        return at;
+    }
+    let k = first + 2 * i;
+    let number = number_of(i);
+    put_entity(
+        out,
+        at,
+        list,
+        file,
+        k,
+        number,
+        x,
+        base,
+        lines,
+        c,
+        d,
+        first,
+        n,
+    )
+}
+
+// Entry i.
+fn put_row(
+    out: &mut [u8],
+    at: usize,
+    list: u64,
+    file: &[u8],
+    first: usize,
+    n: usize,
+    parameters: usize,
+    c: u8,
+    d: u8,
+    i: usize,
+) -> usize
+    requires { ⌜ (length (now file) ≤ 16200000) × (0 < c) × (0 < d) × (81 * (first + 2 * n) ≤ length (now file)) × (i < n) × (parameters ≤ 200000) × (at < 2 ^ 57) ⌝ }
+    ensures { λ r. ⌜ Wrote (now (out .entry)) at (rowBytes list (now (file .entry)) first n parameters c d i) (now (out .exit)) r ⌝ }
+    ensures { λ r. ⌜ r ≤ at + 15000000000 ⌝ }
+{
+    match entry_at(file, first + 2 * i) {
+        EntryRead::Wrong => at,
+        EntryRead::Spelt {
+            fields,
+            pointer,
+            lines,
+        } => put_spelt(
+            out,
+            at,
+            list,
+            file,
+            first,
+            n,
+            parameters,
+            c,
+            d,
+            i,
+            fields,
+            pointer.0,
+            lines,
+        ),
+    }
+}
+
+// All n entries, the first D line of the first being line first and the first P line line parameters, and the Z line.
+pub fn put_rows(
+    out: &mut [u8],
+    at: usize,
+    list: u64,
+    file: &[u8],
+    first: usize,
+    n: usize,
+    parameters: usize,
+    c: u8,
+    d: u8,
+) -> usize
+    requires { ⌜ (length (now file) ≤ 16200000) × (0 < c) × (0 < d) × (81 * (first + 2 * n) ≤ length (now file)) × (parameters ≤ 200000) × (at < 2 ^ 56) ⌝ }
+    ensures { λ r. ⌜ Wrote (now (out .entry)) at (rowsBytes list (now (file .entry)) first n parameters c d 0 n ++ (lineOf (Line.last n) ++ (10 ∷ []))) (now (out .exit)) r ⌝ }
+    ensures { λ r. ⌜ r ≤ at + 15000000000 * n + 23 ⌝ }
+{
+    let mut next = at;
+    let mut i = 0;
+    while i < n {
+        next = put_row(out, next, list, file, first, n, parameters, c, d, i);
+        i += 1;
+    }
+    put_last(out, next, n)
+}

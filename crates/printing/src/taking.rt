@@ -1,0 +1,43 @@
+// The values of a record, one after the other, within their limits.
+use entities::Taken;
+use records::Got;
+use records::reading::value_at;
+use values::Value;
+ghost use mathlib.Core.Path.{_≡_};
+ghost use Prim.Native.Nat.{ℕ, _*_, _≤_, _<_};
+ghost use Rattle.columns.specs.Columns.{textOf};
+ghost use Rattle.records.specs.Record.{valueAt};
+ghost use Rattle.records.specs.Reading.{Stands, Writable};
+ghost use Rattle.entities.specs.Taking.{takenOf};
+
+// A value that was read. A refused one stands for a default: a record that was checked has none.
+fn taken_of(g: Got) -> Taken
+    ensures { λ r. ⌜ r ≡ takenOf g ⌝ }
+{
+    match g {
+        Got::Found {
+            value,
+            start: _,
+            next,
+            last: _,
+        } => Taken { value, next },
+        Got::Refused {
+            fault: _,
+            start: _,
+            at,
+        } => Taken {
+            value: Value::Default,
+            next: at,
+        },
+    }
+}
+
+// The value from position q of a record on.
+pub fn value_from(file: &[u8], base: usize, w: usize, lines: usize, c: u8, d: u8, q: usize) -> Taken
+    requires { ⌜ Stands (now file) base w lines × (q ≤ lines * w) × (0 < c) × (0 < d) ⌝ }
+    ensures { λ r. ⌜ r ≡ takenOf (valueAt w c d (textOf (now (file .entry)) base w lines) q) ⌝ }
+    ensures { λ r. ⌜ (r .next ≤ lines * w) × Writable (lines * w) (r .value) ⌝ }
+{
+    let g = value_at(file, base, w, lines, c, d, q);
+    taken_of(g)
+}

@@ -1,0 +1,4 @@
+pub mod Entity
+pub mod Last
+pub mod Checking
+pub mod Facts

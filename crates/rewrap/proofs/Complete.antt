@@ -1,0 +1,185 @@
+-- A file that meets the rules is accepted. Assumes nothing.
+use mathlib.Core.Path.{_≡_, refl, sym, ap, _∙_}
+use mathlib.Core.Bool.{Bool, true, false, cond, not, _&&_}
+use mathlib.Core.List.{List, [], _∷_, map}
+use Prim.Native.Nat.{ℕ, zero, suc, _+_, _-_, _*_, _≤_, _<_}
+use native.Mathlib.Omega.{arith}
+use lib.ListN.{length, getD, drop}
+use lib.Seq.{ext-getD}
+use lib.Dec.{leb, eqb}
+use borrow.Author.Tests.{le-leb, ne-eqb, eq-eqb, leb-true}
+use Rattle.columns.specs.declared.Fault.{Fault}
+use Rattle.columns.specs.declared.Fault.the-variants.{ListOrLength, Directory, Macro, Reference, FirstValue}
+use Rattle.columns.specs.declared.SignedField.{SignedField}
+use Rattle.columns.specs.declared.SignedField.the-variants.{Number, Bad}
+use Rattle.columns.specs.Fixed.{signedOf}
+use Rattle.columns.specs.Refusal.{Outcome, accepted, refused, demand, eachAt, _then_}
+use Rattle.columns.proofs.Outcomes.{demand-true}
+use Rattle.values.specs.Value.{Item, default, whole}
+use Rattle.records.specs.declared.Opening.the-variants.{Opened}
+use Rattle.records.specs.Record.{Values, values, wrong, valuesAt, trimmed}
+use Rattle.records.specs.Global.{firstField, openingOf}
+use Rattle.records.proofs.Globals.{delimits, parameter-above, record-above}
+use Rattle.cards.specs.declared.Counts.{Counts}
+use Rattle.cards.specs.declared.CardsRead.the-variants.{Counted}
+use Rattle.cards.specs.Cards.{cardsOf, outcome, entries, entryLine, parameterLine}
+use Rattle.cards.specs.Rules.{Holds, Meets}
+use Rattle.cards.proofs.Complete.{rules}
+use Rattle.directory.specs.declared.Fields.{Fields}
+use Rattle.directory.specs.declared.EntryRead.{EntryRead}
+use Rattle.directory.specs.declared.EntryRead.the-variants.{Spelt, Wrong}
+use Rattle.directory.specs.Fields.{entryOf as directoryEntry}
+use Rattle.directory.specs.Lines.{slotIn, pointer, lines, positive, sizeOf, entryAt, labelAt, parameterLine as lineNumber}
+use Rattle.directory.specs.Rules.{rangesOk, entryRules, referenceRule, references, allFit}
+use Rattle.owners.specs.declared.Owned.the-variants.{Everyone}
+use Rattle.owners.specs.InFile.{sizeOr0, ownerIn, fromIn, countIn, ownersIn, outcome as ownershipOutcome}
+use Rattle.owners.specs.Rules.{In, Named, Owns}
+use Rattle.owners.proofs.Round.{owns-passes}
+use Rattle.layouts.specs.Known.{mostList, known}
+use Rattle.layouts.specs.Entities.{Entity, fault, verdict, entityCheck}
+use Rattle.layouts.specs.declared.Verdict.the-variants.{Good}
+use Rattle.sheets.specs.Sheet.{sheetText}
+use Rattle.model.specs.Model.{Carried, typeOf, entityOf, sheetOf}
+use Rattle.model.specs.Read.{Listed, Before, GlobalRead, globalRead, given, globalText, globalIn, isType, byEntry, entryIn, entriesIn, byParameters, parametersOf, entityIn, listedType, referencesOf, referencesIn, firstEntry, two, lastPass, modelWith, before, readModel, reads}
+use Rattle.passes.specs.declared.Pass.{Pass}
+use Rattle.passes.specs.declared.Pass.the-variants.{Good as Passes, Refused as Refuses}
+use Rattle.passes.specs.Passes.{passOf}
+use Rattle.passes.specs.Listed.{listedOf, listedAt, entryOf, allEntries, allTypes}
+use Rattle.passes.specs.Walks.{orElse, firstOf, entryCheck}
+use Rattle.passes.proofs.Facts.{pointer-same, lines-same}
+use Rattle.passes.proofs.Spellings.{Stood, stood, types-length, types-at}
+use Rattle.passes.proofs.Walks.{row-walk, entries-walk}
+use Rattle.passes.proofs.Whole.{good-entries}
+use Rattle.rewrap.specs.Rules.{Spells, GlobalIs, no-fields, fields, EntryIs, InRange, EntryMeets, MeetsRules}
+use Rattle.rewrap.proofs.Spelling.{is-read}
+use Rattle.rewrap.proofs.GlobalRules.{global-complete}
+use Rattle.rewrap.proofs.Sound.{taken}
+
+-- where each passes, all do
+all-good : (check : ℕ → Pass) (n i : ℕ) → ((j : ℕ) → i ≤ j → j < i + n → check j ≡ Passes) → firstOf check i n ≡ Passes
+unfolding firstOf
+all-good check zero i h = refl
+all-good check (suc n) i h = rw (h i (omega arith) (omega arith)) (all-good check n (i + 1) (λ j lo hi. h j (omega arith) (omega arith)))
+
+-- delimiters are no blanks
+above : (t : List ℕ) (p d : ℕ) (vs : List Item) → GlobalIs t p d vs → (0 < p) × (0 < d)
+above t p d vs (no-fields e b) =
+    let a = parameter-above 8 e (delimits t) in
+    let c = record-above 8 e (delimits t) in
+    (omega arith, omega arith)
+above t p d vs (fields e s b) =
+    let a = parameter-above 8 e (delimits t) in
+    let c = record-above 8 e (delimits t) in
+    (omega arith, omega arith)
+
+size-same : (x : SignedField) → positive x ≡ true → (sizeOf x ≡ sizeOr0 x) × (1 ≤ sizeOf x)
+unfolding sizeOr0
+size-same (Number x) h = by (x .neg) (leb 1 (x .size)) refl h
+  where
+    by : (n b : Bool) → leb 1 (x .size) ≡ b → not n && b ≡ true → (x .size ≡ cond n 0 (x .size)) × (1 ≤ x .size)
+    by false true e h = (refl, leb-true 1 (x .size) e)
+    by false false e h = let z : _≡_ {A = ℕ} 0 1 = cc in absurd (omega arith)
+    by true b e h = let z : _≡_ {A = ℕ} 0 1 = cc in absurd (omega arith)
+size-same Bad h = let z : _≡_ {A = ℕ} 0 1 = cc in absurd (omega arith)
+
+-- an entity that is known keeps to its layout
+checked : (list : ℕ) (types : List ℕ) (e : Entity) (p : ℕ) → (known list (e .typ) (e .form) ≡ true → verdict types e ≡ Good) → entityCheck list types e p ≡ accepted tt
+unfolding entityCheck
+checked list types e p h = by (known list (e .typ) (e .form)) h
+  where
+    by : (k : Bool) → (k ≡ true → verdict types e ≡ Good) → cond k (fault (verdict types e) p) (accepted tt) ≡ accepted tt
+    by true h = rw (h refl)
+    by false h = refl
+
+eqb-self : (n : ℕ) → eqb n n ≡ true
+eqb-self n = eq-eqb n n refl
+
+module _ (list : ℕ) (f : List ℕ) (r : MeetsRules list f) where
+  abbrev c : Counts
+  c = r .counts
+
+  abbrev g : GlobalRead
+  g = globalRead (r .parameter) (r .closing) (given firstField (r .globals))
+
+  -- entry i is what its lines say
+  listed : (i : ℕ) → i < entries c → entryOf f c i ≡ record { fields = r .entry i .fields; label = labelAt f (entryLine c i); pointer = r .entry i .pointer; lines = r .entry i .lines }
+  unfolding listedAt
+  listed i h = ap (listedOf (labelAt f (entryLine c i))) (r .entry-meets i h .spelt)
+
+  types-same : r .types ≡ allTypes f c
+  types-same =
+      ext-getD 0 (r .types) (allTypes f c) (r .types-length ∙ sym (types-length f c))
+      (λ i h. let l : i < entries c = omega (arith, r .types-length) in r .types-are i l ∙ (sym (ap listedType (listed i l)) ∙ sym (types-at f c i l)))
+
+  range-is : (i : ℕ) → i < entries c → (r .entry i .pointer ≡ fromIn f c i) × ((r .entry i .lines ≡ countIn f c i) × (1 ≤ r .entry i .pointer))
+  unfolding fromIn countIn
+  range-is i h =
+      let w = stood f (entryLine c i) (r .entry i .fields) (lineNumber (r .entry i .pointer)) (r .entry i .lines) (r .entry-meets i h .spelt) in
+      let a = size-same (signedOf (slotIn f (entryLine c i) pointer)) (w .from-some) in
+      let b = size-same (signedOf (slotIn f (entryLine c i) lines)) (w .count-some) in
+      let some = a .1 in
+      let from = w .from-is in
+      (w .from-is ∙ (a .0 ∙ sym (pointer-same f c i)), (w .count-is ∙ (b .0 ∙ sym (lines-same f c i)), omega arith))
+
+  owns : Owns (ownerIn f c) (fromIn f c) (countIn f c) (entries c) (c .p)
+  owns = record {
+    starts = λ i h. let q = range-is i h in let a = q .0 in let l = q .1 .1 in omega arith;
+    stays = λ i h. let q = range-is i h in let a = q .0 in let b = q .1 .0 in let s = r .entry-meets i h .inside in omega arith;
+    names = λ i k x. let q = range-is i (x .is) in let a = q .0 in let b = q .1 .0 in let lo = x .after in let hi = x .before in r .entry-meets i (x .is) .names k (omega arith, omega arith);
+    lines = λ k lo hi.
+        let o = r .owned k lo hi in
+        let q = range-is (o .0) (o .1 .0) in
+        let a = q .0 in
+        let b = q .1 .0 in
+        let low = o .1 .1 .1 .0 in
+        let high = o .1 .1 .1 .1 in
+        record { entry = o .0; name = o .1 .1 .0; has = record { is = o .1 .0; after = omega arith; before = omega arith } };
+  }
+
+  rules-pass : (i : ℕ) → i < entries c → entryCheck f c i ≡ Passes
+  unfolding entryCheck entryIn entryRules
+  rules-pass i h =
+      let m = r .entry-meets i h in
+      rw (m .spelt, m .ranges, ne-eqb (r .entry i .fields .entity .size) 306 (m .no-macro))
+
+  entries-pass : passOf (entriesIn f c) ≡ Passes
+  entries-pass = entries-walk f c ∙ all-good (entryCheck f c) (entries c) 0 (λ j lo hi. rules-pass j (omega arith))
+
+  references-pass : passOf (referencesIn c (allEntries f c)) ≡ Passes
+  unfolding referencesIn referenceRule
+  references-pass =
+      row-walk (referencesOf (allTypes f c)) (entryOf f c) (firstEntry c) (entries c) 0 (firstEntry c) (omega arith)
+      ∙ all-good (λ j. passOf (referencesOf (allTypes f c) (firstEntry c + 2 * j) (entryOf f c j))) (entries c) 0
+      (λ j lo hi. let h : j < entries c = omega arith in rw (listed j h, ← types-same, r .entry-meets j h .references-fit))
+
+  -- the values of entry i are read, and pass
+  values-pass : (i : ℕ) (p : ℕ) → i < entries c → passOf (entityIn list f c g (allTypes f c) p (entryOf f c i)) ≡ Passes
+  unfolding entityIn
+  values-pass i p h =
+      let m = r .entry-meets i h in
+      let a = above (globalText f c) (r .parameter) (r .closing) (r .globals) (r .global) in
+      let e : valuesAt 64 (r .parameter) (r .closing) (parametersOf f c (entryOf f c i)) 0 ≡ values (whole false (typeOf (r .entry i .fields)) ∷ m .values) (m .end) =
+      rw (listed i h) (is-read 64 (r .parameter) (r .closing) _ (a .0) (a .1) (omega arith) (m .spells)) in
+      rw e (rw (listed i h, ← types-same) (rw (eqb-self (typeOf (r .entry i .fields)), checked list (r .types) (entityOf (r .entry i .fields) (trimmed (m .values))) p (m .layout))))
+
+  last-passes : passOf (lastPass list f c g (allEntries f c)) ≡ Passes
+  unfolding lastPass
+  last-passes =
+      row-walk (entityIn list f c g (allTypes f c)) (entryOf f c) (firstEntry c) (entries c) 0 (firstEntry c) (omega arith)
+      ∙ all-good (λ j. passOf (entityIn list f c g (allTypes f c) (firstEntry c + 2 * j) (entryOf f c j))) (entries c) 0
+      (λ j lo hi. values-pass j (firstEntry c + 2 * j) (omega arith))
+
+  before-accepts : before f ≡ accepted (record { counts = c; global = g; listed = allEntries f c })
+  unfolding before
+  before-accepts =
+      let u = taken (referencesIn c (allEntries f c)) references-pass in
+      rw (rules f c .1 (r .lines), global-complete f c (r .lines .holds) (r .parameter) (r .closing) (r .globals) (r .global) (r .global-fits), good-entries f c entries-pass, u .1, owns-passes f c owns)
+
+  accepts-with : (ys : List Carried) → lastPass list f c g (allEntries f c) ≡ accepted ys → reads list f ≡ accepted (sheetText (sheetOf list (modelWith f c g ys)))
+  unfolding reads readModel
+  accepts-with ys h = rw (le-leb list mostList (r .list-ok), before-accepts, h)
+
+  pub complete-rules : (s : List ℕ) × (reads list f ≡ accepted s)
+  complete-rules =
+      let y = taken (lastPass list f c g (allEntries f c)) last-passes in
+      (sheetText (sheetOf list (modelWith f c g (y .0))), accepts-with (y .0) (y .1))
