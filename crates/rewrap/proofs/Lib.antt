@@ -6,3 +6,6 @@ pub mod GlobalRules
 pub mod Sound
 pub mod Complete
 pub mod Exactly
+pub mod Reading
+pub mod ReadingAnswers
+pub mod Numbers

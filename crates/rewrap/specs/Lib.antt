@@ -3,3 +3,4 @@ pub mod Answers
 pub mod Demands
 pub mod Cases
 pub mod Chair
+pub mod Reading

@@ -1,6 +1,14 @@
 // The two ways of the desk: a file to its sheet, and a sheet to its canonical file; the lent table of records and the name lookup.
+mod answers;
+mod sheet;
+
+use columns::Fault;
 use columns::ParameterLine;
 use directory::Entry;
+use reading::Checked;
+ghost use mathlib.Core.Path.{_≡_};
+ghost use lib.ListN.{length};
+ghost use Rattle.rewrap.specs.Answers.{answerOf, leftIn, readsInto};
 
 // Accepted: number 0 and the length. Refused: the paper's number and the place, length 0.
 #[repr(C)]
@@ -16,4 +24,31 @@ pub struct Record {
     pub label: [u8; 8],
     pub pointer: ParameterLine,
     pub lines: u32,
+}
+
+// The sheet of a file under a list. It is measured first, since a refusal changes no byte of out.
+pub fn read(list: u64, file: &[u8], out: &mut [u8]) -> Answer
+    ensures { λ r. ⌜ r ≡ answerOf (readsInto list (now (file .entry)) (length (now (out .entry)))) ⌝ }
+    ensures { λ r. ⌜ now (out .exit) ≡ leftIn (now (out .entry)) (readsInto list (now (file .entry)) (length (now (out .entry)))) ⌝ }
+{
+    let told = reading::check(list, file);
+    match told {
+        Checked::Refused { fault, line } => answers::refusal(fault, line.0),
+        Checked::Good {
+            counts,
+            parameter,
+            closing,
+        } => {
+            let length = sheet::measure(list, file, counts, parameter, closing);
+            if out.len() < length {
+                return answers::refusal(Fault::Room, 0);
+            }
+            let end = sheet::put_file(out, list, file, counts, parameter, closing);
+            Answer {
+                number: 0,
+                place: 0,
+                length: end as u64,
+            }
+        }
+    }
 }

@@ -1,0 +1,14 @@
+// What C and C++ call; include/szelmikra.h declares it. Each function is the proved one of `rewrap` under a plain name.
+use rewrap::Answer;
+ghost use mathlib.Core.Path.{_≡_};
+ghost use lib.ListN.{length};
+ghost use Rattle.rewrap.specs.Answers.{answerOf, leftIn, readsInto};
+
+// Reads a file to its sheet.
+#[no_mangle]
+pub extern "C" fn szelmikra_read(list: u64, file: &[u8], sheet: &mut [u8]) -> Answer
+    ensures { λ r. ⌜ r ≡ answerOf (readsInto list (now (file .entry)) (length (now (sheet .entry)))) ⌝ }
+    ensures { λ r. ⌜ now (sheet .exit) ≡ leftIn (now (sheet .entry)) (readsInto list (now (file .entry)) (length (now (sheet .entry)))) ⌝ }
+{
+    rewrap::read(list, file, sheet)
+}
