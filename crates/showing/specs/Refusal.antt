@@ -1,0 +1,8 @@
+-- The line of a refusal, over its number.
+use mathlib.Core.List.{List, [], _∷_, _++_}
+use Prim.Native.Nat.{ℕ}
+use Rattle.columns.specs.Decimal.{dec}
+
+-- X, number, place, parted by tabs, then LF
+unfoldable pub refusalLine : ℕ → ℕ → List ℕ
+refusalLine number place = 88 ∷ (9 ∷ (dec number ++ (9 ∷ (dec place ++ (10 ∷ [])))))
