@@ -1,4 +1,4 @@
-/* Szelmikra: IGES 4.0 files to sheets, proved to lose nothing.
+/* Szelmikra: IGES 4.0 files to sheets. The function is proved to meet its contract; this header is not checked against it.
  *
  * The archive is for x86-64. Slices are a pointer and a length; an empty one may have any pointer that is not null. The input
  * and the output must not overlap.
