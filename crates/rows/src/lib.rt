@@ -1,0 +1,1 @@
+// A sheet's lines taken as its entries: laws alone.

@@ -1,0 +1,68 @@
+// One vector tried.
+use crate::room::fill;
+use crate::room::untouched;
+use columns::look::same;
+use rewrap::Answer;
+ghost use mathlib.Core.Path.{_≡_};
+ghost use Prim.Native.Nat.{_≤_};
+ghost use lib.ListN.{length};
+
+// Whether an answer is the expected one, with this length.
+fn is_answer(a: Answer, number: u64, place: u64, length: usize) -> bool {
+    if a.number != number {
+        return false;
+    }
+    if a.place != place {
+        return false;
+    }
+    a.length == length as u64
+}
+
+// Whether the expected bytes stand at the start of out, and nothing else was changed.
+fn holds(out: &[u8], expected: &[u8]) -> bool {
+    let n = expected.len();
+    if out.len() < n {
+        return false;
+    }
+    if !same(&out[..n], expected) {
+        return false;
+    }
+    untouched(out, n)
+}
+
+// Whether reading gives the expected answer and the expected bytes; a refusal has none.
+pub fn reads(
+    list: u64,
+    number: u64,
+    place: u64,
+    input: &[u8],
+    expected: &[u8],
+    out: &mut [u8],
+) -> bool
+    ensures { λ _. ⌜ length (now (out .exit)) ≡ length (now (out .entry)) ⌝ }
+{
+    fill(out);
+    let told = rewrap::read(list, input, out);
+    if !is_answer(told, number, place, expected.len()) {
+        return false;
+    }
+    holds(out, expected)
+}
+
+// Whether a buffer that is one byte too short gives 16 and stays as it was.
+pub fn reads_short(list: u64, input: &[u8], room: usize, out: &mut [u8]) -> bool
+    ensures { λ _. ⌜ length (now (out .exit)) ≡ length (now (out .entry)) ⌝ }
+{
+    if room == 0 {
+        return true;
+    }
+    if out.len() < room {
+        return false;
+    }
+    fill(out);
+    let told = rewrap::read(list, input, &mut out[..room - 1]);
+    if !is_answer(told, 16, 0, 0) {
+        return false;
+    }
+    untouched(out, 0)
+}

@@ -1,0 +1,119 @@
+// Tries the vectors of the pack at standard input, and says how many of them passed; those that did not are named.
+use trying::Packed;
+use trying::pack::vector_at;
+use trying::vector::reads;
+use trying::vector::reads_short;
+ghost use mathlib.Core.Path.{_≡_};
+ghost use Prim.Native.Nat.{_≤_};
+ghost use lib.ListN.{length};
+
+// More than the pack takes.
+const PACK: usize = 524288;
+
+// What a vector asks for.
+const READ: u64 = 0;
+
+// How many vectors were tried, and how many passed.
+struct Tally {
+    tried: u64,
+    passed: u64,
+}
+
+// Names a vector that did not pass.
+fn blame(name: &[u8]) {
+    io::write_all(1, b"not passed: ");
+    io::write_all(1, name);
+    io::write_all(1, b"\n");
+}
+
+// Whether a vector passes: in a buffer that is long enough, and in one that is a byte too short.
+fn passes(
+    op: u64,
+    list: u64,
+    number: u64,
+    place: u64,
+    input: &[u8],
+    expected: &[u8],
+    out: &mut [u8],
+) -> bool
+    ensures { λ _. ⌜ length (now (out .exit)) ≡ length (now (out .entry)) ⌝ }
+{
+    if op != READ {
+        return false;
+    }
+    if !reads(list, number, place, input, expected, out) {
+        return false;
+    }
+    reads_short(list, input, expected.len(), out)
+}
+
+// 1 for a vector that passes, 0 for one that is named.
+fn score(
+    op: u64,
+    list: u64,
+    number: u64,
+    place: u64,
+    name: &[u8],
+    input: &[u8],
+    expected: &[u8],
+    out: &mut [u8],
+) -> u64
+    ensures { λ r. ⌜ r ≤ 1 ⌝ }
+    ensures { λ _. ⌜ length (now (out .exit)) ≡ length (now (out .entry)) ⌝ }
+{
+    if passes(op, list, number, place, input, expected, out) {
+        return 1;
+    }
+    blame(name);
+    0
+}
+
+// All vectors of a pack.
+fn all(p: &[u8], out: &mut [u8]) -> Tally {
+    let mut tried: u64 = 0;
+    let mut passed: u64 = 0;
+    let mut at = 0;
+    while at < p.len() {
+        match vector_at(p, at) {
+            Packed::Broken => {
+                blame(b"a broken pack");
+                return Tally { tried, passed };
+            }
+            Packed::Vector {
+                op,
+                list,
+                number,
+                place,
+                name,
+                input,
+                output,
+                end,
+            } => {
+                passed += score(
+                    op,
+                    list,
+                    number,
+                    place,
+                    &p[name..input],
+                    &p[input..output],
+                    &p[output..end],
+                    out,
+                );
+                tried += 1;
+                at = end;
+            }
+        }
+    }
+    Tally { tried, passed }
+}
+
+fn main() {
+    let mut pack = [0u8; PACK];
+    let n = io::read_full(0, &mut pack);
+    let mut out = io::large_buffer();
+    let tally = all(&pack[..n], &mut out);
+    io::print_decimal(1, tally.passed);
+    io::write_all(1, b" of ");
+    io::print_decimal(1, tally.tried);
+    io::write_all(1, b" vectors passed\n");
+}
