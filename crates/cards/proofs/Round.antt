@@ -41,7 +41,7 @@ print-zeros n = print-right 48 7 (dec n) (omega arith) (omega arith) (print-digi
 
 -- ---- a line that was written
 
-all-append : {P : List ℕ → Type 0} {a b : List (List ℕ)} → All P a → All P b → All P (a ++ b)
+pub all-append : {P : List ℕ → Type 0} {a b : List (List ℕ)} → All P a → All P b → All P (a ++ b)
 all-append none q = q
 all-append (one p ps) q = one p (all-append ps q)
 

@@ -36,7 +36,7 @@ text-of f w narrow (x ∷ xs) k h =
         let x : k + 1 + i ≡ k + suc i = omega arith in
         rw x e
 
-whole : (x : List ℕ) → Body x → columns x 0 72 ≡ x
+pub whole : (x : List ℕ) → Body x → columns x 0 72 ≡ x
 unfolding columns
 whole x b = rw sub-zero (take-all 72 x (omega (arith, b .wide)))
 

@@ -67,7 +67,7 @@ pub record Ruled (x : Fields) : Type 0 where
   pub ranges : rangesOk x ≡ true
   pub no-macro : typeOf x ≡ 306 → ⊥
 
-rules-of : (x : Fields) (p : ℕ) (u : Unit {0}) → entryRules x p ≡ accepted u → Ruled x
+pub rules-of : (x : Fields) (p : ℕ) (u : Unit {0}) → entryRules x p ≡ accepted u → Ruled x
 unfolding entryRules
 rules-of x p u h =
     let b = then-accepted (demand (rangesOk x) Directory p) _ u h in
@@ -99,7 +99,7 @@ pub record Valued (list : ℕ) (types : List ℕ) (x : Fields) (c d : ℕ) (t : 
   pub layout : known list (typeOf x) (x .form .size) ≡ true → verdict types (entityOf x (trimmed items)) ≡ Good
 
 -- the first value is the type
-first-is : (typ : ℕ) (vs : List Item) → isType typ (getD vs 0 default) ≡ true → vs ≡ whole false typ ∷ drop 1 vs
+pub first-is : (typ : ℕ) (vs : List Item) → isType typ (getD vs 0 default) ≡ true → vs ≡ whole false typ ∷ drop 1 vs
 first-is typ [] h = let z : _≡_ {A = ℕ} 0 1 = cc in absurd (never z)
 first-is typ (default ∷ vs) h = let z : _≡_ {A = ℕ} 0 1 = cc in absurd (never z)
 first-is typ (whole true n ∷ vs) h = let z : _≡_ {A = ℕ} 0 1 = cc in absurd (never z)
@@ -112,7 +112,7 @@ good-verdict Good p u h = refl
 good-verdict Layout p u h = let z : _≡_ {A = ℕ} 0 1 = cc in absurd (never z)
 good-verdict LayoutReference p u h = let z : _≡_ {A = ℕ} 0 1 = cc in absurd (never z)
 
-good-entity : (list : ℕ) (types : List ℕ) (e : Entity) (p : ℕ) (u : Unit {0}) → entityCheck list types e p ≡ accepted u → known list (e .typ) (e .form) ≡ true
+pub good-entity : (list : ℕ) (types : List ℕ) (e : Entity) (p : ℕ) (u : Unit {0}) → entityCheck list types e p ≡ accepted u → known list (e .typ) (e .form) ≡ true
     → verdict types e ≡ Good
 unfolding entityCheck
 good-entity list types e p u h k = good-verdict (verdict types e) p u (rw k at h)

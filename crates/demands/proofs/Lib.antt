@@ -1,0 +1,17 @@
+pub mod Each
+pub mod Trims
+pub mod Marks
+pub mod Rows
+pub mod ToSheet
+pub mod FromSheet
+pub mod Written
+pub mod Printable
+pub mod Starts
+pub mod Values
+pub mod GlobalFields
+pub mod Listed
+pub mod FromFile
+pub mod SameBytes
+pub mod Described
+pub mod ThereAndBack
+pub mod Corollaries

@@ -1,0 +1,116 @@
+-- The sheet of a model that fits is written: its text is read as that sheet, which keeps the rules, and its model is the one it was made of. Assumes nothing.
+use mathlib.Core.Path.{_≡_, refl, ap}
+use mathlib.Core.Bool.{Bool, true, false, cond}
+use mathlib.Core.List.{List, [], _∷_, map}
+use Prim.Native.Nat.{ℕ}
+use lib.ListN.{length-map}
+use borrow.Author.Tests.{le-leb, ne-eqb}
+use Rattle.columns.specs.declared.Fault.the-variants.{Directory, Global, Reference, Mark}
+use Rattle.columns.specs.Refusal.{accepted}
+use Rattle.columns.proofs.Outcomes.{demand-true}
+use Rattle.columns.proofs.Tests.{both-true}
+use Rattle.values.specs.Value.{Item, seen}
+use Rattle.records.specs.Global.{globalFits}
+use Rattle.directory.specs.Rules.{rangesOk, entryRules, referenceRule}
+use Rattle.layouts.specs.Known.{mostList, known}
+use Rattle.layouts.specs.Entities.{fault, verdict, entityCheck, marks}
+use Rattle.sheets.specs.Sheet.{sheetText}
+use Rattle.sheets.specs.WellFormed.{Each, none, one, Closed, no-rows, a-row, RowSpelt, WellFormed}
+use Rattle.sheets.proofs.Sheets.{read-written}
+use Rattle.model.specs.Model.{Carried, Model, typeOf, typesOf, entityOf, rowOf, sheetOf, valueIn}
+use Rattle.model.specs.Write.{globalRule, rowRules, rowReferences, rowEntity, marksRight, rowEntityRules, rowSize, firstGlobal, firstRow, sheetRules, writeModel, one as oneLine}
+use Rattle.model.specs.Fit.{InKind, EntryFits, Fits}
+use Rattle.demands.proofs.Each.{each-made, each-accepts, made-accepts}
+use Rattle.demands.proofs.Trims.{ends-given}
+use Rattle.demands.proofs.Marks.{equal-self, all-equal-self}
+use Rattle.demands.proofs.Rows.{row-values, row-marks, model-again, types-again}
+
+-- ---- it has a text
+
+-- what holds of each value holds of each with its mark
+each-value : {P : Item → Type 0} (ws : List (Bool × Item)) → Each P (map valueIn ws) → Each (λ (w : Bool × Item). P (w .1)) ws
+each-value [] none = none
+each-value (w ∷ ws) (one p ps) = one p (each-value ws ps)
+
+module _ (list : ℕ) (types : List ℕ) where
+  rows-closed : {es : List Carried} → Each (EntryFits list types) es → Closed (map (rowOf list types) es)
+  rows-closed none = no-rows
+  rows-closed (one {x = e} f fs) = a-row (ends-given (rowOf list types e .values) (rw (row-values list types e) (f .last-given))) (rows-closed fs)
+
+  row-spelt : (e : Carried) → EntryFits list types e → RowSpelt (rowOf list types e)
+  unfolding rowOf
+  row-spelt e f = record { numbers = f .numbers; label = f .label; values = each-value (rowOf list types e .values) (rw (row-values list types e) (f .values)) }
+
+pub sheet-formed : (list : ℕ) (m : Model) → Fits list m → WellFormed (sheetOf list m)
+unfolding sheetOf
+sheet-formed list m f = record {
+  ordered = record { some = f .some; rising = f .rising; closed = rows-closed list (typesOf (m .entries)) (f .entries) };
+  spelt = record {
+    starts = f .starts;
+    globals = f .globals;
+    rows = each-made (rowOf list (typesOf (m .entries))) (row-spelt list (typesOf (m .entries))) (f .entries);
+    few = rw (length-map (m .entries) (rowOf list (typesOf (m .entries)))) (f .few);
+  };
+}
+
+-- ---- it keeps the rules
+
+module _ (list : ℕ) (types : List ℕ) (e : Carried) (f : EntryFits list types e) (p : ℕ) where
+  -- 9, 13
+  row-rules : rowRules p (rowOf list types e) ≡ accepted tt
+  unfolding rowOf entryRules
+  row-rules = rw (demand-true (rangesOk (e .fields)) Directory p (f .ranges), ne-eqb (typeOf (e .fields)) 306 (f .no-macro))
+
+  -- 10
+  row-references : rowReferences types p (rowOf list types e) ≡ accepted tt
+  unfolding rowOf referenceRule
+  row-references = demand-true _ Reference p (f .references-fit)
+
+  entity-is : rowEntity (rowOf list types e) ≡ entityOf (e .fields) (e .values)
+  unfolding rowOf
+  entity-is = ap (entityOf (e .fields)) (row-values list types e)
+
+  -- 14, 15
+  row-layout : entityCheck list types (entityOf (e .fields) (e .values)) p ≡ accepted tt
+  unfolding entityCheck
+  row-layout = pick (known list (typeOf (e .fields)) (e .fields .form .size)) refl
+    where
+      pick : (b : Bool) → known list (typeOf (e .fields)) (e .fields .form .size) ≡ b
+          → cond b (fault (verdict types (entityOf (e .fields) (e .values))) p) (accepted tt) ≡ accepted tt
+      pick true k = rw (f .layout k)
+      pick false k = refl
+
+  -- 18
+  marks-right : marksRight list types (rowOf list types e) ≡ true
+  unfolding rowOf
+  marks-right =
+      both-true (equal-self (known list (typeOf (e .fields)) (e .fields .form .size)))
+      (rw (row-marks list types e, entity-is) (all-equal-self (marks list types (entityOf (e .fields) (e .values)))))
+
+  row-entity : rowEntityRules list types p (rowOf list types e) ≡ accepted tt
+  row-entity =
+      let check : entityCheck list types (rowEntity (rowOf list types e)) p ≡ accepted tt = rw entity-is row-layout in
+      rw check (demand-true (marksRight list types (rowOf list types e)) Mark p marks-right)
+
+-- 8; each entry 9, 13; all 10; each entry 14, 15, 18
+rules-kept : (list : ℕ) (m : Model) → Fits list m → sheetRules list (sheetOf list m) ≡ accepted tt
+unfolding sheetRules sheetOf
+rules-kept list m f =
+    let globals = each-accepts oneLine globalRule globals-kept (firstGlobal (sheetOf list m)) (f .in-kind) in
+    let rules = made-accepts rowSize rowRules (rowOf list types) (λ p e k. row-rules list types e k p) (firstRow (sheetOf list m)) (f .entries) in
+    let refer = made-accepts rowSize (rowReferences types) (rowOf list types) (λ p e k. row-references list types e k p) (firstRow (sheetOf list m)) (f .entries) in
+    let entities = made-accepts rowSize (rowEntityRules list types) (rowOf list types) (λ p e k. row-entity list types e k p) (firstRow (sheetOf list m)) (f .entries) in
+    rw (globals .1, rules .1, types-again list m, refer .1, entities .1)
+  where
+    types : List ℕ
+    types = typesOf (m .entries)
+
+    globals-kept : (p : ℕ) (g : ℕ × Item) → InKind g → globalRule p g ≡ accepted tt
+    globals-kept p g k = demand-true (globalFits (g .0) (seen (g .1))) Global p k
+
+-- ---- it is written
+
+pub fits-writes : (list : ℕ) (m : Model) → Fits list m → writeModel list (sheetText (sheetOf list m)) ≡ accepted m
+unfolding writeModel
+fits-writes list m f =
+    rw (le-leb list mostList (f .list-ok), read-written (sheetOf list m) (sheet-formed list m f), rules-kept list m f, model-again list m)
