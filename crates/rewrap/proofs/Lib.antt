@@ -7,5 +7,6 @@ pub mod Sound
 pub mod Complete
 pub mod Exactly
 pub mod Reading
+pub mod Answered
 pub mod ReadingAnswers
 pub mod Numbers
