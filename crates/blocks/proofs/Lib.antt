@@ -1,0 +1,9 @@
+pub mod Filed
+pub mod Lined
+pub mod Ended
+pub mod Said
+pub mod Valued
+pub mod Tailed
+pub mod Blocked
+pub mod Fielded
+pub mod Opened

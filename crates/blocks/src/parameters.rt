@@ -1,0 +1,147 @@
+// The P lines of an entity, from the value lines of a sheet.
+use crate::Block;
+use crate::Flowed;
+use crate::PARAMETER;
+use crate::ValueLine;
+use crate::lines;
+use crate::text;
+use cards::LINE_BYTES;
+use columns::emit;
+use records::flow;
+use sheets::Said;
+use sheets::reading;
+use values::Value;
+ghost use mathlib.Core.Path.{_≡_};
+ghost use mathlib.Core.List.{_++_};
+ghost use Prim.Native.Nat.{_+_, _^_, _≤_, _<_};
+ghost use lib.ListN.{length, drop};
+ghost use Rattle.columns.specs.Columns.{joined};
+ghost use Rattle.columns.specs.Laid.{laid, Wrote};
+ghost use Rattle.records.specs.Flow.{lineCount};
+ghost use Rattle.records.specs.Written.{Put};
+ghost use Rattle.cards.specs.Written.{section};
+ghost use Rattle.sheets.specs.Sheet.{linesIn};
+ghost use Rattle.blocks.specs.Blocks.{behindValues, itemsFirst, recordText, blockLines, tailOf};
+ghost use Rattle.blocks.specs.Writing.{parted, ownerOf, tailed, ValueAt};
+
+// The columns of a P line that hold values, and those of its directory number.
+const COLUMNS: usize = 64;
+
+const NUMBER: usize = 7;
+
+// What the line at `at` says, if it is a value line.
+fn value_at(t: &[u8], at: usize) -> ValueLine
+    requires { ⌜ at ≤ length (now t) ⌝ }
+    ensures { λ r. ⌜ ValueAt (now (t .entry)) at r ⌝ }
+{
+    let end = reading::end_of(t, at);
+    if end == t.len() {
+        return ValueLine::Other;
+    }
+    let said = reading::line_at(t, at, end);
+    match said {
+        Said::Value {
+            reference: _,
+            value,
+        } => ValueLine::Here {
+            from: at + 2,
+            end,
+            value,
+        },
+        Said::Start => ValueLine::Other,
+        Said::Global {
+            number: _,
+            at: _,
+            value: _,
+        } => ValueLine::Other,
+        Said::Entry {
+            known: _,
+            number: _,
+            fields: _,
+        } => ValueLine::Other,
+        Said::Last(_) => ValueLine::Other,
+        Said::Nothing(_) => ValueLine::Other,
+    }
+}
+
+// The values of the value lines from `at` on, from position p of the record on.
+fn put_values(out: &mut [u8], base: usize, t: &[u8], at: usize, p: usize) -> Flowed
+    requires { ⌜ (at ≤ length (now t)) × (base ≤ 2 ^ 40) × (p + length (parted 64 p (itemsFirst (linesIn (drop at (now t))))) ≤ 2 ^ 40) ⌝ }
+    ensures { λ r. ⌜ Put base 64 (now (out .entry)) p (parted 64 p (itemsFirst (linesIn (drop at (now (t .entry)))))) (now (out .exit)) (r .end) ⌝ }
+    ensures { λ r. ⌜ linesIn (drop (r .next) (now (t .entry))) ≡ behindValues (linesIn (drop at (now (t .entry)))) ⌝ }
+    ensures { λ r. ⌜ (at ≤ r .next) × (r .next ≤ length (now (t .entry))) ⌝ }
+{
+    let mut next = at;
+    let mut end = p;
+    loop {
+        match value_at(t, next) {
+            ValueLine::Other => {
+                return Flowed { next, end };
+            }
+            ValueLine::Here {
+                from,
+                end: stop,
+                value,
+            } => {
+                end = flow::put_piece(out, base, COLUMNS, end, &t[from..stop], value, false);
+                next = stop + 1;
+            }
+        }
+    }
+}
+
+// Column 65 to LF of P line n of the entry with this directory number.
+fn put_owned(out: &mut [u8], at: usize, number: u32, n: usize) -> usize
+    requires { ⌜ (at < 2 ^ 59) × (number ≤ 9999999) × (n ≤ 9999999) ⌝ }
+    ensures { λ r. ⌜ Wrote (now (out .entry)) at (ownerOf number ++ tailOf 80 n) (now (out .exit)) r ⌝ }
+    ensures { λ r. ⌜ r ≡ at + 17 ⌝ }
+{
+    let a = emit::put(out, at, 32);
+    let b = emit::put_right(out, a, 32, NUMBER, number as u64);
+    lines::put_tail(out, b, PARAMETER, n)
+}
+
+// The same of so many lines, column 65 of the first of which is at q.
+fn put_tails(out: &mut [u8], q: usize, number: u32, from: usize, lines: usize)
+    requires { ⌜ (q ≤ 2 ^ 41) × (number ≤ 9999999) × (from + lines ≤ 9999999) ⌝ }
+    ensures { λ _. ⌜ now (out .exit) ≡ tailed (now (out .entry)) q (ownerOf number) 80 from lines ⌝ }
+{
+    let mut at = q;
+    let mut i = 0;
+    while i < lines {
+        put_owned(out, at, number, from + i);
+        at += LINE_BYTES;
+        i += 1;
+    }
+}
+
+// The P lines, numbered from `from` on, of the entity of this type and directory number whose values stand on the sheet from `at` on.
+pub fn put_block(
+    out: &mut [u8],
+    base: usize,
+    t: &[u8],
+    at: usize,
+    typ: u32,
+    number: u32,
+    from: usize,
+) -> Block
+    requires { ⌜ (at ≤ length (now t)) × (base ≤ 2 ^ 36) × (typ ≤ 2147483647) × (length (recordText typ (itemsFirst (linesIn (drop at (now t))))) ≤ 2 ^ 36) ⌝ }
+    requires { ⌜ (number ≤ 9999999) × (from + lineCount 64 (length (recordText typ (itemsFirst (linesIn (drop at (now t)))))) ≤ 9999999) ⌝ }
+    ensures { λ r. ⌜ now (out .exit) ≡ laid (now (out .entry)) base (joined (section 80 from (blockLines number typ (itemsFirst (linesIn (drop at (now (t .entry)))))))) ⌝ }
+    ensures { λ r. ⌜ r .lines ≡ lineCount 64 (length (recordText typ (itemsFirst (linesIn (drop at (now (t .entry))))))) ⌝ }
+    ensures { λ r. ⌜ linesIn (drop (r .next) (now (t .entry))) ≡ behindValues (linesIn (drop at (now (t .entry)))) ⌝ }
+    ensures { λ r. ⌜ (at ≤ r .next) × (r .next ≤ length (now (t .entry))) ⌝ }
+{
+    let v = Value::Whole {
+        neg: false,
+        size: typ,
+    };
+    let p = flow::put_piece(out, base, COLUMNS, 0, b"", v, false);
+    let f = put_values(out, base, t, at, p);
+    let lines = text::close(out, base, COLUMNS, f.end);
+    put_tails(out, base + COLUMNS, number, from, lines);
+    Block {
+        next: f.next,
+        lines,
+    }
+}

@@ -1,0 +1,17 @@
+-- The layout's state behind the values gives 14 and 15, the marks 18.
+use borrow.Author.Needs.{needs}
+use Rattle.writing.proofs.Judging.{entities}
+use Rattle.writing.proofs.entity.entity_of.Statement.{statement}
+use Rattle.writing.proofs.entity.entity_of.Tie as tie
+
+pub entity-of-spec : {M : Type 1} → statement M
+entity-of-spec =
+    tie.close
+    (tie.spec
+    (λ c. search (needs, entities))
+    (λ c. search (needs, entities))
+    (λ c κs. search (needs, entities))
+    (λ c κs. search (needs, entities))
+    (λ c κs. search (needs, entities))
+    (λ c κs. search (needs, entities))
+    (λ c. search (needs, entities)))

@@ -1,0 +1,39 @@
+-- The answer of all checks of a sheet.
+use mathlib.Core.List.{List}
+use Prim.Native.Nat.{ℕ}
+use lib.ListN.{length}
+use Rattle.columns.specs.Refusal.{Outcome, accepted, refused}
+use Rattle.sheets.specs.Sheet.{linesIn}
+use Rattle.sheets.specs.Order.{sheetLine}
+use Rattle.model.specs.Model.{Model}
+use Rattle.model.specs.Write.{globalRule, rowRules, rowReferences, rowEntityRules, writeModel}
+use Rattle.writing.specs.declared.Pass.{Pass}
+use Rattle.writing.specs.declared.Ruled.{Ruled}
+use Rattle.writing.specs.declared.Ruled.the-variants.{Good, Refused}
+use Rattle.writing.specs.Lines.{orElse, noRule, linesPass}
+use Rattle.writing.specs.Classes.{sheetTypes}
+
+-- the entry count, or the first refusal
+abbrev pub told : Outcome Model → Ruled
+told (accepted m) = Good (length (m .entries))
+told (refused n place) = Refused n (sheetLine place)
+
+-- of a text under a list
+unfoldable pub ruledOf : ℕ → List ℕ → Ruled
+ruledOf list t = told (writeModel list t)
+
+-- 8; each entry 9, 13
+unfoldable pub rulesPass : List ℕ → Pass
+rulesPass t = linesPass globalRule rowRules 1 (linesIn t)
+
+-- all 10
+unfoldable pub referencesPass : List ℕ → Pass
+referencesPass t = linesPass noRule (rowReferences (sheetTypes t)) 1 (linesIn t)
+
+-- each entry 14, 15, 18
+unfoldable pub entitiesPass : ℕ → List ℕ → Pass
+entitiesPass list t = linesPass noRule (rowEntityRules list (sheetTypes t)) 1 (linesIn t)
+
+-- the passes behind 17
+unfoldable pub sheetPass : ℕ → List ℕ → Pass
+sheetPass list t = orElse (rulesPass t) (orElse (referencesPass t) (entitiesPass list t))

@@ -1,0 +1,5 @@
+pub mod Lines
+pub mod Heads
+pub mod Classes
+pub mod Judging
+pub mod Answers

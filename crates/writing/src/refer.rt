@@ -1,0 +1,112 @@
+// What the entries of a sheet name: an entry of it, of the type wanted (10).
+use crate::Pass;
+use crate::heads::head_at;
+use crate::table::class_at;
+use columns::Fault;
+use columns::SheetLine;
+use directory::Entry;
+use directory::Wanted;
+use sheets::Said;
+use sheets::reading::end_of;
+ghost use mathlib.Core.Path.{_≡_};
+ghost use Prim.Native.Nat.{_+_, _≤_};
+ghost use lib.ListN.{length, drop};
+ghost use Rattle.columns.specs.Columns.{columns};
+ghost use Rattle.directory.specs.Rules.{allFit, references};
+ghost use Rattle.directory.specs.Asking.{asksOk};
+ghost use Rattle.sheets.specs.Sheet.{saidBy, linesIn};
+ghost use Rattle.model.specs.Write.{rowReferences};
+ghost use Rattle.writing.specs.Lines.{noRule, lineCheck};
+ghost use Rattle.writing.specs.Heads.{saidReferences};
+ghost use Rattle.writing.specs.Classes.{sheetTypes, Tabled};
+ghost use Rattle.writing.specs.Answers.{referencesPass};
+
+// How many references an entry may have.
+const REFERENCES: usize = 7;
+
+// Whether what is asked, if it is, names such an entry.
+fn asks_ok(classes: &[u8], n: usize, t: &[u8], w: Wanted) -> bool
+    requires { ⌜ Tabled (now classes) n (now t) ⌝ }
+    ensures { λ r. ⌜ r ≡ asksOk (sheetTypes (now (t .entry))) w ⌝ }
+{
+    if !w.asked {
+        return true;
+    }
+    let class = class_at(classes, n, t, w.number);
+    references::fits(w.want, class)
+}
+
+// Whether all references of an entry do.
+fn all_ask_ok(classes: &[u8], n: usize, t: &[u8], e: Entry) -> bool
+    requires { ⌜ Tabled (now classes) n (now t) ⌝ }
+    ensures { λ r. ⌜ r ≡ allFit (sheetTypes (now (t .entry))) (references e) ⌝ }
+{
+    let mut j = 0;
+    while j < REFERENCES {
+        let w = directory::rules::wanted(e, j);
+        if !asks_ok(classes, n, t, w) {
+            return false;
+        }
+        j += 1;
+    }
+    true
+}
+
+// What a line says, at its place.
+fn reference_of(classes: &[u8], n: usize, t: &[u8], said: Said, place: usize) -> Pass
+    requires { ⌜ Tabled (now classes) n (now t) ⌝ }
+    ensures { λ r. ⌜ r ≡ saidReferences (sheetTypes (now (t .entry))) place said ⌝ }
+{
+    let Said::Entry {
+        known: _,
+        number: _,
+        fields,
+    } = said
+    else {
+        return Pass::Good;
+    };
+    let e = directory::rules::entry_of(fields);
+    if all_ask_ok(classes, n, t, e) {
+        return Pass::Good;
+    }
+    Pass::Refused {
+        fault: Fault::Reference,
+        line: SheetLine(place),
+    }
+}
+
+// The line from `at` up to `end`.
+fn reference_at(classes: &[u8], n: usize, t: &[u8], at: usize, end: usize, place: usize) -> Pass
+    requires { ⌜ Tabled (now classes) n (now t) × (at ≤ end) × (end ≤ length (now t)) ⌝ }
+    ensures { λ r. ⌜ r ≡ lineCheck noRule (rowReferences (sheetTypes (now (t .entry)))) place (saidBy (columns (now (t .entry)) at end)) (linesIn (drop (end + 1) (now (t .entry)))) ⌝ }
+{
+    let said = head_at(t, at, end);
+    reference_of(classes, n, t, said, place)
+}
+
+// All entries of a sheet of n.
+pub fn references(classes: &[u8], n: usize, t: &[u8]) -> Pass
+    requires { ⌜ Tabled (now classes) n (now t) ⌝ }
+    ensures { λ r. ⌜ r ≡ referencesPass (now (t .entry)) ⌝ }
+{
+    let size = t.len();
+    let mut at = 0;
+    let mut place = 1;
+    while at < size {
+        let end = end_of(t, at);
+        if end == size {
+            return Pass::Good;
+        }
+        let found = reference_at(classes, n, t, at, end, place);
+        match found {
+            Pass::Refused { fault, line } => {
+                return Pass::Refused { fault, line };
+            }
+            Pass::Good => {
+                at = end + 1;
+                place += 1;
+            }
+        }
+    }
+    Pass::Good
+}
