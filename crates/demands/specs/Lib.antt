@@ -1,1 +1,4 @@
 pub mod Corollaries
+pub mod Unique
+pub mod UniqueClauses
+pub mod Impostors

@@ -1,5 +1,5 @@
 // The two ways of the desk: a file to its sheet, and a sheet to its canonical file; the lent table of records and the name lookup.
-mod answers;
+pub mod answers;
 mod sheet;
 
 use columns::Fault;

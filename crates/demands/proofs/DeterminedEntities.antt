@@ -1,0 +1,52 @@
+-- No second result fits the contract of a public function of crate entities. Assumes nothing.
+use mathlib.Core.Path.{refl}
+use Rattle.entities.proofs.entity.entity_pass.Kinds as entity-entity-pass-kinds
+use Rattle.entities.proofs.entity.entity_pass.Reads as entity-entity-pass-reads
+use Rattle.entities.proofs.layout.take_at.Kinds as layout-take-at-kinds
+use Rattle.entities.proofs.layout.take_at.Reads as layout-take-at-reads
+use Rattle.entities.proofs.layout.verdict_of.Kinds as layout-verdict-of-kinds
+use Rattle.entities.proofs.layout.verdict_of.Reads as layout-verdict-of-reads
+use Rattle.entities.proofs.marks.marks_begun.Kinds as marks-marks-begun-kinds
+use Rattle.entities.proofs.marks.marks_begun.Reads as marks-marks-begun-reads
+use Rattle.entities.proofs.marks.mark_of.Kinds as marks-mark-of-kinds
+use Rattle.entities.proofs.marks.mark_of.Reads as marks-mark-of-reads
+use Rattle.entities.proofs.marks.mark_step.Kinds as marks-mark-step-kinds
+use Rattle.entities.proofs.marks.mark_step.Reads as marks-mark-step-reads
+use Rattle.entities.proofs.naming.class_at.Kinds as naming-class-at-kinds
+use Rattle.entities.proofs.naming.class_at.Reads as naming-class-at-reads
+use Rattle.entities.proofs.naming.named_at.Kinds as naming-named-at-kinds
+use Rattle.entities.proofs.naming.named_at.Reads as naming-named-at-reads
+use Rattle.demands.specs.Unique.{NoSecond}
+use Rattle.demands.proofs.Unique.{once}
+
+-- ---- entities::entity
+
+pub entity-entity-pass : NoSecond entity-entity-pass-kinds.ps entity-entity-pass-kinds.r entity-entity-pass-reads.Post
+entity-entity-pass κs a z z′ left left′ p q = (once p q, refl)
+
+-- ---- entities::layout
+
+pub layout-take-at : NoSecond layout-take-at-kinds.ps layout-take-at-kinds.r layout-take-at-reads.Post
+layout-take-at κs a z z′ left left′ p q = (once (p .0) (q .0), refl)
+
+pub layout-verdict-of : NoSecond layout-verdict-of-kinds.ps layout-verdict-of-kinds.r layout-verdict-of-reads.Post
+layout-verdict-of κs a z z′ left left′ p q = (once p q, refl)
+
+-- ---- entities::marks
+
+pub marks-marks-begun : NoSecond marks-marks-begun-kinds.ps marks-marks-begun-kinds.r marks-marks-begun-reads.Post
+marks-marks-begun κs a z z′ left left′ p q = (once p q, refl)
+
+pub marks-mark-of : NoSecond marks-mark-of-kinds.ps marks-mark-of-kinds.r marks-mark-of-reads.Post
+marks-mark-of κs a z z′ left left′ p q = (once p q, refl)
+
+pub marks-mark-step : NoSecond marks-mark-step-kinds.ps marks-mark-step-kinds.r marks-mark-step-reads.Post
+marks-mark-step κs a z z′ left left′ p q = (once p q, refl)
+
+-- ---- entities::naming
+
+pub naming-class-at : NoSecond naming-class-at-kinds.ps naming-class-at-kinds.r naming-class-at-reads.Post
+naming-class-at κs a z z′ left left′ p q = (once p q, refl)
+
+pub naming-named-at : NoSecond naming-named-at-kinds.ps naming-named-at-kinds.r naming-named-at-reads.Post
+naming-named-at κs a z z′ left left′ p q = (once p q, refl)

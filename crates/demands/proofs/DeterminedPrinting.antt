@@ -1,0 +1,70 @@
+-- No second result fits the contract of a public function of crate printing. Assumes nothing.
+use mathlib.Core.Path.{refl}
+use Rattle.printing.proofs.carried.put_values.Kinds as carried-put-values-kinds
+use Rattle.printing.proofs.carried.put_values.Reads as carried-put-values-reads
+use Rattle.printing.proofs.characters.put_text.Kinds as characters-put-text-kinds
+use Rattle.printing.proofs.characters.put_text.Reads as characters-put-text-reads
+use Rattle.printing.proofs.globals.put_globals.Kinds as globals-put-globals-kinds
+use Rattle.printing.proofs.globals.put_globals.Reads as globals-put-globals-reads
+use Rattle.printing.proofs.lines.put_value_line.Kinds as lines-put-value-line-kinds
+use Rattle.printing.proofs.lines.put_value_line.Reads as lines-put-value-line-reads
+use Rattle.printing.proofs.lines.put_global_line.Kinds as lines-put-global-line-kinds
+use Rattle.printing.proofs.lines.put_global_line.Reads as lines-put-global-line-reads
+use Rattle.printing.proofs.rows.put_entity.Kinds as rows-put-entity-kinds
+use Rattle.printing.proofs.rows.put_entity.Reads as rows-put-entity-reads
+use Rattle.printing.proofs.rows.put_rows.Kinds as rows-put-rows-kinds
+use Rattle.printing.proofs.rows.put_rows.Reads as rows-put-rows-reads
+use Rattle.printing.proofs.sheet.put_sheet.Kinds as sheet-put-sheet-kinds
+use Rattle.printing.proofs.sheet.put_sheet.Reads as sheet-put-sheet-reads
+use Rattle.printing.proofs.starts.put_starts.Kinds as starts-put-starts-kinds
+use Rattle.printing.proofs.starts.put_starts.Reads as starts-put-starts-reads
+use Rattle.printing.proofs.taking.value_from.Kinds as taking-value-from-kinds
+use Rattle.printing.proofs.taking.value_from.Reads as taking-value-from-reads
+use Rattle.demands.specs.Unique.{NoSecond}
+use Rattle.demands.proofs.Unique.{once, wrote-first}
+
+-- ---- printing::carried
+
+pub carried-put-values : NoSecond carried-put-values-kinds.ps carried-put-values-kinds.r carried-put-values-reads.Post
+carried-put-values κs a z z′ left left′ p q = wrote-first (left .1) (p .0) (q .0)
+
+-- ---- printing::characters
+
+pub characters-put-text : NoSecond characters-put-text-kinds.ps characters-put-text-kinds.r characters-put-text-reads.Post
+characters-put-text κs a z z′ left left′ p q = wrote-first (left .1) (p .0) (q .0)
+
+-- ---- printing::globals
+
+pub globals-put-globals : NoSecond globals-put-globals-kinds.ps globals-put-globals-kinds.r globals-put-globals-reads.Post
+globals-put-globals κs a z z′ left left′ p q = wrote-first (left .1) (p .0) (q .0)
+
+-- ---- printing::lines
+
+pub lines-put-value-line : NoSecond lines-put-value-line-kinds.ps lines-put-value-line-kinds.r lines-put-value-line-reads.Post
+lines-put-value-line κs a z z′ left left′ p q = wrote-first (left .1) (p .0) (q .0)
+
+pub lines-put-global-line : NoSecond lines-put-global-line-kinds.ps lines-put-global-line-kinds.r lines-put-global-line-reads.Post
+lines-put-global-line κs a z z′ left left′ p q = wrote-first (left .1) (p .0) (q .0)
+
+-- ---- printing::rows
+
+pub rows-put-entity : NoSecond rows-put-entity-kinds.ps rows-put-entity-kinds.r rows-put-entity-reads.Post
+rows-put-entity κs a z z′ left left′ p q = wrote-first (left .1) (p .0) (q .0)
+
+pub rows-put-rows : NoSecond rows-put-rows-kinds.ps rows-put-rows-kinds.r rows-put-rows-reads.Post
+rows-put-rows κs a z z′ left left′ p q = wrote-first (left .1) (p .0) (q .0)
+
+-- ---- printing::sheet
+
+pub sheet-put-sheet : NoSecond sheet-put-sheet-kinds.ps sheet-put-sheet-kinds.r sheet-put-sheet-reads.Post
+sheet-put-sheet κs a z z′ left left′ p q = wrote-first (left .1) (p .0) (q .0)
+
+-- ---- printing::starts
+
+pub starts-put-starts : NoSecond starts-put-starts-kinds.ps starts-put-starts-kinds.r starts-put-starts-reads.Post
+starts-put-starts κs a z z′ left left′ p q = wrote-first (left .1) (p .0) (q .0)
+
+-- ---- printing::taking
+
+pub taking-value-from : NoSecond taking-value-from-kinds.ps taking-value-from-kinds.r taking-value-from-reads.Post
+taking-value-from κs a z z′ left left′ p q = (once (p .0) (q .0), refl)

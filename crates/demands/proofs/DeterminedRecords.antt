@@ -1,0 +1,70 @@
+-- No second result fits the contract of a public function of crate records. Assumes nothing.
+use mathlib.Core.Path.{refl}
+use Rattle.records.proofs.flow.put_char.Kinds as flow-put-char-kinds
+use Rattle.records.proofs.flow.put_char.Reads as flow-put-char-reads
+use Rattle.records.proofs.flow.put_all.Kinds as flow-put-all-kinds
+use Rattle.records.proofs.flow.put_all.Reads as flow-put-all-reads
+use Rattle.records.proofs.flow.put_run.Kinds as flow-put-run-kinds
+use Rattle.records.proofs.flow.put_run.Reads as flow-put-run-reads
+use Rattle.records.proofs.flow.put_piece.Kinds as flow-put-piece-kinds
+use Rattle.records.proofs.flow.put_piece.Reads as flow-put-piece-reads
+use Rattle.records.proofs.flow.piece_end.Kinds as flow-piece-end-kinds
+use Rattle.records.proofs.flow.piece_end.Reads as flow-piece-end-reads
+use Rattle.records.proofs.global.opening_of.Kinds as global-opening-of-kinds
+use Rattle.records.proofs.global.opening_of.Reads as global-opening-of-reads
+use Rattle.records.proofs.global.stray.Kinds as global-stray-kinds
+use Rattle.records.proofs.global.stray.Reads as global-stray-reads
+use Rattle.records.proofs.global.global_fits.Kinds as global-global-fits-kinds
+use Rattle.records.proofs.global.global_fits.Reads as global-global-fits-reads
+use Rattle.records.proofs.reading.char_at.Kinds as reading-char-at-kinds
+use Rattle.records.proofs.reading.char_at.Reads as reading-char-at-reads
+use Rattle.records.proofs.reading.behind_blanks.Kinds as reading-behind-blanks-kinds
+use Rattle.records.proofs.reading.behind_blanks.Reads as reading-behind-blanks-reads
+use Rattle.records.proofs.reading.value_at.Kinds as reading-value-at-kinds
+use Rattle.records.proofs.reading.value_at.Reads as reading-value-at-reads
+use Rattle.records.proofs.reading.check_from.Kinds as reading-check-from-kinds
+use Rattle.records.proofs.reading.check_from.Reads as reading-check-from-reads
+use Rattle.demands.specs.Unique.{NoSecond}
+use Rattle.demands.proofs.Unique.{once, put-first}
+
+-- ---- records::flow
+
+pub flow-put-char : NoSecond flow-put-char-kinds.ps flow-put-char-kinds.r flow-put-char-reads.Post
+flow-put-char κs a z z′ left left′ p q = put-first (left .1) (p .0) (q .0)
+
+pub flow-put-all : NoSecond flow-put-all-kinds.ps flow-put-all-kinds.r flow-put-all-reads.Post
+flow-put-all κs a z z′ left left′ p q = put-first (left .1) (p .0) (q .0)
+
+pub flow-put-run : NoSecond flow-put-run-kinds.ps flow-put-run-kinds.r flow-put-run-reads.Post
+flow-put-run κs a z z′ left left′ p q = put-first (left .1) (p .0) (q .0)
+
+pub flow-put-piece : NoSecond flow-put-piece-kinds.ps flow-put-piece-kinds.r flow-put-piece-reads.Post
+flow-put-piece κs a z z′ left left′ p q = put-first (left .1) (p .0) (q .0)
+
+pub flow-piece-end : NoSecond flow-piece-end-kinds.ps flow-piece-end-kinds.r flow-piece-end-reads.Post
+flow-piece-end κs a z z′ left left′ p q = (once (p .0) (q .0), refl)
+
+-- ---- records::global
+
+pub global-opening-of : NoSecond global-opening-of-kinds.ps global-opening-of-kinds.r global-opening-of-reads.Post
+global-opening-of κs a z z′ left left′ p q = (once (p .0) (q .0), refl)
+
+pub global-stray : NoSecond global-stray-kinds.ps global-stray-kinds.r global-stray-reads.Post
+global-stray κs a z z′ left left′ p q = (once (p .0) (q .0), refl)
+
+pub global-global-fits : NoSecond global-global-fits-kinds.ps global-global-fits-kinds.r global-global-fits-reads.Post
+global-global-fits κs a z z′ left left′ p q = (once p q, refl)
+
+-- ---- records::reading
+
+pub reading-char-at : NoSecond reading-char-at-kinds.ps reading-char-at-kinds.r reading-char-at-reads.Post
+reading-char-at κs a z z′ left left′ p q = (once p q, refl)
+
+pub reading-behind-blanks : NoSecond reading-behind-blanks-kinds.ps reading-behind-blanks-kinds.r reading-behind-blanks-reads.Post
+reading-behind-blanks κs a z z′ left left′ p q = (once (p .0) (q .0), refl)
+
+pub reading-value-at : NoSecond reading-value-at-kinds.ps reading-value-at-kinds.r reading-value-at-reads.Post
+reading-value-at κs a z z′ left left′ p q = (once (p .0) (q .0), refl)
+
+pub reading-check-from : NoSecond reading-check-from-kinds.ps reading-check-from-kinds.r reading-check-from-reads.Post
+reading-check-from κs a z z′ left left′ p q = (once (p .0) (q .0), refl)

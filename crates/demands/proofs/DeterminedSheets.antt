@@ -1,0 +1,117 @@
+-- No second result fits the contract of a public function of crate sheets. Assumes nothing.
+use mathlib.Core.Path.{refl}
+use Rattle.sheets.proofs.order.is_missing.Kinds as order-is-missing-kinds
+use Rattle.sheets.proofs.order.is_missing.Reads as order-is-missing-reads
+use Rattle.sheets.proofs.order.step_line.Kinds as order-step-line-kinds
+use Rattle.sheets.proofs.order.step_line.Reads as order-step-line-reads
+use Rattle.sheets.proofs.order.finish_of.Kinds as order-finish-of-kinds
+use Rattle.sheets.proofs.order.finish_of.Reads as order-finish-of-reads
+use Rattle.sheets.proofs.order.wrong_piece.Kinds as order-wrong-piece-kinds
+use Rattle.sheets.proofs.order.wrong_piece.Reads as order-wrong-piece-reads
+use Rattle.sheets.proofs.plain.size_at.Kinds as plain-size-at-kinds
+use Rattle.sheets.proofs.plain.size_at.Reads as plain-size-at-reads
+use Rattle.sheets.proofs.plain.num_at.Kinds as plain-num-at-kinds
+use Rattle.sheets.proofs.plain.num_at.Reads as plain-num-at-reads
+use Rattle.sheets.proofs.plain.find.Kinds as plain-find-kinds
+use Rattle.sheets.proofs.plain.find.Reads as plain-find-reads
+use Rattle.sheets.proofs.reading.end_of.Kinds as reading-end-of-kinds
+use Rattle.sheets.proofs.reading.end_of.Reads as reading-end-of-reads
+use Rattle.sheets.proofs.reading.entry_at.Kinds as reading-entry-at-kinds
+use Rattle.sheets.proofs.reading.entry_at.Reads as reading-entry-at-reads
+use Rattle.sheets.proofs.reading.entry_line.Kinds as reading-entry-line-kinds
+use Rattle.sheets.proofs.reading.entry_line.Reads as reading-entry-line-reads
+use Rattle.sheets.proofs.reading.strict_at.Kinds as reading-strict-at-kinds
+use Rattle.sheets.proofs.reading.strict_at.Reads as reading-strict-at-reads
+use Rattle.sheets.proofs.reading.line_at.Kinds as reading-line-at-kinds
+use Rattle.sheets.proofs.reading.line_at.Reads as reading-line-at-reads
+use Rattle.sheets.proofs.reading.line_says.Kinds as reading-line-says-kinds
+use Rattle.sheets.proofs.reading.line_says.Reads as reading-line-says-reads
+use Rattle.sheets.proofs.reading.read_sheet.Kinds as reading-read-sheet-kinds
+use Rattle.sheets.proofs.reading.read_sheet.Reads as reading-read-sheet-reads
+use Rattle.sheets.proofs.writing.put_start.Kinds as writing-put-start-kinds
+use Rattle.sheets.proofs.writing.put_start.Reads as writing-put-start-reads
+use Rattle.sheets.proofs.writing.put_global_head.Kinds as writing-put-global-head-kinds
+use Rattle.sheets.proofs.writing.put_global_head.Reads as writing-put-global-head-reads
+use Rattle.sheets.proofs.writing.put_global.Kinds as writing-put-global-kinds
+use Rattle.sheets.proofs.writing.put_global.Reads as writing-put-global-reads
+use Rattle.sheets.proofs.writing.put_value_head.Kinds as writing-put-value-head-kinds
+use Rattle.sheets.proofs.writing.put_value_head.Reads as writing-put-value-head-reads
+use Rattle.sheets.proofs.writing.put_value.Kinds as writing-put-value-kinds
+use Rattle.sheets.proofs.writing.put_value.Reads as writing-put-value-reads
+use Rattle.sheets.proofs.writing.put_entry.Kinds as writing-put-entry-kinds
+use Rattle.sheets.proofs.writing.put_entry.Reads as writing-put-entry-reads
+use Rattle.sheets.proofs.writing.put_last.Kinds as writing-put-last-kinds
+use Rattle.sheets.proofs.writing.put_last.Reads as writing-put-last-reads
+use Rattle.demands.specs.Unique.{NoSecond}
+use Rattle.demands.proofs.Unique.{once, wrote-first}
+
+-- ---- sheets::order
+
+pub order-is-missing : NoSecond order-is-missing-kinds.ps order-is-missing-kinds.r order-is-missing-reads.Post
+order-is-missing κs a z z′ left left′ p q = (once p q, refl)
+
+pub order-step-line : NoSecond order-step-line-kinds.ps order-step-line-kinds.r order-step-line-reads.Post
+order-step-line κs a z z′ left left′ p q = (once p q, refl)
+
+pub order-finish-of : NoSecond order-finish-of-kinds.ps order-finish-of-kinds.r order-finish-of-reads.Post
+order-finish-of κs a z z′ left left′ p q = (once p q, refl)
+
+pub order-wrong-piece : NoSecond order-wrong-piece-kinds.ps order-wrong-piece-kinds.r order-wrong-piece-reads.Post
+order-wrong-piece κs a z z′ left left′ p q = (once p q, refl)
+
+-- ---- sheets::plain
+
+pub plain-size-at : NoSecond plain-size-at-kinds.ps plain-size-at-kinds.r plain-size-at-reads.Post
+plain-size-at κs a z z′ left left′ p q = (once (p .0) (q .0), refl)
+
+pub plain-num-at : NoSecond plain-num-at-kinds.ps plain-num-at-kinds.r plain-num-at-reads.Post
+plain-num-at κs a z z′ left left′ p q = (once p q, refl)
+
+pub plain-find : NoSecond plain-find-kinds.ps plain-find-kinds.r plain-find-reads.Post
+plain-find κs a z z′ left left′ p q = (once (p .0) (q .0), refl)
+
+-- ---- sheets::reading
+
+pub reading-end-of : NoSecond reading-end-of-kinds.ps reading-end-of-kinds.r reading-end-of-reads.Post
+reading-end-of κs a z z′ left left′ p q = (once (p .0) (q .0), refl)
+
+pub reading-entry-at : NoSecond reading-entry-at-kinds.ps reading-entry-at-kinds.r reading-entry-at-reads.Post
+reading-entry-at κs a z z′ left left′ p q = (once p q, refl)
+
+pub reading-entry-line : NoSecond reading-entry-line-kinds.ps reading-entry-line-kinds.r reading-entry-line-reads.Post
+reading-entry-line κs a z z′ left left′ p q = (once p q, refl)
+
+pub reading-strict-at : NoSecond reading-strict-at-kinds.ps reading-strict-at-kinds.r reading-strict-at-reads.Post
+reading-strict-at κs a z z′ left left′ p q = (once (p .0) (q .0), refl)
+
+pub reading-line-at : NoSecond reading-line-at-kinds.ps reading-line-at-kinds.r reading-line-at-reads.Post
+reading-line-at κs a z z′ left left′ p q = (once (p .0) (q .0), refl)
+
+pub reading-line-says : NoSecond reading-line-says-kinds.ps reading-line-says-kinds.r reading-line-says-reads.Post
+reading-line-says κs a z z′ left left′ p q = (once (p .0) (q .0), refl)
+
+pub reading-read-sheet : NoSecond reading-read-sheet-kinds.ps reading-read-sheet-kinds.r reading-read-sheet-reads.Post
+reading-read-sheet κs a z z′ left left′ p q = (once (p .0) (q .0), refl)
+
+-- ---- sheets::writing
+
+pub writing-put-start : NoSecond writing-put-start-kinds.ps writing-put-start-kinds.r writing-put-start-reads.Post
+writing-put-start κs a z z′ left left′ p q = wrote-first (left .1) (p .0) (q .0)
+
+pub writing-put-global-head : NoSecond writing-put-global-head-kinds.ps writing-put-global-head-kinds.r writing-put-global-head-reads.Post
+writing-put-global-head κs a z z′ left left′ p q = wrote-first (left .1) (p .0) (q .0)
+
+pub writing-put-global : NoSecond writing-put-global-kinds.ps writing-put-global-kinds.r writing-put-global-reads.Post
+writing-put-global κs a z z′ left left′ p q = wrote-first (left .1) (p .0) (q .0)
+
+pub writing-put-value-head : NoSecond writing-put-value-head-kinds.ps writing-put-value-head-kinds.r writing-put-value-head-reads.Post
+writing-put-value-head κs a z z′ left left′ p q = wrote-first (left .1) (p .0) (q .0)
+
+pub writing-put-value : NoSecond writing-put-value-kinds.ps writing-put-value-kinds.r writing-put-value-reads.Post
+writing-put-value κs a z z′ left left′ p q = wrote-first (left .1) (p .0) (q .0)
+
+pub writing-put-entry : NoSecond writing-put-entry-kinds.ps writing-put-entry-kinds.r writing-put-entry-reads.Post
+writing-put-entry κs a z z′ left left′ p q = wrote-first (left .1) (p .0) (q .0)
+
+pub writing-put-last : NoSecond writing-put-last-kinds.ps writing-put-last-kinds.r writing-put-last-reads.Post
+writing-put-last κs a z z′ left left′ p q = wrote-first (left .1) (p .0) (q .0)

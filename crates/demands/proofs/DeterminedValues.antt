@@ -1,0 +1,55 @@
+-- No second result fits the contract of a public function of crate values. Assumes nothing.
+use mathlib.Core.Path.{refl}
+use Rattle.values.proofs.back.strict.Kinds as back-strict-kinds
+use Rattle.values.proofs.back.strict.Reads as back-strict-reads
+use Rattle.values.proofs.numbers.scan_at.Kinds as numbers-scan-at-kinds
+use Rattle.values.proofs.numbers.scan_at.Reads as numbers-scan-at-reads
+use Rattle.values.proofs.numbers.read.Kinds as numbers-read-kinds
+use Rattle.values.proofs.numbers.read.Reads as numbers-read-reads
+use Rattle.values.proofs.numbers.head_of.Kinds as numbers-head-of-kinds
+use Rattle.values.proofs.numbers.head_of.Reads as numbers-head-of-reads
+use Rattle.values.proofs.spell.put_whole.Kinds as spell-put-whole-kinds
+use Rattle.values.proofs.spell.put_whole.Reads as spell-put-whole-reads
+use Rattle.values.proofs.spell.put_real.Kinds as spell-put-real-kinds
+use Rattle.values.proofs.spell.put_real.Reads as spell-put-real-reads
+use Rattle.values.proofs.spell.put_head.Kinds as spell-put-head-kinds
+use Rattle.values.proofs.spell.put_head.Reads as spell-put-head-reads
+use Rattle.values.proofs.spell.put_front.Kinds as spell-put-front-kinds
+use Rattle.values.proofs.spell.put_front.Reads as spell-put-front-reads
+use Rattle.values.proofs.spell.front_len.Kinds as spell-front-len-kinds
+use Rattle.values.proofs.spell.front_len.Reads as spell-front-len-reads
+use Rattle.demands.specs.Unique.{NoSecond}
+use Rattle.demands.proofs.Unique.{once, wrote-first}
+
+-- ---- values::back
+
+pub back-strict : NoSecond back-strict-kinds.ps back-strict-kinds.r back-strict-reads.Post
+back-strict κs a z z′ left left′ p q = (once (p .0) (q .0), refl)
+
+-- ---- values::numbers
+
+pub numbers-scan-at : NoSecond numbers-scan-at-kinds.ps numbers-scan-at-kinds.r numbers-scan-at-reads.Post
+numbers-scan-at κs a z z′ left left′ p q = (once (p .0) (q .0), refl)
+
+pub numbers-read : NoSecond numbers-read-kinds.ps numbers-read-kinds.r numbers-read-reads.Post
+numbers-read κs a z z′ left left′ p q = (once (p .0) (q .0), refl)
+
+pub numbers-head-of : NoSecond numbers-head-of-kinds.ps numbers-head-of-kinds.r numbers-head-of-reads.Post
+numbers-head-of κs a z z′ left left′ p q = (once (p .0) (q .0), refl)
+
+-- ---- values::spell
+
+pub spell-put-whole : NoSecond spell-put-whole-kinds.ps spell-put-whole-kinds.r spell-put-whole-reads.Post
+spell-put-whole κs a z z′ left left′ p q = wrote-first (left .1) (p .0) (q .0)
+
+pub spell-put-real : NoSecond spell-put-real-kinds.ps spell-put-real-kinds.r spell-put-real-reads.Post
+spell-put-real κs a z z′ left left′ p q = wrote-first (left .1) (p .0) (q .0)
+
+pub spell-put-head : NoSecond spell-put-head-kinds.ps spell-put-head-kinds.r spell-put-head-reads.Post
+spell-put-head κs a z z′ left left′ p q = wrote-first (left .1) (p .0) (q .0)
+
+pub spell-put-front : NoSecond spell-put-front-kinds.ps spell-put-front-kinds.r spell-put-front-reads.Post
+spell-put-front κs a z z′ left left′ p q = wrote-first (left .1) (p .0) (q .0)
+
+pub spell-front-len : NoSecond spell-front-len-kinds.ps spell-front-len-kinds.r spell-front-len-reads.Post
+spell-front-len κs a z z′ left left′ p q = (once (p .0) (q .0), refl)

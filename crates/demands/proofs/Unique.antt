@@ -1,0 +1,49 @@
+-- No second result fits: a contract that equates its result, and what it leaves, with functions of the input has one. Assumes nothing.
+use mathlib.Core.Path.{_≡_, sym, ap, _∙_}
+use mathlib.Core.List.{List}
+use Prim.Native.Nat.{ℕ}
+use Rattle.columns.specs.Laid.{Wrote}
+use Rattle.records.specs.Written.{Put}
+use Rattle.demands.specs.Unique.{ReadDetermined, SzelmikraReadDetermined, ShowDetermined, AnsweredOnce, WroteOnce, PutOnce}
+
+-- two that are the same third are one
+pub once : {A : Type 0} {x y a : A} → x ≡ a → y ≡ a → x ≡ y
+once p q = p ∙ sym q
+
+-- ---- the forms of a contract
+
+pub answered-once : AnsweredOnce
+answered-once A B o left r r′ b b′ p q = (once (p .0) (q .0), once (p .1) (q .1))
+
+pub wrote-once : WroteOnce
+wrote-once o at bs o′ o″ r r′ p q = (once (p .next) (q .next), once (p .bytes) (q .bytes))
+
+pub put-once : PutOnce
+put-once base w o p bs o′ o″ r r′ h k = (once (h .next) (k .next), once (h .bytes) (k .bytes))
+
+-- where the buffer is the first argument
+pub wrote-first : {T : Type 0} (others : T) {o bs o′ o″ : List ℕ} {at r r′ : ℕ} → Wrote o at bs o′ r → Wrote o at bs o″ r′
+    → (r ≡ r′) × (_≡_ {A = List ℕ × T} (o′, others) (o″, others))
+wrote-first {T} others p q = (once (p .next) (q .next), ap (λ (out : List ℕ). (out, others)) (once (p .bytes) (q .bytes)))
+
+pub put-first : {T : Type 0} (others : T) {base w p r r′ : ℕ} {o bs o′ o″ : List ℕ} → Put base w o p bs o′ r → Put base w o p bs o″ r′
+    → (r ≡ r′) × (_≡_ {A = List ℕ × T} (o′, others) (o″, others))
+put-first {T} others h k = (once (h .next) (k .next), ap (λ (out : List ℕ). (out, others)) (once (h .bytes) (k .bytes)))
+
+-- where the lent buffer or table is the third and last argument
+pub answered-third : {A B : Type 0} {x z z′ : A} {y b b′ : B} → (z ≡ x) × (b ≡ y) → (z′ ≡ x) × (b′ ≡ y)
+    → (z ≡ z′) × (_≡_ {A = Unit {0} × (Unit {0} × (B × Unit {0}))} (tt, (tt, (b, tt))) (tt, (tt, (b′, tt))))
+answered-third {B = B} p q = (once (p .0) (q .0), ap (λ (b : B). (tt, (tt, (b, tt)))) (once (p .1) (q .1)))
+
+-- ---- the entry points
+
+pub read-determined : ReadDetermined
+read-determined κs a z z′ left left′ p q = answered-third p q
+
+pub szelmikra-read-determined : SzelmikraReadDetermined
+szelmikra-read-determined κs a z z′ left left′ p q = answered-third p q
+
+pub show-determined : ShowDetermined
+show-determined κs a z z′ left left′ p q =
+    let b = wrote-first (left .1 .1) (p .0) (q .0) in
+    (b .0, ap (λ (out : List ℕ × Unit {0}). (tt, out)) (b .1))

@@ -1,0 +1,85 @@
+-- "Show that no second result fits": for every input a public function's contract determines its result, and each byte and slot that was lent to it.
+-- The contract is the one that the source states: `Post` is made from the function's `ensures`, so what is shown here cannot part from the source.
+use mathlib.Core.Path.{_≡_}
+use mathlib.Core.List.{List}
+use Prim.Native.Nat.{ℕ}
+use contract.Lifetimes.{Lfts}
+use denote.Ref.{now}
+use denote.Triple.Clauses.{Lasts, atExit}
+use borrow.Fn.Kind.{PK, RK}
+use borrow.Fn.Kinds.{Out, Dens, resT, endedOf}
+use Rattle.columns.specs.Refusal.{Outcome}
+use Rattle.columns.specs.Laid.{Wrote}
+use Rattle.records.specs.Written.{Put}
+use Rattle.columns.specs.Columns.{textOf}
+use Rattle.values.specs.Value.{Item}
+use Rattle.records.specs.Items.{itemsFrom}
+use Rattle.entities.specs.declared.Span.{Span}
+use Rattle.entities.proofs.marks.carried_at.Kinds as carried-at-kinds
+use Rattle.entities.proofs.marks.carried_at.Reads as carried-at-reads
+use Rattle.rewrap.specs.declared.Answer.{Answer}
+use Rattle.rewrap.specs.Answers.{answerOf}
+use Rattle.rewrap.proofs.read.Kinds as read-kinds
+use Rattle.rewrap.proofs.read.Reads as read-reads
+use Rattle.szelmikra.proofs.szelmikra_read.Kinds as szelmikra-read-kinds
+use Rattle.szelmikra.proofs.szelmikra_read.Reads as szelmikra-read-reads
+use Rattle.showing.proofs.show.Kinds as show-kinds
+use Rattle.showing.proofs.show.Reads as show-reads
+
+-- Of a function with these parameters and this result: two results, each with last values of all that was lent by `&mut`, that both are as `Post`
+-- has it for the same arguments, are the same, and so are the last values.
+abbrev pub NoSecond : {n : ℕ} (ps : List (PK n)) (r : RK n) → Out n ps r → Type 0
+NoSecond {n} ps r Post = (κs : Lfts n) (a : Dens κs ps) (z z′ : resT r κs .Denot) (left left′ : Lasts (endedOf n ps r) κs a)
+    → Post κs a z (atExit (endedOf n ps r) κs a left) → Post κs a z′ (atExit (endedOf n ps r) κs a left′) → (z ≡ z′) × (left ≡ left′)
+
+-- ---- the entry points
+
+abbrev pub ReadDetermined : Type 0
+ReadDetermined = NoSecond read-kinds.ps read-kinds.r read-reads.Post
+
+abbrev pub SzelmikraReadDetermined : Type 0
+SzelmikraReadDetermined = NoSecond szelmikra-read-kinds.ps szelmikra-read-kinds.r szelmikra-read-reads.Post
+
+abbrev pub ShowDetermined : Type 0
+ShowDetermined = NoSecond show-kinds.ps show-kinds.r show-reads.Post
+
+-- ---- the forms of a contract
+
+-- an answer, and what is left of what was lent, by an outcome: read and write, and the table
+abbrev pub Answered : {A B : Type 0} → Outcome (List A) → (Outcome (List A) → B) → Answer → B → Type 0
+Answered o left r b = (r ≡ answerOf o) × (b ≡ left o)
+
+abbrev pub AnsweredOnce : Type 1
+AnsweredOnce = (A B : Type 0) (o : Outcome (List A)) (left : Outcome (List A) → B) (r r′ : Answer) (b b′ : B)
+    → Answered o left r b → Answered o left r′ b′ → (r ≡ r′) × (b ≡ b′)
+
+-- bytes laid over a list
+abbrev pub WroteOnce : Type 0
+WroteOnce = (o : List ℕ) (at : ℕ) (bs o′ o″ : List ℕ) (r r′ : ℕ) → Wrote o at bs o′ r → Wrote o at bs o″ r′ → (r ≡ r′) × (o′ ≡ o″)
+
+-- text laid into the columns of a file
+abbrev pub PutOnce : Type 0
+PutOnce = (base w : ℕ) (o : List ℕ) (p : ℕ) (bs o′ o″ : List ℕ) (r r′ : ℕ) → Put base w o p bs o′ r → Put base w o p bs o″ r′ → (r ≡ r′) × (o′ ≡ o″)
+
+-- ---- the one exception: `entities::marks::carried_at` tells where the values stand that an entity carries. Where it carries none any place will do
+
+-- the values that stand there
+abbrev pub carriedIn : (κs : Lfts 1) → Dens κs carried-at-kinds.ps → Span → List Item
+carriedIn κs (file, (base, (lines, (c, (d, tt))))) r = itemsFrom 64 c d (textOf (now file) base 64 lines) (r .from) (r .count)
+
+-- they are determined
+abbrev pub CarriedDetermined : Type 0
+CarriedDetermined = (κs : Lfts 1) (a : Dens κs carried-at-kinds.ps) (z z′ : Span) (left left′ : Lasts (endedOf 1 carried-at-kinds.ps carried-at-kinds.r) κs a)
+    → carried-at-reads.Post κs a z (atExit (endedOf 1 carried-at-kinds.ps carried-at-kinds.r) κs a left)
+    → carried-at-reads.Post κs a z′ (atExit (endedOf 1 carried-at-kinds.ps carried-at-kinds.r) κs a left′) → carriedIn κs a z ≡ carriedIn κs a z′
+
+-- the place is not: arguments as the contract asks for, and two results as it promises
+pub record SecondPlace (κs : Lfts 1) : Type 0 where
+  pub passed : Dens κs carried-at-kinds.ps
+  pub asked : carried-at-reads.Pre κs passed
+  pub left : Lasts (endedOf 1 carried-at-kinds.ps carried-at-kinds.r) κs passed
+  pub one : Span
+  pub other : Span
+  pub one-fits : carried-at-reads.Post κs passed one (atExit (endedOf 1 carried-at-kinds.ps carried-at-kinds.r) κs passed left)
+  pub other-fits : carried-at-reads.Post κs passed other (atExit (endedOf 1 carried-at-kinds.ps carried-at-kinds.r) κs passed left)
+  pub differ : one ≡ other → ⊥
