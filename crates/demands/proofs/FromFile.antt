@@ -30,7 +30,7 @@ use Rattle.model.specs.Fit.{EntryFits, Fits}
 use Rattle.passes.specs.Listed.{entryOf}
 use Rattle.passes.proofs.Facts.{Passed, passed-all}
 use Rattle.rewrap.proofs.Sound.{first-is, good-entity}
-use Rattle.demands.proofs.Each.{each-also, each-both, each-from, each-keeps}
+use Rattle.rows.proofs.Each.{each-also, each-both, each-from, each-keeps}
 use Rattle.demands.proofs.Printable.{text-prints}
 use Rattle.demands.proofs.Starts.{starts-fit, starts-some}
 use Rattle.demands.proofs.Values.{rest-held}

@@ -23,7 +23,7 @@ use Rattle.model.specs.Model.{typeOf, rowOf, sheetOf, marked, valueIn, markIn, 
 use Rattle.model.specs.Write.{equal, allEqual, globalRule, rowRules, rowReferences, rowEntity, marksRight, rowEntityRules, rowTypes, rowSize, firstGlobal, firstRow, sheetRules, one as oneLine}
 use Rattle.model.specs.Fit.{InKind, EntryFits, Fits}
 use Rattle.rewrap.proofs.Sound.{Ruled, rules-of, good-entity}
-use Rattle.demands.proofs.Each.{each-made, each-accepted}
+use Rattle.rows.proofs.Each.{each-made, each-accepted}
 use Rattle.demands.proofs.Trims.{given-ends}
 use Rattle.demands.proofs.Marks.{marked-own, equal-is, all-equal-is}
 

@@ -1,4 +1,3 @@
-pub mod Each
 pub mod Trims
 pub mod Marks
 pub mod Rows

@@ -31,7 +31,7 @@ use Rattle.passes.specs.Listed.{entryOf, allEntries}
 use Rattle.passes.proofs.Listing.{entries-are}
 use Rattle.passes.proofs.Facts.{Passed, passed-entry}
 use Rattle.rewrap.proofs.Sound.{taken, Ruled, rules-of}
-use Rattle.demands.proofs.Each.{each-made, each-up, each-accepted, each-from}
+use Rattle.rows.proofs.Each.{each-made, each-up, each-accepted, each-from}
 use Rattle.demands.proofs.Printable.{line-prints, line-wide, text-prints}
 
 -- ---- its numbers and its label

@@ -9,4 +9,5 @@ pub mod Exactly
 pub mod Reading
 pub mod Answered
 pub mod ReadingAnswers
+pub mod WritingAnswers
 pub mod Numbers

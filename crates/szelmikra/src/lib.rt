@@ -2,7 +2,7 @@
 use rewrap::Answer;
 ghost use mathlib.Core.Path.{_≡_};
 ghost use lib.ListN.{length};
-ghost use Rattle.rewrap.specs.Answers.{answerOf, leftIn, readsInto};
+ghost use Rattle.rewrap.specs.Answers.{answerOf, leftIn, readsInto, writesInto};
 
 // Reads a file to its sheet.
 #[no_mangle]
@@ -11,4 +11,13 @@ pub extern "C" fn szelmikra_read(list: u64, file: &[u8], sheet: &mut [u8]) -> An
     ensures { λ r. ⌜ now (sheet .exit) ≡ leftIn (now (sheet .entry)) (readsInto list (now (file .entry)) (length (now (sheet .entry)))) ⌝ }
 {
     rewrap::read(list, file, sheet)
+}
+
+// Writes a sheet to its canonical file.
+#[no_mangle]
+pub extern "C" fn szelmikra_write(list: u64, sheet: &[u8], file: &mut [u8]) -> Answer
+    ensures { λ r. ⌜ r ≡ answerOf (writesInto list (now (sheet .entry)) (length (now (file .entry)))) ⌝ }
+    ensures { λ r. ⌜ now (file .exit) ≡ leftIn (now (file .entry)) (writesInto list (now (sheet .entry)) (length (now (file .entry)))) ⌝ }
+{
+    rewrap::write(list, sheet, file)
 }

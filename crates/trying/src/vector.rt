@@ -7,6 +7,9 @@ ghost use mathlib.Core.Path.{_≡_};
 ghost use Prim.Native.Nat.{_≤_};
 ghost use lib.ListN.{length};
 
+// What a vector asks for: to be read, or else to be written.
+const READ: u64 = 0;
+
 // Whether an answer is the expected one, with this length.
 fn is_answer(a: Answer, number: u64, place: u64, length: usize) -> bool {
     if a.number != number {
@@ -30,8 +33,19 @@ fn holds(out: &[u8], expected: &[u8]) -> bool {
     untouched(out, n)
 }
 
-// Whether reading gives the expected answer and the expected bytes; a refusal has none.
-pub fn reads(
+// Reads or writes.
+fn run(op: u64, list: u64, input: &[u8], out: &mut [u8]) -> Answer
+    ensures { λ _. ⌜ length (now (out .exit)) ≡ length (now (out .entry)) ⌝ }
+{
+    if op == READ {
+        return rewrap::read(list, input, out);
+    }
+    rewrap::write(list, input, out)
+}
+
+// Whether the answer and the bytes are the expected ones; a refusal has no bytes.
+pub fn gives(
+    op: u64,
     list: u64,
     number: u64,
     place: u64,
@@ -42,7 +56,7 @@ pub fn reads(
     ensures { λ _. ⌜ length (now (out .exit)) ≡ length (now (out .entry)) ⌝ }
 {
     fill(out);
-    let told = rewrap::read(list, input, out);
+    let told = run(op, list, input, out);
     if !is_answer(told, number, place, expected.len()) {
         return false;
     }
@@ -50,7 +64,7 @@ pub fn reads(
 }
 
 // Whether a buffer that is one byte too short gives 16 and stays as it was.
-pub fn reads_short(list: u64, input: &[u8], room: usize, out: &mut [u8]) -> bool
+pub fn wants_room(op: u64, list: u64, input: &[u8], room: usize, out: &mut [u8]) -> bool
     ensures { λ _. ⌜ length (now (out .exit)) ≡ length (now (out .entry)) ⌝ }
 {
     if room == 0 {
@@ -60,7 +74,7 @@ pub fn reads_short(list: u64, input: &[u8], room: usize, out: &mut [u8]) -> bool
         return false;
     }
     fill(out);
-    let told = rewrap::read(list, input, &mut out[..room - 1]);
+    let told = run(op, list, input, &mut out[..room - 1]);
     if !is_answer(told, 16, 0, 0) {
         return false;
     }

@@ -1,17 +1,14 @@
 // Tries the vectors of the pack at standard input, and says how many of them passed; those that did not are named.
 use trying::Packed;
 use trying::pack::vector_at;
-use trying::vector::reads;
-use trying::vector::reads_short;
+use trying::vector::gives;
+use trying::vector::wants_room;
 ghost use mathlib.Core.Path.{_≡_};
 ghost use Prim.Native.Nat.{_≤_};
 ghost use lib.ListN.{length};
 
 // More than the pack takes.
 const PACK: usize = 524288;
-
-// What a vector asks for.
-const READ: u64 = 0;
 
 // How many vectors were tried, and how many passed.
 struct Tally {
@@ -38,13 +35,10 @@ fn passes(
 ) -> bool
     ensures { λ _. ⌜ length (now (out .exit)) ≡ length (now (out .entry)) ⌝ }
 {
-    if op != READ {
+    if !gives(op, list, number, place, input, expected, out) {
         return false;
     }
-    if !reads(list, number, place, input, expected, out) {
-        return false;
-    }
-    reads_short(list, input, expected.len(), out)
+    wants_room(op, list, input, expected.len(), out)
 }
 
 // 1 for a vector that passes, 0 for one that is named.

@@ -1,0 +1,15 @@
+pub mod Said
+pub mod Tallies
+pub mod Counted
+pub mod Totals
+pub mod Laying
+pub mod Sections
+pub mod Started
+pub mod Turns
+pub mod Rowed
+pub mod Parts
+pub mod Wides
+pub mod Readied
+pub mod Whole
+pub mod Answers
+pub mod Good

@@ -1,0 +1,26 @@
+-- A refusal is that of writing; the file's lines are counted before they are laid.
+use borrow.Author.Needs.{needs}
+use Rattle.rewrap.proofs.WritingAnswers.{writings}
+use Rattle.rewrap.proofs.write.Statement.{statement}
+use Rattle.rewrap.proofs.write.Tie as tie
+
+pub write-spec : {M : Type 1} → statement M
+write-spec =
+    tie.close
+    (tie.spec
+    (λ c κs. search (needs, writings))
+    (λ c. search (needs, writings))
+    (λ c κs. search (needs, writings))
+    (λ c. search (needs, writings))
+    (λ c κs. search (needs, writings))
+    (λ c. search (needs, writings))
+    (λ c κs. search (needs, writings))
+    (λ c. search (needs, writings))
+    (λ c κs. search (needs, writings))
+    (λ c κs. search (needs, writings))
+    (λ c. search (needs, writings))
+    (λ c κs. search (needs, writings))
+    (λ c. search (needs, writings))
+    (λ c. search (needs, writings))
+    (λ c. search (needs, writings))
+    (λ c. search (needs, writings)))

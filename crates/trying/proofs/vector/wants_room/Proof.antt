@@ -1,0 +1,23 @@
+-- The buffer is long enough for a byte less.
+use borrow.Author.Needs.{needs}
+use Rattle.trying.proofs.Rooms.{parts}
+use Rattle.trying.proofs.vector.wants_room.Statement.{statement}
+use Rattle.trying.proofs.vector.wants_room.Tie as tie
+
+pub wants-room-spec : {M : Type 1} → statement M
+wants-room-spec =
+    tie.close
+    (tie.spec
+    (λ c. search (needs, parts))
+    (λ c. search (needs, parts))
+    (λ c κs. search (needs, parts))
+    (λ c. search (needs, parts))
+    (λ c. search (needs, parts))
+    (λ c. search (needs, parts))
+    (λ c κs. search (needs, parts))
+    (λ c κs. search (needs, parts))
+    (λ c. search (needs, parts))
+    (λ c. search (needs, parts))
+    (λ c κs. search (needs, parts))
+    (λ c. search (needs, parts))
+    (λ c. search (needs, parts)))
