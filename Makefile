@@ -1,7 +1,84 @@
-# test: every crate is proved from nothing, every must-fail edit refused, every program's output compared.
-.PHONY: test fmt
-test:
-	@rt ci
+# make sample      the sheet of the sample file
+# make tools       the command line program, target/host/szelmikra
+# make check-host  vectors, archive against plain, command line
+# make test        all of that; then every crate is proved from nothing, every must-fail edit refused, every program's output compared
+# make install     header, archive, program, pkg-config and CMake files under PREFIX
+# make check-install  installs to a temporary folder and builds the example there with pkg-config and CMake
+# make bench       times; make stack: stack depth; make example: the C++ example on the sample file
+VERSION = 0.1.0
+PREFIX ?= /usr/local
+ARCHIVE ?= target/staticlib/libszelmikra.a
+OUT = target/host
+CXXFLAGS ?= -O2 -Wall -Wextra -Wpedantic -Wconversion
+
+include host/host.mk
+
+.PHONY: test fmt lib tools sample check-host check-install bench stack example install
+.DELETE_ON_ERROR:
+.DEFAULT_GOAL = tools
+
+TOOL = $(OUT)/szelmikra.o $(patsubst host/%.cpp,$(OUT)/%.o,$(wildcard host/tool/*.cpp))
+PLAIN = $(patsubst host/%.cpp,$(OUT)/%.o,$(wildcard host/plain/*.cpp))
+TESTS = $(OUT)/tests
+
+tools: $(OUT)/szelmikra
+
+sample: tools
+	@$(HOST_RUN) $(OUT)/szelmikra sheet samples/chair.igs
+
+lib:
+	@rt staticlib szelmikra
+
+target/staticlib/libszelmikra.a: $(shell find crates -name '*.rt')
+	@rt staticlib szelmikra
+
+$(OUT)/%.o: host/%.cpp host/host.mk Makefile | toolchain
+	@mkdir -p $(@D)
+	@$(HOST_CXX) -std=c++17 $(CXXFLAGS) -Iinclude -DSZELMIKRA_VERSION='"$(VERSION)"' -MMD -MP -c $< -o $@
+
+$(OUT)/szelmikra: $(TOOL)
+$(OUT)/bench: $(OUT)/bench.o $(TESTS)/large.o $(PLAIN)
+$(TESTS)/vectors: $(TESTS)/vectors.o $(TESTS)/harness.o $(PLAIN)
+MAKERS = $(TESTS)/random_files.o $(TESTS)/soup.o $(TESTS)/damage.o $(TESTS)/large.o
+$(TESTS)/differential: $(TESTS)/differential.o $(TESTS)/harness.o $(MAKERS) $(PLAIN)
+$(TESTS)/stack: $(TESTS)/stack.o $(TESTS)/large.o $(PLAIN)
+PROGRAMS = $(OUT)/szelmikra $(OUT)/bench $(TESTS)/vectors $(TESTS)/differential $(TESTS)/stack
+$(PROGRAMS): $(ARCHIVE)
+	@$(HOST_CXX) $(CXXFLAGS) -pthread -o $@ $(filter %.o,$^) $(ARCHIVE)
+
+check-host: $(TESTS)/vectors $(TESTS)/differential $(OUT)/szelmikra
+	@$(HOST_RUN) $(TESTS)/vectors crates/vectors/stdin
+	@$(HOST_RUN) $(TESTS)/differential
+	@host/tests/cli.sh $(HOST_RUN) $(OUT)/szelmikra
+
+check-install: tools
+	@host/tests/install.sh "$(HOST_CXX)" "$(HOST_RUN)" $(MAKE) -s ARCHIVE=$(ARCHIVE)
+
+bench: $(OUT)/bench
+	@$(HOST_RUN) $<
+
+stack: $(TESTS)/stack
+	@$(HOST_RUN) $<
+
+example: $(ARCHIVE) | toolchain
+	@mkdir -p $(OUT)
+	@$(HOST_CXX) -std=c++17 $(CXXFLAGS) -Iinclude -o $(OUT)/example host/example/example.cpp $(ARCHIVE)
+	@$(HOST_RUN) $(OUT)/example samples/chair.igs
+
+TO = $(DESTDIR)$(PREFIX)
+install: tools
+	@install -d $(TO)/bin $(TO)/include $(TO)/lib/pkgconfig $(TO)/lib/cmake/szelmikra
+	@install -m 755 $(OUT)/szelmikra $(TO)/bin/
+	@install -m 644 include/szelmikra.h $(TO)/include/
+	@install -m 644 $(ARCHIVE) $(TO)/lib/libszelmikra.a
+	@install -m 644 host/package/szelmikraConfig.cmake $(TO)/lib/cmake/szelmikra/
+	@sed 's/@VERSION@/$(VERSION)/' host/package/szelmikraConfigVersion.cmake.in >$(TO)/lib/cmake/szelmikra/szelmikraConfigVersion.cmake
+	@sed 's/@VERSION@/$(VERSION)/' host/package/szelmikra.pc.in >$(TO)/lib/pkgconfig/szelmikra.pc
+
+-include $(shell find $(OUT) -name '*.d' 2>/dev/null)
 
 fmt:
 	@rt fmt
+
+test: check-host
+	@rt ci

@@ -1,0 +1,24 @@
+// Large files and sheets, for tests of length, for the bench and for the stack.
+#pragma once
+
+#include <cstddef>
+#include <string>
+
+namespace tests {
+
+// A canonical file with just that many lines (at least 100), of points, lines, curves, matrices, groups and instances.
+std::string largeFile(std::size_t lines);
+
+// The same entities with their P blocks in another order.
+std::string shuffledBlocks(const std::string &canonical);
+
+// One surface whose values take more than 100,000 lines.
+std::string oneLargeEntity();
+
+// One composite curve with that many references.
+std::string manyReferences(std::size_t references);
+
+// A sheet of nothing but S lines, whose file has just that many lines.
+std::string startLinesOnly(std::size_t lines);
+
+}  // namespace tests
