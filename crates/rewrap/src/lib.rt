@@ -73,11 +73,11 @@ pub fn write(list: u64, sheet: &[u8], out: &mut [u8]) -> Answer
                     if out.len() < bytes {
                         return answers::refusal(Fault::Room, 0);
                     }
-                    let end = canonical::file::put_file(out, sheet, counts, entries);
+                    let laid = canonical::file::put_file(out, sheet, counts, entries);
                     Answer {
                         number: 0,
                         place: 0,
-                        length: end as u64,
+                        length: laid as u64,
                     }
                 }
             }
