@@ -1,4 +1,3 @@
-pub mod Passes
 pub mod Listing
 pub mod Walks
 pub mod Spellings
