@@ -17,7 +17,7 @@ take-front [] t = refl
 take-front (b ∷ s) t = ap (λ (l : List ℕ). b ∷ l) (take-front s t)
 
 -- what is laid from the start on stands there
-front-laid : (out s : List ℕ) → length s ≤ length out → take (length s) (laid out 0 s) ≡ s
+pub front-laid : (out s : List ℕ) → length s ≤ length out → take (length s) (laid out 0 s) ≡ s
 front-laid out s h =
     let k : 0 + length s ≤ length out = omega arith in
     ap (take (length s)) (laid-eq out 0 s k) ∙ take-front s (drop (0 + length s) out)

@@ -21,6 +21,8 @@ pub mod LastLine
 pub mod Examples
 pub mod Impostors
 pub mod LengthTold
+pub mod Calls
+pub mod Functions
 pub mod OneSheetOnly
 pub mod DeterminedColumns
 pub mod DeterminedValues
@@ -35,4 +37,9 @@ pub mod DeterminedPasses
 pub mod DeterminedEntities
 pub mod DeterminedReading
 pub mod DeterminedPrinting
+pub mod DeterminedWriting
+pub mod DeterminedBlocks
+pub mod NextPlace
+pub mod DeterminedCanonical
+pub mod DeterminedRewrap
 pub mod CarriedAt

@@ -1,10 +1,11 @@
 -- No second result fits: a contract that equates its result, and what it leaves, with functions of the input has one. Assumes nothing.
-use mathlib.Core.Path.{_≡_, sym, ap, _∙_}
+use mathlib.Core.Path.{_≡_, refl, sym, ap, _∙_}
 use mathlib.Core.List.{List}
 use Prim.Native.Nat.{ℕ}
 use Rattle.columns.specs.Laid.{Wrote}
 use Rattle.records.specs.Written.{Put}
-use Rattle.demands.specs.Unique.{ReadDetermined, SzelmikraReadDetermined, ShowDetermined, AnsweredOnce, WroteOnce, PutOnce}
+use Rattle.names.proofs.Once.{shown-once}
+use Rattle.demands.specs.Unique.{ReadDetermined, WriteDetermined, SzelmikraReadDetermined, SzelmikraWriteDetermined, ShowDetermined, NameDetermined, AnsweredOnce, WroteOnce, PutOnce}
 
 -- two that are the same third are one
 pub once : {A : Type 0} {x y a : A} → x ≡ a → y ≡ a → x ≡ y
@@ -30,6 +31,10 @@ pub put-first : {T : Type 0} (others : T) {base w p r r′ : ℕ} {o bs o′ o�
     → (r ≡ r′) × (_≡_ {A = List ℕ × T} (o′, others) (o″, others))
 put-first {T} others h k = (once (h .next) (k .next), ap (λ (out : List ℕ). (out, others)) (once (h .bytes) (k .bytes)))
 
+-- where only what is left of it is told
+pub left-first : {T : Type 0} (others : T) {o o′ x : List ℕ} → o ≡ x → o′ ≡ x → _≡_ {A = List ℕ × T} (o, others) (o′, others)
+left-first {T} others p q = ap (λ (out : List ℕ). (out, others)) (once p q)
+
 -- where the lent buffer or table is the third and last argument
 pub answered-third : {A B : Type 0} {x z z′ : A} {y b b′ : B} → (z ≡ x) × (b ≡ y) → (z′ ≡ x) × (b′ ≡ y)
     → (z ≡ z′) × (_≡_ {A = Unit {0} × (Unit {0} × (B × Unit {0}))} (tt, (tt, (b, tt))) (tt, (tt, (b′, tt))))
@@ -40,8 +45,19 @@ answered-third {B = B} p q = (once (p .0) (q .0), ap (λ (b : B). (tt, (tt, (b, 
 pub read-determined : ReadDetermined
 read-determined κs a z z′ left left′ p q = answered-third p q
 
+pub write-determined : WriteDetermined
+write-determined κs a z z′ left left′ p q = answered-third p q
+
 pub szelmikra-read-determined : SzelmikraReadDetermined
 szelmikra-read-determined κs a z z′ left left′ p q = answered-third p q
+
+pub szelmikra-write-determined : SzelmikraWriteDetermined
+szelmikra-write-determined κs a z z′ left left′ p q = answered-third p q
+
+pub name-determined : NameDetermined
+name-determined κs a z z′ left left′ p q =
+    let b = shown-once _ _ z z′ _ p q in
+    (b .0, b .1, refl)
 
 pub show-determined : ShowDetermined
 show-determined κs a z z′ left left′ p q =

@@ -21,8 +21,14 @@ use Rattle.rewrap.specs.declared.Answer.{Answer}
 use Rattle.rewrap.specs.Answers.{answerOf}
 use Rattle.rewrap.proofs.read.Kinds as read-kinds
 use Rattle.rewrap.proofs.read.Reads as read-reads
+use Rattle.rewrap.proofs.write.Kinds as write-kinds
+use Rattle.rewrap.proofs.write.Reads as write-reads
 use Rattle.szelmikra.proofs.szelmikra_read.Kinds as szelmikra-read-kinds
 use Rattle.szelmikra.proofs.szelmikra_read.Reads as szelmikra-read-reads
+use Rattle.szelmikra.proofs.szelmikra_write.Kinds as szelmikra-write-kinds
+use Rattle.szelmikra.proofs.szelmikra_write.Reads as szelmikra-write-reads
+use Rattle.names.proofs.name.Kinds as name-kinds
+use Rattle.names.proofs.name.Reads as name-reads
 use Rattle.showing.proofs.show.Kinds as show-kinds
 use Rattle.showing.proofs.show.Reads as show-reads
 
@@ -37,11 +43,23 @@ NoSecond {n} ps r Post = (κs : Lfts n) (a : Dens κs ps) (z z′ : resT r κs .
 abbrev pub ReadDetermined : Type 0
 ReadDetermined = NoSecond read-kinds.ps read-kinds.r read-reads.Post
 
+abbrev pub WriteDetermined : Type 0
+WriteDetermined = NoSecond write-kinds.ps write-kinds.r write-reads.Post
+
 abbrev pub SzelmikraReadDetermined : Type 0
 SzelmikraReadDetermined = NoSecond szelmikra-read-kinds.ps szelmikra-read-kinds.r szelmikra-read-reads.Post
 
+abbrev pub SzelmikraWriteDetermined : Type 0
+SzelmikraWriteDetermined = NoSecond szelmikra-write-kinds.ps szelmikra-write-kinds.r szelmikra-write-reads.Post
+
 abbrev pub ShowDetermined : Type 0
 ShowDetermined = NoSecond show-kinds.ps show-kinds.r show-reads.Post
+
+-- the name lookup answers a part of what was lent: where it stands and its bytes are determined
+abbrev pub NameDetermined : Type 0
+NameDetermined = (κs : Lfts 2) (a : Dens κs name-kinds.ps) (z z′ : resT name-kinds.r κs .Denot) (left left′ : Lasts (endedOf 2 name-kinds.ps name-kinds.r) κs a)
+    → name-reads.Post κs a z (atExit (endedOf 2 name-kinds.ps name-kinds.r) κs a left)
+    → name-reads.Post κs a z′ (atExit (endedOf 2 name-kinds.ps name-kinds.r) κs a left′) → (z .ptr ≡ z′ .ptr) × (z .now ≡ z′ .now) × (left ≡ left′)
 
 -- ---- the forms of a contract
 
@@ -61,7 +79,7 @@ WroteOnce = (o : List ℕ) (at : ℕ) (bs o′ o″ : List ℕ) (r r′ : ℕ) �
 abbrev pub PutOnce : Type 0
 PutOnce = (base w : ℕ) (o : List ℕ) (p : ℕ) (bs o′ o″ : List ℕ) (r r′ : ℕ) → Put base w o p bs o′ r → Put base w o p bs o″ r′ → (r ≡ r′) × (o′ ≡ o″)
 
--- ---- the one exception: `entities::marks::carried_at` tells where the values stand that an entity carries. Where it carries none any place will do
+-- ---- an exception (`UniqueBlocks` has the other two): `entities::marks::carried_at` tells where the values stand that an entity carries. Where it carries none any place will do
 
 -- the values that stand there
 abbrev pub carriedIn : (κs : Lfts 1) → Dens κs carried-at-kinds.ps → Span → List Item

@@ -12,6 +12,7 @@ use contract.Lifetimes.{Lfts}
 use denote.Triple.Entry.{Args, Res}
 use denote.Triple.Clauses.{Ended, Clauses, Lasts, atExit}
 use Rattle.rewrap.proofs.read as read
+use Rattle.tables.proofs.directory as directory
 
 -- two results with last values that both are as the clauses have it for the same arguments are the same
 abbrev pub NoSecondIn : {M : Type 1} (𝓤 : URA M) (T : Ended) → Clauses 𝓤 T → Type 1
@@ -22,3 +23,8 @@ NoSecondIn 𝓤 T c = (κs : Lfts (T .signature .lifetimes)) (a : Args (T .signa
 abbrev pub ReadDeterminedIn : Type 1 → Type 2
 ReadDeterminedIn M = (𝓤 : URA M) (H : Heap 𝓤) (A : Atoms 𝓤) (mem : Memory → SProp 𝓤) (run : Routine → Fun 𝓤)
     → NoSecondIn 𝓤 read.ended (read.clauses 𝓤 H A mem run)
+
+-- the table, which has no plain reading
+abbrev pub DirectoryDeterminedIn : Type 1 → Type 2
+DirectoryDeterminedIn M = (𝓤 : URA M) (H : Heap 𝓤) (A : Atoms 𝓤) (mem : Memory → SProp 𝓤) (run : Routine → Fun 𝓤)
+    → NoSecondIn 𝓤 directory.ended (directory.clauses 𝓤 H A mem run)

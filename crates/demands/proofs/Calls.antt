@@ -1,0 +1,121 @@
+-- A call taken apart, from its contract: bytes that stand in the buffer, or no room for them, or a refusal. Assumes nothing.
+use mathlib.Core.Path.{_≡_, refl, sym, ap, _∙_}
+use mathlib.Core.Bool.{Bool, true, false}
+use mathlib.Core.List.{List, [], _∷_, _++_}
+use Prim.Native.Nat.{ℕ, _+_, _≤_, _<_}
+use native.Mathlib.Nat.{zero-add}
+use native.Mathlib.Omega.{arith}
+use lib.ListN.{length, drop}
+use lib.Dec.{leb}
+use borrow.Author.Tests.{leb-true, leb-false}
+use Rattle.columns.specs.declared.Fault.{Fault}
+use Rattle.columns.specs.declared.Fault.the-variants.{ListOrLength, Byte, Section, Sequence, Terminate, Spelling, Limit, Global, Directory, Reference, Ownership, FirstValue, Macro, Layout, LayoutReference, Room, SheetLine, Mark, TooLong}
+use Rattle.columns.specs.Refusal.{Outcome, accepted, refused, number}
+use Rattle.columns.specs.Laid.{laid, laid-eq}
+use Rattle.model.specs.Read.{reads}
+use Rattle.model.specs.Write.{writes}
+use Rattle.rewrap.specs.declared.Answer.{Answer}
+use Rattle.rewrap.specs.Answers.{inRoom, answer, answerOf, leftIn, readsInto, writesInto}
+use Rattle.demands.specs.Functions.{ReadCall, WriteCall, read, szelmikra-read, write, szelmikra-write, given}
+use Rattle.demands.proofs.LengthTold.{front-laid}
+
+-- ---- what a contract says
+
+-- an answer and a buffer by an outcome
+pub record Says (x : Outcome (List ℕ)) (o : List ℕ) (a : Answer) (s : List ℕ) : Type 0 where
+  pub answers : a ≡ answerOf (inRoom (length o) x)
+  pub leaves : s ≡ leftIn o (inRoom (length o) x)
+
+read-says : {list : ℕ} {file o s : List ℕ} {a : Answer} → ReadCall list file o a s → Says (reads list file) o a s
+unfolding readsInto
+read-says (read κs a z left p) = record { answers = p .0; leaves = p .1 }
+read-says (szelmikra-read κs a z left p) = record { answers = p .0; leaves = p .1 }
+
+write-says : {list : ℕ} {sheet o s : List ℕ} {a : Answer} → WriteCall list sheet o a s → Says (writes list sheet) o a s
+unfolding writesInto
+write-says (write κs a z left p) = record { answers = p .0; leaves = p .1 }
+write-says (szelmikra-write κs a z left p) = record { answers = p .0; leaves = p .1 }
+
+-- the ways that there are: bytes, bytes that there is no room for, a refusal
+pub data Ends (x : Outcome (List ℕ)) (o : List ℕ) (a : Answer) (s : List ℕ) : Type 0 where
+  whole : (bs : List ℕ) → x ≡ accepted bs → length bs ≤ length o → a ≡ answer 0 0 (length bs) → s ≡ laid o 0 bs → Ends x o a s
+  short : (bs : List ℕ) → x ≡ accepted bs → length o < length bs → a ≡ answer 16 0 0 → s ≡ o → Ends x o a s
+  stopped : (n : Fault) (place : ℕ) → x ≡ refused n place → a ≡ answer (number n) place 0 → s ≡ o → Ends x o a s
+
+-- these are all
+ends : (x : Outcome (List ℕ)) (o : List ℕ) (a : Answer) (s : List ℕ) → a ≡ answerOf (inRoom (length o) x) → s ≡ leftIn o (inRoom (length o) x) → Ends x o a s
+unfolding inRoom answerOf leftIn
+ends (refused n place) o a s p q = stopped n place refl p q
+ends (accepted bs) o a s p q = pick (leb (length bs) (length o)) refl
+  where
+    pick : (b : Bool) → leb (length bs) (length o) ≡ b → Ends (accepted bs) o a s
+    pick true e = whole bs refl (leb-true (length bs) (length o) e) (rw e at p) (rw e at q)
+    pick false e = short bs refl (leb-false (length bs) (length o) e) (rw e at p) (rw e at q)
+
+-- no refusal has number 0
+numbered : (n : Fault) → number n ≡ 0 → ⊥
+numbered ListOrLength e = omega arith
+numbered Byte e = omega arith
+numbered Section e = omega arith
+numbered Sequence e = omega arith
+numbered Terminate e = omega arith
+numbered Spelling e = omega arith
+numbered Limit e = omega arith
+numbered Global e = omega arith
+numbered Directory e = omega arith
+numbered Reference e = omega arith
+numbered Ownership e = omega arith
+numbered FirstValue e = omega arith
+numbered Macro e = omega arith
+numbered Layout e = omega arith
+numbered LayoutReference e = omega arith
+numbered Room e = omega arith
+numbered SheetLine e = omega arith
+numbered Mark e = omega arith
+numbered TooLong e = omega arith
+
+pub read-ends : {list : ℕ} {file o s : List ℕ} {a : Answer} → ReadCall list file o a s → Ends (reads list file) o a s
+read-ends {list} {file} {o} {s} {a} c = ends (reads list file) o a s (read-says c .answers) (read-says c .leaves)
+
+pub write-ends : {list : ℕ} {sheet o s : List ℕ} {a : Answer} → WriteCall list sheet o a s → Ends (writes list sheet) o a s
+write-ends {list} {sheet} {o} {s} {a} c = ends (writes list sheet) o a s (write-says c .answers) (write-says c .leaves)
+
+-- ---- answer 0
+
+-- what was answered with 0: these bytes, and they stand in the buffer
+pub record Got (x : Outcome (List ℕ)) (o : List ℕ) (a : Answer) (s : List ℕ) : Type 0 where
+  pub bytes : List ℕ
+  pub outcome : x ≡ accepted bytes
+  pub answers : a ≡ answer 0 0 (length bytes)
+  pub stands : given a s ≡ bytes
+
+stand : (o bs : List ℕ) (a : Answer) (s : List ℕ) → length bs ≤ length o → a ≡ answer 0 0 (length bs) → s ≡ laid o 0 bs → given a s ≡ bs
+stand o bs a s h p q = rw (p, q) (front-laid o bs h)
+
+pub got : (x : Outcome (List ℕ)) (o : List ℕ) (a : Answer) (s : List ℕ) → Ends x o a s → a .number ≡ 0 → Got x o a s
+got x o a s (whole bs e h p q) z = record { bytes = bs; outcome = e; answers = p; stands = stand o bs a s h p q }
+got x o a s (short bs e h p q) z = absurd (numbered Room (sym (ap (λ (r : Answer). r .number) p) ∙ z))
+got x o a s (stopped n place e p q) z = absurd (numbered n (sym (ap (λ (r : Answer). r .number) p) ∙ z))
+
+-- of bytes that there is room for that is the answer
+pub gives : (x : Outcome (List ℕ)) (o : List ℕ) (a : Answer) (s bs : List ℕ) → Ends x o a s → x ≡ accepted bs → length bs ≤ length o → (a ≡ answer 0 0 (length bs)) × (given a s ≡ bs)
+gives x o a s bs (whole cs e h p q) k l = let z : cs ≡ bs = cc in (rw z at p, stand o cs a s h p q ∙ z)
+gives x o a s bs (short cs e h p q) k l = let z : cs ≡ bs = cc in absurd (omega (arith, ap length z))
+gives x o a s bs (stopped n place e p q) k l = let z : _≡_ {A = ℕ} 0 1 = cc in absurd (omega arith)
+
+-- ---- what is left alone
+
+drop-front : (s t : List ℕ) → drop (length s) (s ++ t) ≡ t
+drop-front [] t = refl
+drop-front (b ∷ s) t = drop-front s t
+
+rest-laid : (o bs : List ℕ) → length bs ≤ length o → drop (length bs) (laid o 0 bs) ≡ drop (length bs) o
+rest-laid o bs h =
+    let k : 0 + length bs ≤ length o = omega arith in
+    ap (drop (length bs)) (laid-eq o 0 bs k) ∙ drop-front bs (drop (0 + length bs) o) ∙ ap (λ (n : ℕ). drop n o) (zero-add (length bs))
+
+pub keeps : (x : Outcome (List ℕ)) (o : List ℕ) (a : Answer) (s : List ℕ) → Ends x o a s
+    → (a .length ≤ length o) × (drop (a .length) s ≡ drop (a .length) o) × ((a .number ≡ 0 → ⊥) → a .length ≡ 0)
+keeps x o a s (whole bs e h p q) = rw (p, q) (h, rest-laid o bs h, λ no. absurd (no refl))
+keeps x o a s (short bs e h p q) = rw (p, q) (omega arith, refl, λ no. refl)
+keeps x o a s (stopped n place e p q) = rw (p, q) (omega arith, refl, λ no. refl)
