@@ -26,11 +26,13 @@ tools: $(OUT)/szelmikra
 sample: tools
 	@$(HOST_RUN) $(OUT)/szelmikra sheet samples/chair.igs
 
-lib:
-	@rt staticlib szelmikra
+lib: target/staticlib/libszelmikra.a
 
+# What the prover prints is kept aside; it is shown if it refuses.
 target/staticlib/libszelmikra.a: $(shell find crates -name '*.rt')
-	@rt staticlib szelmikra
+	@mkdir -p target
+	@echo 'proving the library, which takes some minutes; target/szelmikra.log tells how far it is' >&2
+	@rt staticlib szelmikra >target/szelmikra.log 2>&1 || { cat target/szelmikra.log; exit 1; }
 
 $(OUT)/%.o: host/%.cpp host/host.mk Makefile | toolchain
 	@mkdir -p $(@D)

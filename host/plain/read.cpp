@@ -1,13 +1,13 @@
 // File to sheet, the checks in the paper's order.
 #include <vector>
 
+#include "answer.hpp"
 #include "directory.hpp"
 #include "format.hpp"
 #include "global.hpp"
 #include "layout.hpp"
 #include "lines.hpp"
 #include "owners.hpp"
-#include "plain.hpp"
 #include "sheet.hpp"
 
 namespace plain {
@@ -98,14 +98,6 @@ std::string sheetOf(std::uint64_t list, std::string_view bytes) {
 
 }  // namespace
 
-Answer read(std::uint64_t list, std::string_view file, std::size_t room) {
-    try {
-        std::string sheet = sheetOf(list, file);
-        if (sheet.size() > room) refuse(Fault::Room, 0);
-        return {0, 0, sheet.size(), std::move(sheet)};
-    } catch (const Refusal &refusal) {
-        return {static_cast<std::uint64_t>(refusal.fault), refusal.place, 0, {}};
-    }
-}
+Answer read(std::uint64_t list, std::string_view file, std::size_t room) { return answerOf(sheetOf, list, file, room); }
 
 }  // namespace plain

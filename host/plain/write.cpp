@@ -1,10 +1,10 @@
 // Sheet to canonical file, the checks in the paper's order.
+#include "answer.hpp"
 #include "canonical.hpp"
 #include "directory.hpp"
 #include "format.hpp"
 #include "global.hpp"
 #include "layout.hpp"
-#include "plain.hpp"
 #include "sheet.hpp"
 
 namespace plain {
@@ -49,14 +49,6 @@ std::string fileOf(std::uint64_t list, std::string_view text) {
 
 }  // namespace
 
-Answer write(std::uint64_t list, std::string_view sheet, std::size_t room) {
-    try {
-        std::string file = fileOf(list, sheet);
-        if (file.size() > room) refuse(Fault::Room, 0);
-        return {0, 0, file.size(), std::move(file)};
-    } catch (const Refusal &refusal) {
-        return {static_cast<std::uint64_t>(refusal.fault), refusal.place, 0, {}};
-    }
-}
+Answer write(std::uint64_t list, std::string_view sheet, std::size_t room) { return answerOf(fileOf, list, sheet, room); }
 
 }  // namespace plain

@@ -33,4 +33,5 @@ if command -v cmake >/dev/null; then
 else
     echo 'install: no CMake here, that part is left out'
 fi
+[ "$built" -gt 0 ] || { echo 'install: neither pkg-config nor CMake is here, so nothing was tried'; exit 1; }
 echo "install: the installed files work, example built $built times"

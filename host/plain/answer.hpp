@@ -1,0 +1,23 @@
+// The answer of reading and of writing: room is looked at after all else, and the first refusal is told.
+#pragma once
+
+#include <utility>
+
+#include "format.hpp"
+#include "plain.hpp"
+
+namespace plain {
+
+// make(list, input) gives the output or refuses.
+template <class Make>
+Answer answerOf(Make make, std::uint64_t list, std::string_view input, std::size_t room) {
+    try {
+        std::string bytes = make(list, input);
+        if (bytes.size() > room) refuse(Fault::Room, 0);
+        return {0, 0, bytes.size(), std::move(bytes)};
+    } catch (const Refusal &refusal) {
+        return {static_cast<std::uint64_t>(refusal.fault), refusal.place, 0, {}};
+    }
+}
+
+}  // namespace plain
