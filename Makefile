@@ -11,6 +11,9 @@ ARCHIVE ?= target/staticlib/libszelmikra.a
 OUT = target/host
 CXXFLAGS ?= -O2 -Wall -Wextra -Wpedantic -Wconversion
 
+# Provers at a time. They are started in groups that are waited for whole, so that a few more than there are cores leave none idle.
+export RT_JOBS ?= 4
+
 include host/host.mk
 
 .PHONY: test fmt lib tools sample check-host check-install bench stack example install
@@ -32,7 +35,7 @@ lib: target/staticlib/libszelmikra.a
 target/staticlib/libszelmikra.a: $(shell find crates -name '*.rt')
 	@mkdir -p target
 	@echo 'proving the library, which takes some minutes; target/szelmikra.log tells how far it is' >&2
-	@rt staticlib szelmikra >target/szelmikra.log 2>&1 || { cat target/szelmikra.log; exit 1; }
+	@{ rt check szelmikra && rt staticlib szelmikra; } >target/szelmikra.log 2>&1 || { cat target/szelmikra.log; exit 1; }
 
 $(OUT)/%.o: host/%.cpp host/host.mk Makefile | toolchain
 	@mkdir -p $(@D)
@@ -45,8 +48,8 @@ MAKERS = $(TESTS)/random_files.o $(TESTS)/soup.o $(TESTS)/damage.o $(TESTS)/larg
 $(TESTS)/differential: $(TESTS)/differential.o $(TESTS)/harness.o $(MAKERS) $(PLAIN)
 $(TESTS)/stack: $(TESTS)/stack.o $(TESTS)/large.o $(PLAIN)
 PROGRAMS = $(OUT)/szelmikra $(OUT)/bench $(TESTS)/vectors $(TESTS)/differential $(TESTS)/stack
-$(PROGRAMS): $(ARCHIVE)
-	@$(HOST_CXX) $(CXXFLAGS) -pthread -o $@ $(filter %.o,$^) $(ARCHIVE)
+$(PROGRAMS): $(ARCHIVE) | $(CROSS_LIBM)
+	@$(HOST_CXX) $(CXXFLAGS) -pthread $(HOST_LINK) -o $@ $(filter %.o,$^) $(ARCHIVE)
 
 check-host: $(TESTS)/vectors $(TESTS)/differential $(OUT)/szelmikra
 	@$(HOST_RUN) $(TESTS)/vectors crates/vectors/stdin
@@ -62,9 +65,9 @@ bench: $(OUT)/bench
 stack: $(TESTS)/stack
 	@$(HOST_RUN) $<
 
-example: $(ARCHIVE) | toolchain
+example: $(ARCHIVE) | toolchain $(CROSS_LIBM)
 	@mkdir -p $(OUT)
-	@$(HOST_CXX) -std=c++17 $(CXXFLAGS) -Iinclude -o $(OUT)/example host/example/example.cpp $(ARCHIVE)
+	@$(HOST_CXX) -std=c++17 $(CXXFLAGS) $(HOST_LINK) -Iinclude -o $(OUT)/example host/example/example.cpp $(ARCHIVE)
 	@$(HOST_RUN) $(OUT)/example samples/chair.igs
 
 TO = $(DESTDIR)$(PREFIX)
