@@ -1,18 +1,19 @@
 -- Decimal digits: the two equations of `dec`, its induction, how many digits and which bytes they are.
 use mathlib.Core.Path.{_≡_, refl, sym, ap, _∙_}
 use Prim.Native.Nat.{ℕ, zero, suc, _+_, _-_, _*_, _/_, _%_, _^_, _≤_, _<_}
+use native.Mathlib.Nat.{div-one, div-div-eq-div-mul, pow-succ'}
 use native.Mathlib.Omega.{arith}
 use native.Mathlib.Decide.{decLt, ℕ-discrete}
 use mathlib.Core.Bool.{Bool, true, false, cond}
 use mathlib.Core.List.{List, [], _∷_, _++_}
-use lib.ListN.{length, getD, replicate, length-append, length-replicate, List·getD-append}
+use lib.ListN.{length, getD, set, replicate, length-append, length-replicate, List·getD-append}
 use borrow.Author.Tests.{lt-ltb, le-ltb}
 use Rattle.columns.specs.declared.Signed.{Signed}
 use Rattle.columns.specs.Decimal.{lastDigits, dec, minus, signedDec, toRight, toLeft}
 use Rattle.columns.specs.Columns.{printable}
-use Rattle.columns.specs.Laid.{Wrote}
+use Rattle.columns.specs.Laid.{laid, laid-one, laid-laid, Wrote}
 use Rattle.columns.proofs.Looks.{print-both, print-cons, print-replicate}
-use Rattle.columns.proofs.Writes.{then}
+use Rattle.columns.proofs.Writes.{then, wrote-one, all-past, laid-last, laid-pair}
 
 last-small : (f n : ℕ) → n < 10 → lastDigits (suc f) n ≡ (48 + n) ∷ []
 unfolding lastDigits
@@ -172,37 +173,132 @@ pub print-left : (width : ℕ) (t : List ℕ) → printable t ≡ true → print
 unfolding toLeft
 print-left width t e = print-both t (replicate (width - length t) 32) e (print-replicate (width - length t) 32 (omega arith) (omega arith))
 
--- ---- what the functions that write decimals are asked
+-- ---- how many, as the code counts them
 
-pub wrote-small : {o o′ : List ℕ} {at r d : ℕ} (n : ℕ) → Wrote o at (d ∷ []) o′ r → d ≡ 48 + n → n < 10 → Wrote o at (dec n) o′ r
-wrote-small n p e h = rw (dec-small n h, ← e) p
+pub count-is : (k n : ℕ) → 10 ^ k ≤ n → n < 10 ^ suc k → suc k ≡ length (dec n)
+count-is k n lo hi = elim (decLt k (length (dec n))) [
+  | yes l ↦ omega (arith, length-dec-le k n hi)
+  | no l ↦ absurd (omega (arith, dec-below k n (omega arith)))
+]
 
-pub wrote-big : {o o′ o″ : List ℕ} {at r r′ d : ℕ} (n : ℕ) → Wrote o at (dec (n / 10)) o′ r → Wrote o′ r (d ∷ []) o″ r′ → d ≡ 48 + n % 10 → 10 ≤ n → Wrote o at (dec n) o″ r′
-wrote-big n p q e h = rw (dec-big n h, ← e) (then p q)
+pub count-1 : (n : ℕ) → n < 10 → 1 ≡ length (dec n)
+count-1 n h = rw (dec-small n h)
 
--- a number of 64 bits has 20 digits at most, its tenth 19
-tenth-next : {o o′ : List ℕ} {at r : ℕ} (n : ℕ) → Wrote o at (dec (n / 10)) o′ r → n < 2 ^ 64 → r + 1 ≤ at + 20
-tenth-next n p k = omega (arith, p .next, length-dec-le 18 (n / 10) (omega arith))
+pub count-2 : (n : ℕ) → 10 ≤ n → n < 100 → 2 ≡ length (dec n)
+count-2 n lo hi = count-is 1 n lo hi
 
-pub big-low : {o o′ o″ : List ℕ} {at r r′ d : ℕ} (n : ℕ) → Wrote o at (dec n) o′ r → Wrote o′ r (d ∷ []) o″ r′ → at < r′
-big-low n p q = omega (arith, p .next, q .next)
+pub count-3 : (n : ℕ) → 100 ≤ n → n < 1000 → 3 ≡ length (dec n)
+count-3 n lo hi = count-is 2 n lo hi
 
-pub big-high : {o o′ o″ : List ℕ} {at r r′ d : ℕ} (n : ℕ) → Wrote o at (dec (n / 10)) o′ r → Wrote o′ r (d ∷ []) o″ r′ → n < 2 ^ 64 → r′ ≤ at + 20
-big-high n p q k = omega (arith, q .next, tenth-next n p k)
+pub count-4 : (n : ℕ) → 1000 ≤ n → n < 10000 → 4 ≡ length (dec n)
+count-4 n lo hi = count-is 3 n lo hi
 
-pub tenth-fits : {o o′ : List ℕ} {at r : ℕ} (n : ℕ) → Wrote o at (dec (n / 10)) o′ r → n < 2 ^ 64 → at + 20 < 2 ^ 64 → r + 1 < 2 ^ 64
-tenth-fits n p k l = omega (arith, tenth-next n p k)
+pub count-5 : (n : ℕ) → 10000 ≤ n → n < 100000 → 5 ≡ length (dec n)
+count-5 n lo hi = count-is 4 n lo hi
 
-pub count-small : (n : ℕ) → n < 10 → 1 ≡ length (dec n)
-count-small n h = rw (dec-small n h)
+pub count-6 : (n : ℕ) → 100000 ≤ n → n < 1000000 → 6 ≡ length (dec n)
+count-6 n lo hi = count-is 5 n lo hi
 
-pub count-big : (n r : ℕ) → 10 ≤ n → r ≡ length (dec (n / 10)) → r + 1 ≡ length (dec n)
-count-big n r h e = rw (dec-big n h, length-append, e)
+pub count-7 : (n : ℕ) → 1000000 ≤ n → n < 10000000 → 7 ≡ length (dec n)
+count-7 n lo hi = count-is 6 n lo hi
 
-pub count-tenth : (n r : ℕ) → r ≡ length (dec (n / 10)) → n < 2 ^ 64 → r + 1 ≤ 20
-count-tenth n r e h = omega (arith, length-dec-le 18 (n / 10) (omega arith))
+pub count-8 : (n : ℕ) → 10000000 ≤ n → n < 100000000 → 8 ≡ length (dec n)
+count-8 n lo hi = count-is 7 n lo hi
 
-pub ruleset decimals = (wrote-small, wrote-big, big-low, big-high, tenth-fits, count-small, count-big, count-tenth)
+-- without its last k digits it has k fewer
+pub without : (k n : ℕ) → 10 ^ k ≤ n → length (dec (n / 10 ^ k)) + k ≡ length (dec n)
+without zero n h = rw div-one (omega arith)
+without (suc k) n h =
+    let e : n / 10 / 10 ^ k ≡ n / 10 ^ suc k = div-div-eq-div-mul n 10 (10 ^ k) ∙ ap (λ (x : ℕ). n / x) (sym (pow-succ' 10 k)) in
+    let l : length (dec n) ≡ length (dec (n / 10)) + 1 = rw (dec-big n (omega (arith, some k)), length-append) in
+    rw (← e) (omega (arith, without k (n / 10) (omega arith)))
+  where
+    some : (j : ℕ) → 1 ≤ 10 ^ j
+    some zero = omega arith
+    some (suc j) = omega (arith, some j)
+
+pub count-eight : (n r : ℕ) → r ≡ length (dec (n / 100000000)) → 100000000 ≤ n → r + 8 ≡ length (dec n)
+count-eight n r e h = rw e (without 8 n h)
+
+pub count-sixteen : (n r : ℕ) → r ≡ length (dec (n / 100000000 / 100000000)) → 100000000 ≤ n → 100000000 ≤ n / 100000000 → r + 16 ≡ length (dec n)
+count-sixteen n r e h k = omega (arith, without 8 n h, without 8 (n / 100000000) k)
+
+-- a number of 64 bits has 20 digits at most
+pub count-high : (n r : ℕ) → r ≡ length (dec (n / 100000000 / 100000000)) → 100000000 ≤ n → 100000000 ≤ n / 100000000 → n < 2 ^ 64 → r + 16 ≤ 20
+count-high n r e h k l = omega (arith, count-sixteen n r e h k, length-dec-le 19 n (omega arith))
+
+pub ruleset counts = (count-1, count-2, count-3, count-4, count-5, count-6, count-7, count-8, count-eight, count-sixteen, count-high)
+
+-- ---- what the functions that write decimals are asked: f is what is to be left
+
+-- the digits of x stand from at up to i, before m
+module _ (x i at : ℕ) (place : i ≡ at + length (dec x)) where
+  pub last-place : 10 ≤ x → i - 1 ≡ at + length (dec (x / 10))
+  last-place h = omega (arith, without 1 x h)
+
+  pub last-some : 10 ≤ x → 1 ≤ i
+  last-some h = omega (arith, dec-some x)
+
+  pub pair-place : 100 ≤ x → i - 2 ≡ at + length (dec (x / 100))
+  pair-place h = omega (arith, without 2 x h)
+
+  pub pair-some : 100 ≤ x → 2 ≤ i
+  pair-some h = omega (arith, without 2 x h)
+
+  pub first-fits : (m : ℕ) → i ≤ m → m < 2 ^ 64 → at + 1 < 2 ^ 64
+  first-fits m k l = omega (arith, dec-some x)
+
+  module _ (m : ℕ) (k : i ≤ m) where
+    pub pair-low : 100 ≤ x → i - 2 < m
+    pair-low h = omega (arith, without 2 x h)
+
+    pub pair-high : 100 ≤ x → i - 2 + 1 < m
+    pair-high h = omega (arith, without 2 x h)
+
+    pub first-low : at < m
+    first-low = omega (arith, dec-some x)
+
+    pub first-high : 10 ≤ x → at + 1 < m
+    first-high h = omega (arith, without 1 x h, dec-some (x / 10))
+
+-- the last two digits
+pub dec-pair : (x : ℕ) → 100 ≤ x → dec x ≡ (dec (x / 100) ++ ((48 + x % 100 / 10) ∷ [])) ++ ((48 + x % 100 % 10) ∷ [])
+dec-pair x h =
+    let a : x / 10 / 10 ≡ x / 100 = omega arith in
+    let b : x / 10 % 10 ≡ x % 100 / 10 = omega arith in
+    let c : x % 10 ≡ x % 100 % 10 = omega arith in
+    rw (dec-big x (omega arith), dec-big (x / 10) (omega arith), a, b, c)
+
+module _ (f o : List ℕ) (at x i : ℕ) (inv : laid o at (dec x) ≡ f) (place : i ≡ at + length (dec x)) where
+  pub last-laid : {o′ : List ℕ} {d r : ℕ} → Wrote o (i - 1) (d ∷ []) o′ r → d ≡ 48 + x % 10 → 10 ≤ x → laid o′ at (dec (x / 10)) ≡ f
+  last-laid {o′} {d} p e h =
+      rw (p .bytes, laid-one o (i - 1) d, last-place x i at place h, e) (laid-last o at (dec (x / 10)) (48 + x % 10) ∙ (rw (dec-big x h) at inv))
+
+  pub pair-laid : (d e : ℕ) → d ≡ 48 + x % 100 / 10 → e ≡ 48 + x % 100 % 10 → 100 ≤ x → laid (set (set o (i - 2) d) (i - 2 + 1) e) at (dec (x / 100)) ≡ f
+  pair-laid d e p q h =
+      rw (pair-place x i at place h, p, q)
+      (laid-pair o at (dec (x / 100)) (48 + x % 100 / 10) (48 + x % 100 % 10) ∙ (rw (dec-pair x h) at inv))
+
+module _ (o o′ : List ℕ) (at n x end : ℕ) (inv : laid o′ at (dec x) ≡ laid o at (dec n)) (place : end ≡ at + length (dec n)) where
+  pub first-put : {o″ : List ℕ} {d r : ℕ} → Wrote o′ at (d ∷ []) o″ r → d ≡ 48 + x → x < 10 → Wrote o at (dec n) o″ end
+  first-put p e h = record { bytes = p .bytes ∙ rw e (rw (dec-small x h) at inv); next = place }
+
+  pub first-laid : (d : ℕ) → d ≡ 48 + x → x < 10 → Wrote o at (dec n) (set o′ at d) end
+  first-laid d e h = first-put (wrote-one o′ at d (at + 1) refl) e h
+
+  pub first-two : (d e : ℕ) → d ≡ 48 + x / 10 → e ≡ 48 + x % 10 → 10 ≤ x → x < 100 → Wrote o at (dec n) (set (set o′ at d) (at + 1) e) end
+  first-two d e p q h k = record {
+    bytes = rw (p, q) (two (48 + x / 10) (48 + x % 10) ∙ ap (laid o′ at) (sym (dec-big x h ∙ rw (dec-small (x / 10) (omega arith)))) ∙ inv);
+    next = place;
+  }
+    where
+      two : (a b : ℕ) → set (set o′ at a) (at + 1) b ≡ laid o′ at ((a ∷ []) ++ (b ∷ []))
+      two a b = rw (← laid-laid o′ at (a ∷ []) (b ∷ []), laid-one o′ at a, laid-one (set o′ at a) (at + 1) b)
+
+pub dec-past : (o : List ℕ) (at n count : ℕ) → length o ≤ at → count ≡ length (dec n) → Wrote o at (dec n) o (at + count)
+dec-past o at n count h e = rw e (all-past o at (dec n) h)
+
+pub ruleset decimals = (last-place, last-some, pair-place, pair-some, first-fits, pair-low, pair-high, first-low, first-high, last-laid, pair-laid, first-put, first-laid, first-two, dec-past, dec-some)
 
 -- ---- what the functions that write signs and columns are asked
 

@@ -4,6 +4,7 @@ use mathlib.Core.Bool.{Bool, true, false, cond, _&&_}
 use Prim.Native.Nat.{ℕ, suc, _+_, _-_, _*_, _^_, _≤_, _<_}
 use native.Mathlib.Nat.{sub-self, pow-le-pow-right}
 use native.Mathlib.Omega.{arith}
+use native.Mathlib.Decide.{decLt}
 use mathlib.Core.List.{List, [], _∷_, _++_}
 use lib.ListN.{length, getD}
 use lib.Dec.{leb, eqb}
@@ -15,7 +16,7 @@ use Rattle.columns.specs.declared.SignedField.{SignedField}
 use Rattle.columns.specs.declared.SignedField.the-variants.{Number as SignedNumber, Bad as SignedBad}
 use Rattle.columns.specs.Columns.{columns}
 use Rattle.columns.specs.Fixed.{digitsOf, fieldOf, isNumber, signed, withSign, behindSign, signedOf}
-use Rattle.columns.specs.Reading.{Below, SizeBelow}
+use Rattle.columns.specs.Reading.{Below, SizeBelow, Behind}
 use Rattle.columns.proofs.Tests.{digit-byte}
 use Rattle.columns.proofs.Columns.{column, columns-end}
 
@@ -102,6 +103,34 @@ module _ (f : SignedField) (s : List ℕ) (i end : ℕ) (inv : signedOf (columns
   unfolding signedOf
   signed-end ge = rw (columns-end s i end ge) at inv
 
+-- ---- behind the blanks
+
+module _ (s : List ℕ) (at i end : ℕ) (low : at ≤ i) (field : fieldOf (columns s i end) ≡ fieldOf (columns s at end)) (signed : signedOf (columns s i end) ≡ signedOf (columns s at end)) where
+  pub behind-here : i < end → (getD s i 0 ≡ 32 → ⊥) → Behind s at end i
+  behind-here lt h = record { low = low; high = omega arith; field = field; signed = signed; next = λ _. h }
+
+  pub behind-all : i ≤ end → end ≤ i → Behind s at end end
+  behind-all k h =
+      let e : end ≡ i = omega arith in
+      record {
+        low = omega arith;
+        high = omega arith;
+        field = ap (λ (j : ℕ). fieldOf (columns s j end)) e ∙ field;
+        signed = ap (λ (j : ℕ). signedOf (columns s j end)) e ∙ signed;
+        next = λ lt _. omega arith;
+      }
+
+module _ (s : List ℕ) (at end i : ℕ) (b : Behind s at end i) (le : end ≤ length s) where
+  pub behind-field : (r : Field) → r ≡ digitsOf 0 (columns s i end) → r ≡ fieldOf (columns s at end)
+  unfolding digitsOf
+  behind-field r e = elim (decLt i end) [
+    | yes lt ↦ other-at (fieldOf (columns s at end)) s i end r e (b .field) lt le (b .next lt)
+    | no ge ↦ (e ∙ rw (columns-end s i end (omega arith))) ∙ field-end (fieldOf (columns s at end)) s i end (b .field) (omega arith)
+  ]
+
+  pub behind-plain : (x : Field) (r : SignedField) → x ≡ digitsOf 0 (columns s i end) → r ≡ withSign false x → i < end → (getD s i 0 ≡ 45 → ⊥) → (getD s i 0 ≡ 43 → ⊥) → r ≡ signedOf (columns s at end)
+  behind-plain x r e q lt k l = plain-at (signedOf (columns s at end)) s i end (b .signed) lt le x r e q (b .next lt) k l
+
 -- ---- behind a sign
 
 pub sign-bad : (neg : Bool) (f : Field) → f ≡ Bad → SignedBad ≡ withSign neg f
@@ -170,8 +199,10 @@ below-number f m n h e = rw e at h
 pub size-below : (f : SignedField) (m : ℕ) (x : Signed) → SizeBelow m f → f ≡ SignedNumber x → x .size < m
 size-below f m x h e = rw e at h
 
-pub ruleset reads = (low-at, high-at, digit-at, digits-end, blank-at, other-at, field-end, no-digits, more-digits, ten-fits, digit-fits, below-digits)
+pub ruleset reads = (low-at, high-at, digit-at, digits-end, behind-field, no-digits, more-digits, ten-fits, digit-fits, below-digits)
 
-pub ruleset signs = (signed-blank-at, minus-at, plus-at, plain-at, signed-end, sign-bad, sign-nought, sign-some, behind-none, behind-some, below-number)
+pub ruleset blanks = (blank-at, signed-blank-at, behind-here, behind-all)
+
+pub ruleset signs = (minus-at, plus-at, behind-plain, signed-end, sign-bad, sign-nought, sign-some, behind-none, behind-some, below-number)
 
 pub ruleset held = (holds-bad, holds-number, holds-field)

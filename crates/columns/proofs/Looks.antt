@@ -1,14 +1,14 @@
 -- What stands in columns: the loops that look, and what their answers mean.
 use mathlib.Core.Path.{_≡_, refl, sym, ap, _∙_}
 use mathlib.Core.Bool.{Bool, true, false, cond, _&&_}
-use Prim.Native.Nat.{ℕ, zero, suc, _+_, _-_, _≤_, _<_}
+use Prim.Native.Nat.{ℕ, zero, suc, _+_, _-_, _≤_, _<_, min, max}
 use native.Mathlib.Omega.{arith}
 use mathlib.Core.List.{List, [], _∷_, _++_}
 use lib.ListN.{length, getD, take, drop, replicate, List·getD-eq-default}
 use lib.Dec.{leb, eqb}
-use borrow.Author.Tests.{le-leb, lt-leb, eq-eqb, ne-eqb, eqb-true, leb-true}
+use borrow.Author.Tests.{le-leb, lt-leb, eq-eqb, ne-eqb, eqb-true, leb-true, leb-false}
 use Rattle.columns.specs.Columns.{columns, printable, blank, sameBytes}
-use Rattle.columns.proofs.Tests.{both, both-left, both-right, both-true, and-assoc}
+use Rattle.columns.proofs.Tests.{both, both-left, both-right, both-true, and-true, and-assoc}
 use Rattle.columns.proofs.Columns.{column, columns-none, columns-all, columns-end}
 
 pub past-end : (s : List ℕ) (i : ℕ) → length s ≤ i → 0 ≡ getD s i 0
@@ -31,23 +31,52 @@ module _ (f : Bool) (s : List ℕ) (i end : ℕ) where
     unfolding blank
     blank-end h = rw (columns-end s i end h) at inv
 
-  module _ (inv : printable (columns s i end) ≡ f) where
-    module _ (lt : i < end) (le : end ≤ length s) where
-      pub print-on : 32 ≤ getD s i 0 → getD s i 0 ≤ 126 → printable (columns s (i + 1) end) ≡ f
-      unfolding printable
-      print-on h k = simp (printable, le-leb _ _ h, le-leb _ _ k) at (rw (column s i end lt le) at inv)
+-- ---- the least and the greatest byte passed: f is the answer
 
-      pub print-low : getD s i 0 < 32 → false ≡ f
-      unfolding printable
-      print-low h = simp (printable, lt-leb _ _ h) at (rw (column s i end lt le) at inv)
+least : (k a b : ℕ) → leb k (min a b) ≡ leb k a && leb k b
+least k a b = pick (leb k a) (leb k b) refl refl
+  where
+    pick : (x y : Bool) → leb k a ≡ x → leb k b ≡ y → leb k (min a b) ≡ x && y
+    pick true true e h = le-leb k (min a b) (omega (arith, leb-true k a e, leb-true k b h))
+    pick true false e h = lt-leb k (min a b) (omega (arith, leb-false k b h))
+    pick false y e h = lt-leb k (min a b) (omega (arith, leb-false k a e))
 
-      pub print-high : 126 < getD s i 0 → false ≡ f
-      unfolding printable
-      print-high h = simp (printable, le-leb 32 (getD s i 0) (omega arith), lt-leb _ _ h) at (rw (column s i end lt le) at inv)
+greatest : (k a b : ℕ) → leb (max a b) k ≡ leb a k && leb b k
+greatest k a b = pick (leb a k) (leb b k) refl refl
+  where
+    pick : (x y : Bool) → leb a k ≡ x → leb b k ≡ y → leb (max a b) k ≡ x && y
+    pick true true e h = le-leb (max a b) k (omega (arith, leb-true a k e, leb-true b k h))
+    pick true false e h = lt-leb (max a b) k (omega (arith, leb-false b k h))
+    pick false y e h = lt-leb (max a b) k (omega (arith, leb-false a k e))
 
-    pub print-end : end ≤ i → true ≡ f
-    unfolding printable
-    print-end h = rw (columns-end s i end h) at inv
+-- both are printable, and what is left is
+unfoldable pub between : ℕ → ℕ → Bool → Bool
+between low high rest = (leb 32 low && leb high 126) && rest
+
+shuffle : (a b c d p : Bool) → ((a && b) && (c && d)) && p ≡ (a && c) && (b && (d && p))
+shuffle true true true d p = refl
+shuffle true true false d p = refl
+shuffle true false true d p = refl
+shuffle true false false d p = refl
+shuffle false b c d p = refl
+
+pub span-start : (p : Bool) → between 126 32 p ≡ p
+unfolding between
+span-start p = refl
+
+module _ (f : Bool) (s : List ℕ) (i end low high : ℕ) (inv : between low high (printable (columns s i end)) ≡ f) where
+  pub span-on : (l h : ℕ) → i < end → end ≤ length s → l ≡ min low (getD s i 0) → h ≡ max high (getD s i 0) → between l h (printable (columns s (i + 1) end)) ≡ f
+  unfolding between printable
+  span-on l h lt le p q =
+      rw (p, q, least, greatest) (shuffle (leb 32 low) (leb 32 (getD s i 0)) (leb high 126) (leb (getD s i 0) 126) (printable (columns s (i + 1) end)) ∙ (rw (column s i end lt le) at inv))
+
+  pub span-low : low < 32 → false ≡ f
+  unfolding between
+  span-low h = rw (lt-leb 32 low h) at inv
+
+  pub span-end : 32 ≤ low → end ≤ i → leb high 126 ≡ f
+  unfolding between printable
+  span-end h k = sym (and-true (leb high 126)) ∙ (rw (le-leb 32 low h, columns-end s i end k) at inv)
 
 -- two texts side by side
 module _ (f : Bool) (s t : List ℕ) (i : ℕ) (inv : sameBytes (columns s i (length s)) (columns t i (length t)) ≡ f) (e : length s ≡ length t) where
@@ -94,7 +123,9 @@ same-length s t h = pick (sameBytes s t) refl
     pick true e = absurd (h (ap length (same-eq s t e)))
     pick false e = refl
 
-pub ruleset looks = (past-end, blank-on, blank-no, blank-end, print-on, print-low, print-high, print-end, same-on, same-no, same-end, same-start, same-length)
+pub ruleset looks = (past-end, blank-on, blank-no, blank-end, same-on, same-no, same-end, same-start, same-length)
+
+pub ruleset spans = (span-start, span-on, span-low, span-end)
 
 -- ---- blanks
 

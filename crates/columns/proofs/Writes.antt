@@ -6,7 +6,7 @@ use native.Mathlib.Numerals.{add-one}
 use native.Mathlib.Omega.{arith}
 use mathlib.Core.List.{List, [], _∷_, _++_}
 use lib.ListN.{length, take, drop, getD, set, replicate, length-append, length-replicate, replicate-append-replicate}
-use lib.Seq.{take-suc, take-all, drop-cons}
+use lib.Seq.{take-suc, take-all, drop-cons, set-comm, set-out}
 use Rattle.columns.specs.Laid.{laid, length-laid, laid-one, laid-out, laid-nil, laid-laid, laid-eq, Wrote, Owes}
 
 pub wrote-one : (o : List ℕ) (at b r : ℕ) → r ≡ at + 1 → Wrote o at (b ∷ []) (set o at b) r
@@ -62,6 +62,58 @@ pub run-all : {o o′ : List ℕ} {at r : ℕ} (b i count : ℕ) → Wrote o at 
 run-all b i count p h k =
     let e : count ≡ i = omega arith in
     rw e p
+
+-- ---- where there is room, or none at all
+
+-- past the end nothing is laid
+pub laid-past : (o : List ℕ) (at : ℕ) (bs : List ℕ) → length o ≤ at → laid o at bs ≡ o
+unfolding laid
+laid-past o at [] h = refl
+laid-past o at (b ∷ bs) h = rw (set-out o at b h) (laid-past o (suc at) bs (omega arith))
+
+pub all-past : (o : List ℕ) (at : ℕ) (s : List ℕ) → length o ≤ at → Wrote o at s o (at + length s)
+all-past o at s h = record { bytes = sym (laid-past o at s h); next = refl }
+
+pub run-past : (o : List ℕ) (at b count : ℕ) → length o ≤ at → Wrote o at (replicate count b) o (at + count)
+run-past o at b count h = record { bytes = sym (laid-past o at (replicate count b) h); next = rw length-replicate }
+
+-- a store for each byte
+pub wrote-start : {o : List ℕ} {at : ℕ} → Wrote o at [] o (at + 0)
+wrote-start {o} {at} = record { bytes = sym (laid-nil o at); next = refl }
+
+pub copy-more : {o o′ : List ℕ} {at : ℕ} (s : List ℕ) (i : ℕ) → Wrote o at (take i s) o′ (at + i) → i < length s → Wrote o at (take (i + 1) s) (set o′ (at + i) (getD s i 0)) (at + (i + 1))
+copy-more {o} {o′} {at} s i p h = wrote-more s i p h (wrote-one o′ (at + i) (getD s i 0) (at + (i + 1)) (omega arith))
+
+pub copy-all : {o o′ : List ℕ} {at : ℕ} (s : List ℕ) (i : ℕ) → Wrote o at (take i s) o′ (at + i) → i ≤ length s → length s ≤ i → Wrote o at s o′ (at + length s)
+copy-all {o} {o′} {at} s i p k h =
+    let e : length s ≡ i = omega arith in
+    rw e (wrote-all s i p h)
+
+pub fill-more : {o o′ : List ℕ} {at : ℕ} (b i : ℕ) → Wrote o at (replicate i b) o′ (at + i) → Wrote o at (replicate (i + 1) b) (set o′ (at + i) b) (at + (i + 1))
+fill-more {o} {o′} {at} b i p = run-more i p (wrote-one o′ (at + i) b (at + (i + 1)) (omega arith))
+
+pub fill-all : {o o′ : List ℕ} {at : ℕ} (b i count : ℕ) → Wrote o at (replicate i b) o′ (at + i) → i ≤ count → count ≤ i → Wrote o at (replicate count b) o′ (at + count)
+fill-all b i count p h k =
+    let e : count ≡ i = omega arith in
+    rw e p
+
+pub ruleset copies = (wrote-start, all-past, run-past, copy-more, copy-all, fill-more, fill-all)
+
+-- a store behind what is laid can come first
+pub laid-before : (o : List ℕ) (at : ℕ) (a : List ℕ) (j b : ℕ) → at + length a ≤ j → laid (set o j b) at a ≡ set (laid o at a) j b
+unfolding laid
+laid-before o at [] j b h = refl
+laid-before o at (x ∷ a) j b h = rw (set-comm o j at b x (λ e. omega arith)) (laid-before (set o at x) (suc at) a j b (omega arith))
+
+-- the last byte first, and the last two
+pub laid-last : (o : List ℕ) (at : ℕ) (a : List ℕ) (b : ℕ) → laid (set o (at + length a) b) at a ≡ laid o at (a ++ (b ∷ []))
+laid-last o at a b = laid-before o at a (at + length a) b (omega arith) ∙ sym (laid-one (laid o at a) (at + length a) b) ∙ laid-laid o at a (b ∷ [])
+
+pub laid-pair : (o : List ℕ) (at : ℕ) (a : List ℕ) (b c : ℕ) → laid (set (set o (at + length a) b) (at + length a + 1) c) at a ≡ laid o at ((a ++ (b ∷ [])) ++ (c ∷ []))
+laid-pair o at a b c =
+    let e : at + length (a ++ (b ∷ [])) ≡ at + length a + 1 = rw length-append (omega arith) in
+    laid-before (set o (at + length a) b) at a (at + length a + 1) c (omega arith) ∙ rw (laid-last o at a b) (ap (λ (k : ℕ). set (laid o at (a ++ (b ∷ []))) k c) (sym e))
+    ∙ sym (laid-one (laid o at (a ++ (b ∷ []))) (at + length (a ++ (b ∷ []))) c) ∙ laid-laid o at (a ++ (b ∷ [])) (c ∷ [])
 
 -- ---- a write under way
 

@@ -21,8 +21,8 @@ pub fn put(out: &mut [u8], at: usize, b: u8) -> usize
     next
 }
 
-// Writes all of s.
-pub fn put_all(out: &mut [u8], at: usize, s: &[u8]) -> usize
+// Writes all of s, byte by byte.
+fn put_all_clipped(out: &mut [u8], at: usize, s: &[u8]) -> usize
     requires { ⌜ at < 2 ^ 62 ⌝ }
     ensures { λ r. ⌜ Wrote (now (out .entry)) at (now (s .entry)) (now (out .exit)) r ⌝ }
     ensures { λ r. ⌜ r ≡ at + length (now (s .entry)) ⌝ }
@@ -36,8 +36,29 @@ pub fn put_all(out: &mut [u8], at: usize, s: &[u8]) -> usize
     next
 }
 
-// Writes b count times.
-pub fn put_run(out: &mut [u8], at: usize, b: u8, count: usize) -> usize
+// Writes all of s: where there is room nothing is asked of a byte, past the end nothing is laid.
+pub fn put_all(out: &mut [u8], at: usize, s: &[u8]) -> usize
+    requires { ⌜ at < 2 ^ 62 ⌝ }
+    ensures { λ r. ⌜ Wrote (now (out .entry)) at (now (s .entry)) (now (out .exit)) r ⌝ }
+    ensures { λ r. ⌜ r ≡ at + length (now (s .entry)) ⌝ }
+{
+    let end = at + s.len();
+    if out.len() <= at {
+        return end;
+    }
+    if out.len() < end {
+        return put_all_clipped(out, at, s);
+    }
+    let mut i = 0;
+    while i < s.len() {
+        out[at + i] = s[i];
+        i += 1;
+    }
+    end
+}
+
+// Writes b count times, one by one.
+fn put_run_clipped(out: &mut [u8], at: usize, b: u8, count: usize) -> usize
     requires { ⌜ at + count < 2 ^ 64 ⌝ }
     ensures { λ r. ⌜ Wrote (now (out .entry)) at (replicate count b) (now (out .exit)) r ⌝ }
     ensures { λ r. ⌜ r ≡ at + count ⌝ }
@@ -51,6 +72,27 @@ pub fn put_run(out: &mut [u8], at: usize, b: u8, count: usize) -> usize
     next
 }
 
+// Writes b count times, as `put_all` does.
+pub fn put_run(out: &mut [u8], at: usize, b: u8, count: usize) -> usize
+    requires { ⌜ at + count < 2 ^ 64 ⌝ }
+    ensures { λ r. ⌜ Wrote (now (out .entry)) at (replicate count b) (now (out .exit)) r ⌝ }
+    ensures { λ r. ⌜ r ≡ at + count ⌝ }
+{
+    let end = at + count;
+    if out.len() <= at {
+        return end;
+    }
+    if out.len() < end {
+        return put_run_clipped(out, at, b, count);
+    }
+    let mut i = 0;
+    while i < count {
+        out[at + i] = b;
+        i += 1;
+    }
+    end
+}
+
 // The digit of n.
 fn digit(n: u64) -> u8
     requires { ⌜ n < 10 ⌝ }
@@ -59,17 +101,79 @@ fn digit(n: u64) -> u8
     48 + n as u8
 }
 
-// Writes n in decimal.
-pub fn put_decimal(out: &mut [u8], at: usize, n: u64) -> usize
-    requires { ⌜ at + 20 < 2 ^ 64 ⌝ }
+// Writes n, whose digits end before `end`, from the last to the first.
+fn put_clipped(out: &mut [u8], at: usize, n: u64, end: usize) -> usize
+    requires { ⌜ end ≡ at + length (dec n) ⌝ }
+    ensures { λ r. ⌜ Wrote (now (out .entry)) at (dec n) (now (out .exit)) r ⌝ }
+    ensures { λ r. ⌜ r ≡ end ⌝ }
+{
+    let mut x = n;
+    let mut i = end;
+    while 10 <= x {
+        i -= 1;
+        put(out, i, digit(x % 10));
+        x = x / 10;
+    }
+    put(out, at, digit(x));
+    end
+}
+
+// The same where there is room for them: two at a time.
+fn put_inside(out: &mut [u8], at: usize, n: u64, end: usize) -> usize
+    requires { ⌜ (end ≡ at + length (dec n)) × (end ≤ length (now out)) ⌝ }
+    ensures { λ r. ⌜ Wrote (now (out .entry)) at (dec n) (now (out .exit)) r ⌝ }
+    ensures { λ r. ⌜ r ≡ end ⌝ }
+{
+    let mut x = n;
+    let mut i = end;
+    while 100 <= x {
+        let pair = x % 100;
+        i -= 2;
+        out[i] = digit(pair / 10);
+        out[i + 1] = digit(pair % 10);
+        x = x / 100;
+    }
+    if x < 10 {
+        out[at] = digit(x);
+        return end;
+    }
+    out[at] = digit(x / 10);
+    out[at + 1] = digit(x % 10);
+    end
+}
+
+// Writes n, which has `count` digits.
+fn put_counted(out: &mut [u8], at: usize, n: u64, count: usize) -> usize
+    requires { ⌜ (at + 20 < 2 ^ 64) × (count ≡ length (dec n)) × (0 < count) × (count ≤ 20) ⌝ }
     ensures { λ r. ⌜ Wrote (now (out .entry)) at (dec n) (now (out .exit)) r ⌝ }
     ensures { λ r. ⌜ (at < r) × (r ≤ at + 20) ⌝ }
 {
-    if n < 10 {
-        return put(out, at, digit(n));
+    let end = at + count;
+    if end <= out.len() {
+        return put_inside(out, at, n, end);
     }
-    let next = put_decimal(out, at, n / 10);
-    put(out, next, digit(n % 10))
+    if out.len() <= at {
+        return end;
+    }
+    put_clipped(out, at, n, end)
+}
+
+// How many digits n has, if it has eight at most.
+fn count_few(n: u64) -> usize
+    requires { ⌜ n < 100000000 ⌝ }
+    ensures { λ r. ⌜ r ≡ length (dec n) ⌝ }
+    ensures { λ r. ⌜ (0 < r) × (r ≤ 8) ⌝ }
+{
+    if n < 10000 {
+        if n < 100 {
+            return if n < 10 { 1 } else { 2 };
+        }
+        return if n < 1000 { 3 } else { 4 };
+    }
+    if n < 1000000 {
+        return if n < 100000 { 5 } else { 6 };
+    }
+    if n < 10000000 { 7 } else { 8 }
 }
 
 // How many digits n has.
@@ -77,7 +181,24 @@ fn count_digits(n: u64) -> usize
     ensures { λ r. ⌜ r ≡ length (dec n) ⌝ }
     ensures { λ r. ⌜ (0 < r) × (r ≤ 20) ⌝ }
 {
-    if n < 10 { 1 } else { count_digits(n / 10) + 1 }
+    if n < 100000000 {
+        return count_few(n);
+    }
+    let high = n / 100000000;
+    if high < 100000000 {
+        return count_few(high) + 8;
+    }
+    count_few(high / 100000000) + 16
+}
+
+// Writes n in decimal.
+pub fn put_decimal(out: &mut [u8], at: usize, n: u64) -> usize
+    requires { ⌜ at + 20 < 2 ^ 64 ⌝ }
+    ensures { λ r. ⌜ Wrote (now (out .entry)) at (dec n) (now (out .exit)) r ⌝ }
+    ensures { λ r. ⌜ (at < r) × (r ≤ at + 20) ⌝ }
+{
+    let count = count_digits(n);
+    put_counted(out, at, n, count)
 }
 
 // How much b is short of a.
@@ -96,7 +217,7 @@ pub fn put_right(out: &mut [u8], at: usize, b: u8, width: usize, n: u64) -> usiz
     let count = count_digits(n);
     let gap = less(width, count);
     let next = put_run(out, at, b, gap);
-    put_decimal(out, next, n)
+    put_counted(out, next, n, count)
 }
 
 // Writes x in decimal, with its sign if it is negative.

@@ -8,7 +8,7 @@ ghost use Prim.Native.Nat.{ℕ, _+_, _≤_, _<_};
 ghost use lib.ListN.{length};
 ghost use Rattle.columns.specs.Columns.{columns};
 ghost use Rattle.columns.specs.Fixed.{digitsOf, fieldOf, isNumber, withSign, behindSign, signedOf};
-ghost use Rattle.columns.specs.Reading.{Below, SizeBelow};
+ghost use Rattle.columns.specs.Reading.{Below, SizeBelow, Behind};
 
 fn wide(b: u8) -> u32
     ensures { λ r. ⌜ r ≡ b ⌝ }
@@ -38,20 +38,29 @@ fn digits(s: &[u8], at: usize, end: usize) -> Field
     Field::Number(n)
 }
 
+// Where the columns from `at` up to `end` go on behind their blanks.
+fn behind_blanks(s: &[u8], at: usize, end: usize) -> usize
+    requires { ⌜ (at ≤ end) × (end ≤ length (now s)) ⌝ }
+    ensures { λ r. ⌜ Behind (now (s .entry)) at end r ⌝ }
+{
+    let mut i = at;
+    while i < end {
+        if s[i] != 32 {
+            return i;
+        }
+        i += 1;
+    }
+    end
+}
+
 // The number in the columns from `at` up to `end`.
 pub fn read_field(s: &[u8], at: usize, end: usize) -> Field
     requires { ⌜ (at ≤ end) × (end ≤ length (now s)) × (end ≤ at + 8) ⌝ }
     ensures { λ r. ⌜ r ≡ fieldOf (columns (now (s .entry)) at end) ⌝ }
     ensures { λ r. ⌜ Below 100000000 r ⌝ }
 {
-    let mut i = at;
-    while i < end {
-        if s[i] != 32 {
-            return digits(s, i, end);
-        }
-        i += 1;
-    }
-    Field::Number(0)
+    let i = behind_blanks(s, at, end);
+    digits(s, i, end)
 }
 
 fn is_number(f: Field, n: u32) -> bool
@@ -109,23 +118,20 @@ pub fn read_signed(s: &[u8], at: usize, end: usize) -> SignedField
     ensures { λ r. ⌜ r ≡ signedOf (columns (now (s .entry)) at end) ⌝ }
     ensures { λ r. ⌜ SizeBelow 100000000 r ⌝ }
 {
-    let mut i = at;
-    while i < end {
-        let b = s[i];
-        if b == 45 {
-            return behind_sign(true, s, i + 1, end);
-        }
-        if b == 43 {
-            return behind_sign(false, s, i + 1, end);
-        }
-        if b != 32 {
-            let f = digits(s, i, end);
-            return with_sign(false, f);
-        }
-        i += 1;
+    let i = behind_blanks(s, at, end);
+    if end <= i {
+        return SignedField::Number(Signed {
+            neg: false,
+            size: 0,
+        });
     }
-    SignedField::Number(Signed {
-        neg: false,
-        size: 0,
-    })
+    let b = s[i];
+    if b == 45 {
+        return behind_sign(true, s, i + 1, end);
+    }
+    if b == 43 {
+        return behind_sign(false, s, i + 1, end);
+    }
+    let f = digits(s, i, end);
+    with_sign(false, f)
 }

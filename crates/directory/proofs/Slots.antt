@@ -168,16 +168,10 @@ module _ (f : List ℕ) (k n j : ℕ) (r : SignedField) (place : j ≡ seek (num
   unfolding numberIn
   number-signed h e = rw (h, in-at f k (number n), ← place) e
 
-pub status-unsigned : (n : ℕ) → n ≡ 8 → unsigned n ≡ true
-status-unsigned n e = rw e
-
-pub subscript-unsigned : (n : ℕ) → n ≡ 11 → unsigned n ≡ true
-subscript-unsigned n e = rw e
-
 pub others-signed : (n : ℕ) → (n ≡ 8 → ⊥) → (n ≡ 11 → ⊥) → unsigned n ≡ false
 others-signed n h l = simp (ne-eqb _ _ h, ne-eqb _ _ l)
 
-pub ruleset slotted = (placed, placed-low, plain-number, plain-bad, slot-signed, slot-plain, number-plain, number-signed, status-unsigned, subscript-unsigned, others-signed)
+pub ruleset slotted = (placed, placed-low, plain-number, plain-bad, slot-signed, slot-plain, number-signed)
 
 -- the label in the file
 pub label-columns : (f : List ℕ) (k : ℕ) → labelAt f k ≡ columns f (81 * (k + 1) + 56) (81 * (k + 1) + 64)

@@ -1,27 +1,26 @@
 -- An entry put together of its numbers, its type again, its parameter pointer and its line count.
 use mathlib.Core.Path.{_≡_, refl, sym, ap, _∙_}
 use mathlib.Core.Bool.{Bool, true, false, not}
-use mathlib.Core.List.{List, [], _∷_, _++_, append-nil}
-use Prim.Native.Nat.{ℕ, suc, _+_, _-_, _≤_, _<_}
-use native.Mathlib.Numerals.{add-one}
+use mathlib.Core.List.{List, [], _∷_}
+use Prim.Native.Nat.{ℕ, zero, suc, _+_, _≤_, _<_}
+use native.Mathlib.Nat.{zero-add}
 use native.Mathlib.Omega.{arith}
-use lib.ListN.{length, take, set}
-use lib.Seq.{take-suc-set, take-all}
 use lib.Dec.{leb}
 use borrow.Author.Tests.{eq-eqb, ne-eqb, not-true, not-false}
 use Rattle.columns.specs.declared.Signed.{Signed}
 use Rattle.columns.specs.declared.SignedField.{SignedField}
 use Rattle.columns.specs.declared.SignedField.the-variants.{Number, Bad}
-use Rattle.columns.specs.Fixed.{signedOf}
+use Rattle.columns.specs.Columns.{columns}
+use Rattle.columns.specs.Fixed.{fieldOf, signedOf, withSign}
 use Rattle.columns.specs.Reading.{SizeBelow}
 use Rattle.columns.proofs.Tests.{and-false}
 use Rattle.directory.specs.declared.Fields.{Fields}
 use Rattle.directory.specs.declared.EntryRead.{EntryRead}
 use Rattle.directory.specs.declared.EntryRead.the-variants.{Spelt, Wrong}
-use Rattle.directory.specs.Fields.{typeAt, fieldsOf}
+use Rattle.directory.specs.Fields.{typeAt, inOrder, fieldsOf}
 use Rattle.directory.specs.Lines.{Slot, number, again, pointer, lines, slots, seek, slotIn, numberIn, Numbers, numbers, misspelt, with, numbersFrom, positive, sizeOf, isSame, parameterLine, speltAs, entryAt}
-use Rattle.directory.specs.Reading.{slotAt, after}
-use Rattle.directory.proofs.Slots.{in-at}
+use Rattle.directory.specs.Reading.{slotAt, startOf, NumberIs}
+use Rattle.directory.proofs.Slots.{in-at, number-plain, slot-signed}
 
 -- ---- one field
 
@@ -74,73 +73,86 @@ module _ (x : Fields) (a from count : SignedField) where
 
 pub ruleset spelling = (not-true, not-false, spelt-type, spelt-pointer, spelt-lines, spelt-good)
 
--- ---- the numbers, one by one
+-- ---- the numbers
 
-pub after-misspelt : (xs : List Signed) → after xs misspelt ≡ misspelt
-unfolding after
-after-misspelt [] = refl
-after-misspelt (x ∷ xs) = rw (after-misspelt xs)
-
-pub after-numbers : (xs ys : List Signed) → after xs (numbers ys) ≡ numbers (xs ++ ys)
-unfolding after
-after-numbers [] ys = refl
-after-numbers (x ∷ xs) ys = rw (after-numbers xs ys)
-
-pub after-one : (xs : List Signed) (x : Signed) (ns : Numbers) → after (xs ++ (x ∷ [])) ns ≡ after xs (with (Number x) ns)
-unfolding after
-after-one [] x ns = refl
-after-one (y ∷ xs) x ns = ap (with (Number y)) (after-one xs x ns)
-
-pub after-none : (f : List ℕ) (k : ℕ) (xs : List Signed) → after (take 0 xs) (numbersFrom f k 0 (12 - 0)) ≡ numbersFrom f k 0 12
-unfolding after
-after-none f k xs = refl
-
-module _ (f : List ℕ) (k n : ℕ) (xs : List Signed) (inv : after (take n xs) (numbersFrom f k n (12 - n)) ≡ numbersFrom f k 0 12) where
-  module _ (h : n < 12) (r : SignedField) (e : r ≡ numberIn f k n) where
-    left : 12 - n ≡ suc (12 - (n + 1))
-    left = omega arith
-
-    pub number-bad : r ≡ Bad → numbersFrom f k 0 12 ≡ misspelt
-    unfolding numbersFrom
-    number-bad b = sym inv ∙ simp (left, numbersFrom, sym e ∙ b, after-misspelt)
-
-    pub number-more : (x : Signed) → r ≡ Number x → length xs ≡ 12 → after (take (n + 1) (set xs n x)) (numbersFrom f k (n + 1) (12 - (n + 1))) ≡ numbersFrom f k 0 12
-    unfolding numbersFrom
-    number-more x b l =
-        let t : take (n + 1) (set xs n x) ≡ take n xs ++ (x ∷ []) = rw add-one (take-suc-set xs n x (omega arith)) in
-        rw (t, after-one) (simp (left, numbersFrom, sym e ∙ b) at inv)
-
-  pub numbers-all : 12 ≤ n → length xs ≡ 12 → numbersFrom f k 0 12 ≡ numbers xs
-  unfolding numbersFrom
-  numbers-all h l =
-      let z : 12 - n ≡ 0 = omega arith in
-      sym inv ∙ rw (z, take-all n xs (omega arith), after-numbers, append-nil)
+-- one that is no number
+numbers-bad : (f : List ℕ) (k n j more : ℕ) → j < more → numberIn f k (n + j) ≡ Bad → numbersFrom f k n more ≡ misspelt
+unfolding numbersFrom
+numbers-bad f k n j zero h e = absurd (omega arith)
+numbers-bad f k n zero (suc more) h e =
+    let a : n + 0 ≡ n = omega arith in
+    let b : numberIn f k n ≡ Bad = rw a at e in
+    rw b
+numbers-bad f k n (suc j) (suc more) h e =
+    let a : n + suc j ≡ n + 1 + j = omega arith in
+    rw (numbers-bad f k (n + 1) j more (omega arith) (rw a at e)) (none (numberIn f k n))
+  where
+    none : (r : SignedField) → with r misspelt ≡ misspelt
+    none (Number x) = refl
+    none Bad = refl
 
 module _ (f : List ℕ) (k : ℕ) where
-  pub entry-bad : numbersFrom f k 0 12 ≡ misspelt → Wrong ≡ entryAt f k
-  unfolding entryAt
-  entry-bad e = rw e
+  pub number-is : (n : ℕ) (x : Signed) (r : SignedField) → r ≡ numberIn f k n → r ≡ Number x → NumberIs f k n x
+  number-is n x r e h = sym e ∙ h
 
-  pub entry-good : (xs : List Signed) (x : Fields) (a from count : SignedField) (r : EntryRead) → numbersFrom f k 0 12 ≡ numbers xs → x ≡ fieldsOf xs
+  pub number-wrong : (n : ℕ) (r : SignedField) → r ≡ numberIn f k n → r ≡ Bad → n < 12 → Wrong ≡ entryAt f k
+  unfolding entryAt
+  number-wrong n r e h l = rw (numbers-bad f k 0 n 12 l (rw zero-add (sym e ∙ h)))
+
+  -- status and subscript
+  pub status-in : (r : SignedField) → r ≡ withSign false (fieldOf (slotAt f k 8)) → r ≡ numberIn f k 8
+  unfolding slots
+  status-in r e = number-plain f k 8 8 r refl refl e
+
+  pub subscript-in : (r : SignedField) → r ≡ withSign false (fieldOf (slotAt f k 17)) → r ≡ numberIn f k 11
+  unfolding slots
+  subscript-in r e = number-plain f k 11 17 r refl refl e
+
+  pub status-is : (x : Signed) (r : SignedField) → r ≡ withSign false (fieldOf (slotAt f k 8)) → r ≡ Number x → NumberIs f k 8 x
+  status-is x r e h = number-is 8 x r (status-in r e) h
+
+  pub subscript-is : (x : Signed) (r : SignedField) → r ≡ withSign false (fieldOf (slotAt f k 17)) → r ≡ Number x → NumberIs f k 11 x
+  subscript-is x r e h = number-is 11 x r (subscript-in r e) h
+
+  pub status-wrong : (r : SignedField) → r ≡ withSign false (fieldOf (slotAt f k 8)) → r ≡ Bad → Wrong ≡ entryAt f k
+  status-wrong r e h = number-wrong 8 r (status-in r e) h (omega arith)
+
+  pub subscript-wrong : (r : SignedField) → r ≡ withSign false (fieldOf (slotAt f k 17)) → r ≡ Bad → Wrong ≡ entryAt f k
+  subscript-wrong r e h = number-wrong 11 r (subscript-in r e) h (omega arith)
+
+  -- all of them
+  pub numbers-are : (entity form structure font level view matrix display status weight colour subscript : Signed)
+      → NumberIs f k 0 entity → NumberIs f k 1 form → NumberIs f k 2 structure → NumberIs f k 3 font → NumberIs f k 4 level → NumberIs f k 5 view → NumberIs f k 6 matrix → NumberIs f k 7 display → NumberIs f k 8 status → NumberIs f k 9 weight → NumberIs f k 10 colour → NumberIs f k 11 subscript
+      → numbersFrom f k 0 12 ≡ numbers (entity ∷ form ∷ structure ∷ font ∷ level ∷ view ∷ matrix ∷ display ∷ status ∷ weight ∷ colour ∷ subscript ∷ [])
+  unfolding numbersFrom
+  numbers-are entity form structure font level view matrix display status weight colour subscript e0 e1 e2 e3 e4 e5 e6 e7 e8 e9 e10 e11 = rw (e0, e1, e2, e3, e4, e5, e6, e7, e8, e9, e10, e11)
+
+  pub numbers-of : (x : Fields) (ns : List Signed) → x ≡ fieldsOf ns → inOrder (fieldsOf ns) ≡ ns → numbersFrom f k 0 12 ≡ numbers ns → numbersFrom f k 0 12 ≡ numbers (inOrder x)
+  numbers-of x ns e h n = n ∙ ap numbers (sym h ∙ ap inOrder (sym e))
+
+  pub entry-good : (x : Fields) (a from count : SignedField) (r : EntryRead) → numbersFrom f k 0 12 ≡ numbers (inOrder x)
       → a ≡ signedOf (slotAt f k 9) → from ≡ signedOf (slotAt f k 1) → count ≡ signedOf (slotAt f k 12) → r ≡ speltAs x a from count → r ≡ entryAt f k
   unfolding entryAt slots
-  entry-good xs x a from count r e ex ea ef ec er =
-      rw (e, in-at f k again, in-at f k pointer, in-at f k lines) (er ∙ rw (ex, ea, ef, ec))
+  entry-good x a from count r e ea ef ec er =
+      rw (e, in-at f k again, in-at f k pointer, in-at f k lines) (er ∙ rw (ea, ef, ec))
 
 -- one field alone
-module _ (f : List ℕ) (k : ℕ) (t : SignedField) (r : ℕ) (h : r ≡ sizeOf t) where
-  size-in : (x : Slot) → t ≡ signedOf (slotAt f k (seek x slots)) → r ≡ sizeOf (signedOf (slotIn f k x))
-  size-in x e = h ∙ ap sizeOf (e ∙ ap signedOf (sym (in-at f k x)))
+module _ (f : List ℕ) (k r : ℕ) where
+  pub size-at : (j at : ℕ) (t : SignedField) → at ≡ startOf k j → t ≡ signedOf (columns f at (at + 8)) → r ≡ sizeOf t → r ≡ sizeOf (signedOf (slotAt f k j))
+  size-at j at t s e h = h ∙ ap sizeOf (slot-signed f k j at s t e)
 
-  pub type-size : t ≡ signedOf (slotAt f k 0) → r ≡ sizeOf (signedOf (slotIn f k (number typeAt)))
+  size-in : (x : Slot) → r ≡ sizeOf (signedOf (slotAt f k (seek x slots))) → r ≡ sizeOf (signedOf (slotIn f k x))
+  size-in x e = e ∙ ap (λ (l : List ℕ). sizeOf (signedOf l)) (sym (in-at f k x))
+
+  pub type-size : r ≡ sizeOf (signedOf (slotAt f k 0)) → r ≡ sizeOf (signedOf (slotIn f k (number typeAt)))
   unfolding slots
   type-size e = size-in (number typeAt) e
 
-  pub pointer-size : t ≡ signedOf (slotAt f k 1) → r ≡ sizeOf (signedOf (slotIn f k pointer))
+  pub pointer-size : r ≡ sizeOf (signedOf (slotAt f k 1)) → r ≡ sizeOf (signedOf (slotIn f k pointer))
   unfolding slots
   pointer-size e = size-in pointer e
 
-  pub lines-size : t ≡ signedOf (slotAt f k 12) → r ≡ sizeOf (signedOf (slotIn f k lines))
+  pub lines-size : r ≡ sizeOf (signedOf (slotAt f k 12)) → r ≡ sizeOf (signedOf (slotIn f k lines))
   unfolding slots
   lines-size e = size-in lines e
 
@@ -148,6 +160,6 @@ pub size-small : (t : SignedField) (r m : ℕ) → 0 < m → SizeBelow m t → r
 size-small (Number x) r m z h e = omega arith
 size-small Bad r m z h e = omega arith
 
-pub ruleset sizes = (type-size, pointer-size, lines-size, size-small)
+pub ruleset sizes = (size-at, type-size, pointer-size, lines-size, size-small)
 
-pub ruleset entries = (after-none, number-bad, number-more, numbers-all, entry-bad, entry-good)
+pub ruleset entries = (number-is, number-wrong, status-is, subscript-is, status-wrong, subscript-wrong, entry-good)

@@ -16,7 +16,7 @@ use Rattle.directory.specs.declared.EntryRead.{EntryRead}
 use Rattle.directory.specs.declared.EntryRead.the-variants.{Spelt, Wrong}
 use Rattle.directory.specs.Fields.{typeAt, fieldCount, nought, inOrder}
 use Rattle.directory.specs.Rules.{rangesOk}
-use Rattle.directory.specs.Lines.{Slot, number, again, pointer, lines, reserved, label, slots, slotsALine, slotColumns, Numbers, numbers, with, written, slotOf, joined}
+use Rattle.directory.specs.Lines.{Slot, number, again, pointer, lines, reserved, label, slots, slotsALine, slotColumns, numberIn, written, slotOf, joined}
 
 -- ---- where a slot stands
 
@@ -28,10 +28,9 @@ slotAt f k j = columns (lineAt f (k + j / slotsALine)) (slotColumns * (j % slots
 abbrev pub startOf : ℕ → ℕ → ℕ
 startOf k j = lineBytes * (k + j / slotsALine) + slotColumns * (j % slotsALine)
 
--- numbers that were read, and those that are read next
-unfoldable pub after : List Signed → Numbers → Numbers
-after [] ns = ns
-after (x ∷ xs) ns = with (Number x) (after xs ns)
+-- number n of the entry is x
+abbrev pub NumberIs : List ℕ → ℕ → ℕ → Signed → Type 0
+NumberIs f k n x = numberIn f k n ≡ Number x
 
 -- ---- the lines as they are written
 

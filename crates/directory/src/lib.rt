@@ -14,10 +14,8 @@ pub const SLOT_COLUMNS: usize = 8;
 
 pub const SLOTS_A_LINE: usize = 9;
 
-// The two numbers of an entry that have no sign, counted in the order of `Fields`.
+// The status among the numbers of an entry, counted in the order of `Fields`.
 pub const STATUS: usize = 8;
-
-pub const SUBSCRIPT: usize = 11;
 
 // The numbers of an entry as they are spelt, in a file or in a sheet; `entity` is its type, `display` its label display.
 pub struct Fields {

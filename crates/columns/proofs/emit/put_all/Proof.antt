@@ -4,16 +4,16 @@ use Prim.Native.Nat.{_+_, _-_, _≤_}
 use lib.ListN.{length, take}
 use Rattle.columns.specs.Laid.{Wrote}
 use borrow.Author.Needs.{needs}
-use Rattle.columns.proofs.Writes.{writes}
+use Rattle.columns.proofs.Writes.{copies}
 use Rattle.columns.proofs.emit.put_all.Statement.{statement}
 use Rattle.columns.proofs.emit.put_all.Tie as tie
 
 abbrev Inv-loop : tie.InvT-loop
-Inv-loop out₀ at s next₀ i₀ out next i =
-    (i ≤ length s) × (next ≡ at + i) × (length out ≡ length out₀) × Wrote out₀ at (take i s) out next
+Inv-loop out₀ at s end i₀ out i =
+    (i ≤ length s) × (length out ≡ length out₀) × Wrote out₀ at (take i s) out (at + i)
 
 abbrev μ-loop : tie.MeasureT-loop
-μ-loop out₀ at s next₀ i₀ out next i = length s - i
+μ-loop out₀ at s end i₀ out i = length s - i
 
 pub put-all-spec : {M : Type 1} → statement M
 put-all-spec =
@@ -21,11 +21,17 @@ put-all-spec =
     (tie.spec
     Inv-loop
     μ-loop
-    (λ c. search (needs, writes))
-    (λ c. search (needs, writes))
-    (λ c κs. search (needs, writes))
-    (λ c. search (needs, writes))
-    (λ c. search (needs, writes))
-    (λ c. search (needs, writes))
-    (λ c. search (needs, writes))
-    (λ c. search (needs, writes)))
+    (λ c. search (needs, copies))
+    (λ c. search (needs, copies))
+    (λ c κs. search (needs, copies))
+    (λ c. search (needs, copies))
+    (λ c. search (needs, copies))
+    (λ c. search (needs, copies))
+    (λ c. search (needs, copies))
+    (λ c. search (needs, copies))
+    (λ c. search (needs, copies))
+    (λ c. search (needs, copies))
+    (λ c. search (needs, copies))
+    (λ c. search (needs, copies))
+    (λ c. search (needs, copies))
+    (λ c. search (needs, copies)))

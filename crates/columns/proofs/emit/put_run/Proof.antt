@@ -4,16 +4,16 @@ use Prim.Native.Nat.{_+_, _-_, _≤_}
 use lib.ListN.{length, replicate}
 use Rattle.columns.specs.Laid.{Wrote}
 use borrow.Author.Needs.{needs}
-use Rattle.columns.proofs.Writes.{writes}
+use Rattle.columns.proofs.Writes.{copies}
 use Rattle.columns.proofs.emit.put_run.Statement.{statement}
 use Rattle.columns.proofs.emit.put_run.Tie as tie
 
 abbrev Inv-loop : tie.InvT-loop
-Inv-loop out₀ at b count next₀ i₀ out next i =
-    (i ≤ count) × (next ≡ at + i) × (length out ≡ length out₀) × Wrote out₀ at (replicate i b) out next
+Inv-loop out₀ at b count end i₀ out i =
+    (i ≤ count) × (length out ≡ length out₀) × Wrote out₀ at (replicate i b) out (at + i)
 
 abbrev μ-loop : tie.MeasureT-loop
-μ-loop out₀ at b count next₀ i₀ out next i = count - i
+μ-loop out₀ at b count end i₀ out i = count - i
 
 pub put-run-spec : {M : Type 1} → statement M
 put-run-spec =
@@ -21,10 +21,16 @@ put-run-spec =
     (tie.spec
     Inv-loop
     μ-loop
-    (λ c. search (needs, writes))
-    (λ c κs. search (needs, writes))
-    (λ c. search (needs, writes))
-    (λ c. search (needs, writes))
-    (λ c. search (needs, writes))
-    (λ c. search (needs, writes))
-    (λ c. search (needs, writes)))
+    (λ c. search (needs, copies))
+    (λ c. search (needs, copies))
+    (λ c κs. search (needs, copies))
+    (λ c. search (needs, copies))
+    (λ c. search (needs, copies))
+    (λ c. search (needs, copies))
+    (λ c. search (needs, copies))
+    (λ c. search (needs, copies))
+    (λ c. search (needs, copies))
+    (λ c. search (needs, copies))
+    (λ c. search (needs, copies))
+    (λ c. search (needs, copies))
+    (λ c. search (needs, copies)))

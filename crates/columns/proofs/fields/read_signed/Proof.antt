@@ -1,26 +1,13 @@
--- The columns left say what all say: what was passed is blank.
-use mathlib.Core.Path.{_≡_}
-use Prim.Native.Nat.{_-_, _≤_}
-use Rattle.columns.specs.Columns.{columns}
-use Rattle.columns.specs.Fixed.{signedOf}
 use borrow.Author.Needs.{needs}
 use Rattle.columns.proofs.Fixed.{signs}
 use Rattle.columns.proofs.fields.read_signed.Statement.{statement}
 use Rattle.columns.proofs.fields.read_signed.Tie as tie
 
-abbrev Inv-loop : tie.InvT-loop
-Inv-loop s at end i₀ i =
-    (at ≤ i) × (i ≤ end) × (signedOf (columns s i end) ≡ signedOf (columns s at end))
-
-abbrev μ-loop : tie.MeasureT-loop
-μ-loop s at end i₀ i = end - i
-
 pub read-signed-spec : {M : Type 1} → statement M
 read-signed-spec =
     tie.close
     (tie.spec
-    Inv-loop
-    μ-loop
+    (λ c κs. search (needs, signs))
     (λ c. search (needs, signs))
     (λ c. search (needs, signs))
     (λ c. search (needs, signs))
@@ -31,8 +18,4 @@ read-signed-spec =
     (λ c. search (needs, signs))
     (λ c κs. search (needs, signs))
     (λ c κs. search (needs, signs))
-    (λ c. search (needs, signs))
-    (λ c. search (needs, signs))
-    (λ c. search (needs, signs))
-    (λ c. search (needs, signs))
     (λ c. search (needs, signs)))

@@ -1,4 +1,4 @@
--- The parameter line count stands in slot 12.
+-- The line count stands in slot 12.
 use borrow.Author.Needs.{needs}
 use Rattle.directory.proofs.Spelt.{sizes}
 use Rattle.directory.proofs.lines.lines_at.Statement.{statement}
@@ -8,6 +8,5 @@ pub lines-at-spec : {M : Type 1} → statement M
 lines-at-spec =
     tie.close
     (tie.spec
-    (λ c κs. search (needs, sizes))
     (λ c κs. search (needs, sizes))
     (λ c. search (needs, sizes)))

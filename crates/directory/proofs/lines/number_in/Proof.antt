@@ -1,4 +1,4 @@
--- Status and subscript are the two numbers without a sign.
+-- The number is read in its slot.
 use borrow.Author.Needs.{needs}
 use Rattle.directory.proofs.Slots.{slotted}
 use Rattle.directory.proofs.lines.number_in.Statement.{statement}
@@ -9,9 +9,5 @@ number-in-spec =
     tie.close
     (tie.spec
     (λ c κs. search (needs, slotted))
-    (λ c κs. search (needs, slotted))
-    (λ c. search (needs, slotted))
-    (λ c κs. search (needs, slotted))
-    (λ c. search (needs, slotted))
     (λ c κs. search (needs, slotted))
     (λ c. search (needs, slotted)))

@@ -9,5 +9,4 @@ pointer-at-spec =
     tie.close
     (tie.spec
     (λ c κs. search (needs, sizes))
-    (λ c κs. search (needs, sizes))
     (λ c. search (needs, sizes)))

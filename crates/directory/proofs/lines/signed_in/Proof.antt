@@ -9,6 +9,5 @@ signed-in-spec =
     tie.close
     (tie.spec
     (λ c κs. search (needs, slotted))
-    (λ c. search (needs, slotted))
     (λ c κs. search (needs, slotted))
     (λ c. search (needs, slotted)))

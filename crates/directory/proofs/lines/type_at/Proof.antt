@@ -9,5 +9,4 @@ type-at-spec =
     tie.close
     (tie.spec
     (λ c κs. search (needs, sizes))
-    (λ c κs. search (needs, sizes))
     (λ c. search (needs, sizes)))
