@@ -18,18 +18,16 @@ use Rattle.values.specs.Reading.{start, scan, capRun, Within}
 use Rattle.values.proofs.Laws.{three, bound, scan-count, scan-value}
 use Rattle.values.proofs.Ends.{inside, ends}
 
-module _ (x n v : ℕ) (k : Token) where
-  pub from-x : (x ≡ 72 → ⊥) → Plain k ≡ headFrom x n v k
-  from-x h = simp (ne-eqb x 72 h)
+-- whether n digits that spell v, and x behind them, are a count
+module _ (x n v : ℕ) where
+  pub not-x : (x ≡ 72 → ⊥) → false ≡ (eqb x 72 && (leb n 3 && leb 1 v))
+  not-x h = simp (ne-eqb x 72 h)
 
-  pub from-n : x ≡ 72 → 3 < n → Plain k ≡ headFrom x n v k
-  from-n h l = simp (eq-eqb x 72 h, lt-leb n 3 l)
+  pub not-n : x ≡ 72 → 3 < n → false ≡ (eqb x 72 && (leb n 3 && leb 1 v))
+  not-n h l = simp (eq-eqb x 72 h, lt-leb n 3 l)
 
-  pub from-v : x ≡ 72 → n ≤ 3 → v < 1 → Plain k ≡ headFrom x n v k
-  from-v h l z = simp (eq-eqb x 72 h, le-leb n 3 l, lt-leb 1 v z)
-
-  pub from-count : x ≡ 72 → n ≤ 3 → 1 ≤ v → Count v (n + 1) ≡ headFrom x n v k
-  from-count h l z = simp (eq-eqb x 72 h, le-leb n 3 l, le-leb 1 v z)
+  pub by-v : x ≡ 72 → n ≤ 3 → leb 1 v ≡ (eqb x 72 && (leb n 3 && leb 1 v))
+  by-v h l = simp (eq-eqb x 72 h, le-leb n 3 l)
 
 -- a count is too short for the cap to be felt
 head-cap : (x n v : ℕ) (k : Token) → v < 10 ^ n → headFrom x n (min v (10 ^ 17)) k ≡ headFrom x n v k
@@ -62,14 +60,27 @@ module _ (l : List ℕ) (r : Run) (x : ℕ) (k : Token) {h : Head} where
         rw g (head-in x (R .count) (R .value) (length l) k b (λ e. inside l (R .count) (rw (← c, ← ex, e) (omega arith))) (rw ek (ends l .0))),
       )
 
-module _ (l : List ℕ) (r : Run) (x : ℕ) (k : Token) {h : Head} where
-  pub head-equal : h ≡ headFrom x (r .count) (r .value) k → k ≡ numberOf l → x ≡ getD l (r .count) 0 → r ≡ capRun (scan l start) → h ≡ headOf l
-  head-equal eh ek ex er = head-parts l r x k eh ek ex er .0
+module _ (l : List ℕ) (r : Run) (x : ℕ) {b : Bool} where
+  is-count : b ≡ (eqb x 72 && (leb (r .count) 3 && leb 1 (r .value))) → b ≡ true → Count (r .value) (r .count + 1) ≡ headFrom x (r .count) (r .value) (numberOf l)
+  is-count eb e = simp (sym eb ∙ e)
 
-  pub head-within : h ≡ headFrom x (r .count) (r .value) k → k ≡ numberOf l → x ≡ getD l (r .count) 0 → r ≡ capRun (scan l start) → Within (length l) h
-  head-within eh ek ex er = head-parts l r x k eh ek ex er .1
+  count-parts : b ≡ (eqb x 72 && (leb (r .count) 3 && leb 1 (r .value))) → b ≡ true → x ≡ getD l (r .count) 0 → r ≡ capRun (scan l start)
+      → (Count (r .value) (r .count + 1) ≡ headOf l) × Within (length l) (Count (r .value) (r .count + 1))
+  count-parts eb e ex er = head-parts l r x (numberOf l) (is-count eb e) refl ex er
 
-pub ruleset heads = (from-x, from-n, from-v, from-count, head-equal, head-within)
+  pub head-count : b ≡ (eqb x 72 && (leb (r .count) 3 && leb 1 (r .value))) → b ≡ true → x ≡ getD l (r .count) 0 → r ≡ capRun (scan l start) → Count (r .value) (r .count + 1) ≡ headOf l
+  head-count eb e ex er = count-parts eb e ex er .0
+
+  pub head-few : b ≡ (eqb x 72 && (leb (r .count) 3 && leb 1 (r .value))) → b ≡ true → x ≡ getD l (r .count) 0 → r ≡ capRun (scan l start) → r .value ≤ 999
+  head-few eb e ex er = count-parts eb e ex er .1 .0
+
+  pub head-in-line : b ≡ (eqb x 72 && (leb (r .count) 3 && leb 1 (r .value))) → b ≡ true → x ≡ getD l (r .count) 0 → r ≡ capRun (scan l start) → r .count + 1 ≤ length l
+  head-in-line eb e ex er = count-parts eb e ex er .1 .1
+
+  pub head-plain : {k : Token} → b ≡ (eqb x 72 && (leb (r .count) 3 && leb 1 (r .value))) → b ≡ false → x ≡ getD l (r .count) 0 → r ≡ capRun (scan l start) → k ≡ numberOf l → Plain k ≡ headOf l
+  head-plain {k} eb e ex er ek = let q : Plain k ≡ headFrom x (r .count) (r .value) k = simp (sym eb ∙ e) in head-parts l r x k q ek ex er .0
+
+pub ruleset heads = (not-x, not-n, by-v, head-count, head-few, head-in-line, head-plain)
 
 -- what callers know of a head by its case
 pub count-few : (m : ℕ) {h : Head} {count len : ℕ} → h ≡ Count count len → Within m h → count ≤ 999

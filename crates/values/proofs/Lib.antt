@@ -4,8 +4,11 @@ pub mod Heads
 pub mod Digits
 pub mod Canon
 pub mod Sizes
+pub mod Lengths
 pub mod Round
 pub mod Spells
-pub mod Backs
 pub mod OneSpelling
+pub mod Decimals
+pub mod Direct
+pub mod Backs
 pub mod Steps

@@ -33,7 +33,6 @@ use Rattle.values.proofs.Digits.{Ds, digits-ds, digits-rest, value-belo
 use Rattle.values.proofs.Canon.{Numeral, is-whole, is-real, read-fine}
 use Rattle.values.proofs.Round.{round, round-text}
 use Rattle.values.proofs.Sizes.{number-some}
-use Rattle.values.proofs.Backs.{strict-some}
 
 -- ---- what is read back is spelt so
 
@@ -139,6 +138,11 @@ placed-item default = refl
 placed-item (whole neg size) = refl
 placed-item (real neg m eneg e double) = refl
 placed-item (text bs) = ap text (ap (λ (x : List ℕ). take (length bs) x) (drop-append-seam (head (length bs)) bs) ∙ take-all (length bs) bs (omega arith))
+
+strict-some : (l : List ℕ) → (length l ≡ 0 → ⊥) → strictOf l ≡ byHead l (headOf l)
+unfolding strictOf
+strict-some [] h = absurd (h refl)
+strict-some (b ∷ bs) h = refl
 
 -- a spelling with a head is no default
 by-head : (l : List ℕ) {h : Head} → headOf l ≡ h → (length l ≡ 0 → ⊥) → strictOf l ≡ byHead l h

@@ -25,11 +25,11 @@ sizes (over neg m e n h o k) = (h, k)
 
 -- ---- lengths
 
-length-real : (neg : Bool) (m : ℕ) (eneg : Bool) (e : ℕ) (double : Bool) → length (spelled (real neg m eneg e double)) ≡ length (minus neg) + (length (dec m) + (1 + length (exponent eneg e double)))
+pub length-real : (neg : Bool) (m : ℕ) (eneg : Bool) (e : ℕ) (double : Bool) → length (spelled (real neg m eneg e double)) ≡ length (minus neg) + (length (dec m) + (1 + length (exponent eneg e double)))
 unfolding spelled
 length-real neg m eneg e double = simp length-append (omega arith)
 
-length-whole : (neg : Bool) (size : ℕ) → length (spelled (whole neg size)) ≡ length (minus neg) + length (dec size)
+pub length-whole : (neg : Bool) (size : ℕ) → length (spelled (whole neg size)) ≡ length (minus neg) + length (dec size)
 unfolding spelled
 length-whole neg size = length-append (minus neg) (dec size)
 

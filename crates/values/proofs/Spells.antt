@@ -3,7 +3,6 @@ use mathlib.Core.Path.{_≡_, refl, sym, ap, _∙_}
 use mathlib.Core.Bool.{Bool, true, false, cond, _||_}
 use mathlib.Core.List.{List, [], _∷_, _++_, append-assoc, append-nil}
 use Prim.Native.Nat.{ℕ, zero, suc, _+_, _^_, _≤_, _<_}
-use native.Mathlib.Nat.{zero-add}
 use native.Mathlib.Omega.{arith}
 use lib.ListN.{length, take, drop, length-append, length-take, length-drop}
 use lib.Dec.{ltb}
@@ -70,10 +69,7 @@ pub front-none : {o : List ℕ} {at : ℕ} (v : Value) → v ≡ Default → Wro
 unfolding spelled
 front-none v e = rw e wrote-none
 
-pub front-measured : {o o′ : List ℕ} {r : ℕ} (v : Value) → Wrote o 0 (front v) o′ r → r ≡ length (front v)
-front-measured v x = x .next ∙ zero-add _
-
-pub ruleset spells = (wrote-length, sign-some, sign-none, letter-D, letter-E, power-of, exponent-double, exponent-long, exponent-none, whole-of, real-of, head-of, front-whole, front-real, front-text, front-none, front-measured)
+pub ruleset spells = (wrote-length, sign-some, sign-none, letter-D, letter-E, power-of, exponent-double, exponent-long, exponent-none, whole-of, real-of, head-of, front-whole, front-real, front-text, front-none)
 
 -- a value's spelling is its front and its characters; a string's stand within t
 pub front-chars : (t : List ℕ) (v : Value) → Inside (length t) v → spelled (itemOf t v) ≡ front v ++ chars t v

@@ -36,12 +36,20 @@ module _ (c : ℕ) where
   pub point-none : (c ≡ 46 → ⊥) → 0 ≡ pointLen c
   point-none n = simp (ne-eqb c 46 n)
 
-module _ (r : Run) (c : ℕ) {v d : ℕ} (ev : v ≡ min (r .value * 10 + d) (10 ^ 17)) (ed : d ≡ c - 48) where
+module _ (r : Run) (c : ℕ) {v : ℕ} (ev : v ≡ min (r .value * 10 + (c - 48)) (10 ^ 17)) where
   pub more-zero : Small r → c ≡ 48 → record { value = v; mant = r .mant; zeros = r .zeros + 1; count = r .count + 1 } ≡ capRun (more r c)
-  more-zero h e = simp (ev, ed, eq-eqb c 48 e, min-eq-left (h .mant))
+  more-zero h e = simp (ev, eq-eqb c 48 e, min-eq-left (h .mant))
 
   pub more-digit : (c ≡ 48 → ⊥) → record { value = v; mant = v; zeros = 0; count = r .count + 1 } ≡ capRun (more r c)
-  more-digit n = simp (ev, ed, ne-eqb c 48 n)
+  more-digit n = simp (ev, ne-eqb c 48 n)
+
+-- what the digits spell with one more, capped or too few for the cap to be felt
+module _ (x c : ℕ) {d : ℕ} (ed : d ≡ c) where
+  pub more-capped : {v : ℕ} → v ≡ min (x * 10 + (d - 48)) (10 ^ 17) → v ≡ min (x * 10 + (c - 48)) (10 ^ 17)
+  more-capped ev = rw (← ed) ev
+
+  pub more-few : x < 10 ^ 16 → c ≤ 57 → x * 10 + (d - 48) ≡ min (x * 10 + (c - 48)) (10 ^ 17)
+  more-few h l = omega arith
 
 -- ---- numbers
 
@@ -62,7 +70,7 @@ module _ (neg : Bool) (m up down : ℕ) (double : Bool) (end : ℕ) where
   pub real-long : (m ≡ 0 → ⊥) → 10 ^ 17 ≤ m → token Beyond end ≡ normal neg m up down double end
   real-long n h = simp (ne-eqb m 0 n, le-ltb m (10 ^ 17) h)
 
-pub ruleset parts = (sign-plus, sign-minus, sign-none, point-some, point-none, more-zero, more-digit, whole-beyond, whole-nought, whole-some, real-nought, real-long, real-tiny, real-neg, real-huge, real-pos)
+pub ruleset parts = (sign-plus, sign-minus, sign-none, point-some, point-none, more-zero, more-digit, more-capped, more-few, whole-beyond, whole-nought, whole-some, real-nought, real-long, real-tiny, real-neg, real-huge, real-pos)
 
 -- ---- digits of a text
 
@@ -79,6 +87,17 @@ module _ (t : List ℕ) (k : ℕ) (r x : Run) (e : x ≡ capRun (scan (drop k t)
 
   pub next-digit : {q : Run} → k < length t → 48 ≤ getD t k 0 → getD t k 0 ≤ 57 → q ≡ capRun (more r (getD t k 0)) → x ≡ capRun (scan (drop (k + 1) t) q)
   next-digit l a b eq = turn t k r x e h l a b ∙ ap (λ (y : Run). capRun (scan (drop (k + 1) t) y)) (sym eq)
+
+-- the rest of it read by another
+pub rest-same : (t : List ℕ) (k : ℕ) (r x : Run) {q : Run} → x ≡ capRun (scan (drop k t) r) → q ≡ capRun (scan (drop k t) r) → q ≡ x
+rest-same t k r x e p = p ∙ sym e
+
+module _ (r q : Run) where
+  pub rest-more : (n : ℕ) → n ≤ r .count → r .count ≤ q .count → n ≤ q .count
+  rest-more n a b = omega arith
+
+  pub rest-left : (m n : ℕ) → r .count + m ≤ n → q .count ≤ r .count + m → q .count ≤ n
+  rest-left m n a b = omega arith
 
 module _ (r : Run) (c : ℕ) {q : Run} (e : q ≡ capRun (more r c)) where
   pub next-small : Small r → Small q
@@ -116,11 +135,18 @@ pub ruleset powers = (power-size, power-all, at-E, at-D, at-none)
 
 -- ---- the parts put together
 
+module _ (t : List ℕ) (a : ℕ) (r : Run) where
+  pub before-all : a ≡ 0 → r ≡ capRun (scan t start) → r ≡ capRun (scan (drop a t) start)
+  before-all e h = rw e h
+
+  pub before-in : a ≡ 0 → r .count ≤ length t → r .count ≤ length t - a
+  before-in e h = omega arith
+
 module _ (t : List ℕ) (s a : ℕ) (w : Run) (b p : ℕ) (r : Run) (x : Power) {q : Token} where
   pub number-all : s ≡ getD t 0 0 → a ≡ signLen s → w ≡ capRun (scan (drop a t) start) → b ≡ getD t (a + w .count) 0 → p ≡ pointLen b
       → r ≡ capRun (scan (drop (a + w .count + p) t) w) → x ≡ powerAt t (a + r .count + p) → q ≡ finishRun x (eqb s 45) r (r .count - w .count) p (a + r .count + p) → q ≡ numberOf t
   number-all es ea ew eb ep er ex eq = eq ∙ number-parts t s a w p r x es ea ew (ep ∙ ap pointLen eb) er ex
 
-pub ruleset scans = (stop-low, stop-high, stop-end, next-digit, next-small, next-left, next-more)
+pub ruleset scans = (rest-same, rest-more, rest-left, stop-low, stop-high, stop-end, next-digit, next-small, next-left, next-more)
 
-pub ruleset numbered = (number-all, number-in)
+pub ruleset numbered = (before-all, before-in, number-all, number-in)

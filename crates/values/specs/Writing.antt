@@ -1,9 +1,7 @@
 -- How the code goes about a spelling: a string's characters are copied from where they stand, everything else is spelt.
-use mathlib.Core.Bool.{Bool, true, false, cond}
 use mathlib.Core.List.{List, [], _∷_}
 use Prim.Native.Nat.{ℕ, _+_, _≤_}
 use lib.ListN.{take, drop}
-use Rattle.columns.specs.Columns.{sameBytes}
 use Rattle.values.specs.declared.Value.{Value}
 use Rattle.values.specs.declared.Value.the-variants.{Default, Whole, Real, Text}
 use Rattle.values.specs.declared.Strict.{Strict}
@@ -35,7 +33,3 @@ Inside n (Text start count) = start + count ≤ n
 abbrev pub Placed : ℕ → Strict → Type 0
 Placed n (Is v) = Inside n v
 Placed n Not = Unit {0}
-
--- v, if its front is all of l
-abbrev pub ifFront : List ℕ → Value → Strict
-ifFront l v = cond (sameBytes (front v) l) (Is v) Not

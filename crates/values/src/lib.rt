@@ -82,3 +82,9 @@ pub struct Run {
     pub zeros: usize,
     pub count: usize,
 }
+
+// A number in plain decimal, and where it ends.
+pub struct Decimal {
+    pub value: u64,
+    pub end: usize,
+}

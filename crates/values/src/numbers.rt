@@ -6,12 +6,13 @@ use crate::Run;
 use crate::Token;
 use columns::look;
 ghost use mathlib.Core.Path.{_≡_};
-ghost use mathlib.Core.Bool.{Bool, true, false};
+ghost use mathlib.Core.Bool.{Bool, true, false, _&&_};
 ghost use Prim.Native.Nat.{ℕ, _+_, _-_, _*_, _^_, _≤_, _<_, min};
 ghost use lib.ListN.{length, getD, drop};
+ghost use lib.Dec.{leb, eqb};
 ghost use Rattle.values.specs.Number.{signLen, pointLen, powerOf, power, powerAt, wholeOf, normal, numberOf};
 ghost use Rattle.values.specs.Reading.{start, more, scan, capRun, Small, finishRun, Within};
-ghost use Rattle.values.specs.Head.{headFrom, headOf};
+ghost use Rattle.values.specs.Head.{headOf};
 
 // How many characters a sign takes.
 fn sign_len(c: u8) -> usize
@@ -50,12 +51,11 @@ fn cap(x: u64) -> u64
     }
 }
 
-// One more digit.
-fn more_of(r: Run, c: u8) -> Run
-    requires { ⌜ (48 ≤ c) × ((c ≤ 57) × ((r .count + 1 < 2 ^ 64) × Small r)) ⌝ }
+// The run r with one more digit, c, by which its digits spell v.
+fn run_of(r: Run, c: u8, v: u64) -> Run
+    requires { ⌜ (r .count + 1 < 2 ^ 64) × (Small r × (v ≡ min (r .value * 10 + (c - 48)) (10 ^ 17))) ⌝ }
     ensures { λ q. ⌜ q ≡ capRun (more r c) ⌝ }
 {
-    let v = cap(r.value * 10 + wide(c - 48));
     if c == 48 {
         Run {
             value: v,
@@ -71,6 +71,44 @@ fn more_of(r: Run, c: u8) -> Run
             count: r.count + 1,
         }
     }
+}
+
+// One more digit.
+fn more_of(r: Run, c: u8) -> Run
+    requires { ⌜ (48 ≤ c) × ((c ≤ 57) × ((r .count + 1 < 2 ^ 64) × Small r)) ⌝ }
+    ensures { λ q. ⌜ q ≡ capRun (more r c) ⌝ }
+{
+    run_of(r, c, cap(r.value * 10 + (wide(c) - 48)))
+}
+
+// One more digit, where there is no need of the cap.
+fn few_of(r: Run, c: u8) -> Run
+    requires { ⌜ (48 ≤ c) × ((c ≤ 57) × ((r .count + 1 < 2 ^ 64) × (Small r × (r .value < 10 ^ 16)))) ⌝ }
+    ensures { λ q. ⌜ q ≡ capRun (more r c) ⌝ }
+{
+    run_of(r, c, r.value * 10 + (wide(c) - 48))
+}
+
+// The digits from i on, after those of r, which may be many.
+fn many_at(t: &[u8], i: usize, r: Run) -> Run
+    requires { ⌜ (r .count + (length (now t) - i) < 2 ^ 64) × Small r ⌝ }
+    ensures { λ q. ⌜ q ≡ capRun (scan (drop i (now (t .entry))) r) ⌝ }
+    ensures { λ q. ⌜ (r .count ≤ q .count) × (q .count ≤ r .count + (length (now (t .entry)) - i)) × Small q ⌝ }
+{
+    let mut k = i;
+    let mut q = r;
+    while k < t.len() {
+        let c = t[k];
+        if c < 48 {
+            return q;
+        }
+        if 57 < c {
+            return q;
+        }
+        q = more_of(q, c);
+        k += 1;
+    }
+    q
 }
 
 // The digits from i on, after those of r.
@@ -89,7 +127,10 @@ pub fn scan_at(t: &[u8], i: usize, r: Run) -> Run
         if 57 < c {
             return q;
         }
-        q = more_of(q, c);
+        if 10_000_000_000_000_000 <= q.value {
+            return many_at(t, k, q);
+        }
+        q = few_of(q, c);
         k += 1;
     }
     q
@@ -288,20 +329,33 @@ fn finish_of(x: Power, neg: bool, r: Run, n: usize, p: usize, end: usize) -> Tok
     }
 }
 
-// The number that a text begins with.
-pub fn read(t: &[u8]) -> Token
-    ensures { λ r. ⌜ r ≡ numberOf (now (t .entry)) ⌝ }
-    ensures { λ r. ⌜ r .len ≤ length (now (t .entry)) ⌝ }
+// The digits before a point, behind a sign of a characters; r are those with which the text begins.
+fn before_of(t: &[u8], a: usize, r: Run) -> Run
+    requires { ⌜ (r ≡ capRun (scan (now t) start)) × ((r .count ≤ length (now t)) × Small r) ⌝ }
+    ensures { λ q. ⌜ q ≡ capRun (scan (drop a (now (t .entry))) start) ⌝ }
+    ensures { λ q. ⌜ (q .count ≤ length (now (t .entry)) - a) × Small q ⌝ }
 {
-    let s = look::byte_at(t, 0);
-    let a = sign_len(s);
+    if a == 0 {
+        return r;
+    }
     let z = Run {
         value: 0,
         mant: 0,
         zeros: 0,
         count: 0,
     };
-    let w = scan_at(t, a, z);
+    scan_at(t, a, z)
+}
+
+// The number that a text begins with; z are the digits with which it begins, read already.
+fn read_from(t: &[u8], z: Run) -> Token
+    requires { ⌜ (z ≡ capRun (scan (now t) start)) × ((z .count ≤ length (now t)) × Small z) ⌝ }
+    ensures { λ r. ⌜ r ≡ numberOf (now (t .entry)) ⌝ }
+    ensures { λ r. ⌜ r .len ≤ length (now (t .entry)) ⌝ }
+{
+    let s = look::byte_at(t, 0);
+    let a = sign_len(s);
+    let w = before_of(t, a, z);
     let i = a + w.count;
     let p = point_len(look::byte_at(t, i));
     let r = scan_at(t, i + p, w);
@@ -309,23 +363,32 @@ pub fn read(t: &[u8]) -> Token
     finish_of(power_at(t, end), s == 45, r, r.count - w.count, p, end)
 }
 
-// A string's count, if what was read may be one.
-fn head_from(x: u8, n: usize, v: u64, k: Token) -> Head
-    ensures { λ r. ⌜ r ≡ headFrom x n v k ⌝ }
+// The number that a text begins with.
+pub fn read(t: &[u8]) -> Token
+    ensures { λ r. ⌜ r ≡ numberOf (now (t .entry)) ⌝ }
+    ensures { λ r. ⌜ r .len ≤ length (now (t .entry)) ⌝ }
+{
+    let z = Run {
+        value: 0,
+        mant: 0,
+        zeros: 0,
+        count: 0,
+    };
+    let r = scan_at(t, 0, z);
+    read_from(t, r)
+}
+
+// Whether n digits that spell v, and x behind them, are a string's count.
+fn is_count(x: u8, n: usize, v: u64) -> bool
+    ensures { λ r. ⌜ r ≡ (eqb x 72 && (leb n 3 && leb 1 v)) ⌝ }
 {
     if x != 72 {
-        return Head::Plain(k);
+        return false;
     }
     if 3 < n {
-        return Head::Plain(k);
+        return false;
     }
-    if v < 1 {
-        return Head::Plain(k);
-    }
-    Head::Count {
-        count: v as usize,
-        len: n + 1,
-    }
+    1 <= v
 }
 
 // What the rest of a line begins with.
@@ -341,6 +404,11 @@ pub fn head_of(l: &[u8]) -> Head
     };
     let r = scan_at(l, 0, z);
     let x = look::byte_at(l, r.count);
-    let k = read(l);
-    head_from(x, r.count, r.value, k)
+    if is_count(x, r.count, r.value) {
+        return Head::Count {
+            count: r.value as usize,
+            len: r.count + 1,
+        };
+    }
+    Head::Plain(read_from(l, r))
 }

@@ -124,10 +124,71 @@ pub fn put_front(out: &mut [u8], at: usize, v: Value) -> usize
     }
 }
 
-// How long that is: written where there is no room for it, it is measured.
+// How many digits n has, which is below ten thousand.
+fn few_digits(n: u64) -> usize
+    requires { ⌜ n < 10000 ⌝ }
+    ensures { λ r. ⌜ r ≡ length (dec n) ⌝ }
+{
+    if n < 10 {
+        return 1;
+    }
+    if n < 100 {
+        return 2;
+    }
+    if n < 1_000 {
+        return 3;
+    }
+    4
+}
+
+// How many digits n has: four by four.
+fn digits_of(n: u64) -> usize
+    ensures { λ r. ⌜ (r ≡ length (dec n)) × (r ≤ 20) ⌝ }
+{
+    let mut m = n;
+    let mut k = 0;
+    while 10_000 <= m {
+        m = m / 10_000;
+        k += 4;
+    }
+    k + few_digits(m)
+}
+
+// How long a sign is.
+fn sign_len(neg: bool) -> usize
+    ensures { λ r. ⌜ (r ≡ length (minus neg)) × (r ≤ 1) ⌝ }
+{
+    if neg { 1 } else { 0 }
+}
+
+// How long the exponent is, where the spelling has one.
+fn exponent_len(eneg: bool, e: u32, double: bool) -> usize
+    ensures { λ r. ⌜ (r ≡ length (exponent eneg e double)) × (r ≤ 22) ⌝ }
+{
+    let s = sign_len(eneg);
+    if double {
+        return 1 + s + digits_of(wide(e));
+    }
+    if e == 0 {
+        return 0;
+    }
+    1 + s + digits_of(wide(e))
+}
+
+// How long that is.
 pub fn front_len(v: Value) -> usize
     ensures { λ r. ⌜ (r ≡ length (front v)) × (r ≤ 44) ⌝ }
 {
-    let mut none = [0u8; 1];
-    put_front(&mut none, 0, v)
+    match v {
+        Value::Default => 0,
+        Value::Whole { neg, size } => sign_len(neg) + digits_of(wide(size)),
+        Value::Real {
+            neg,
+            m,
+            eneg,
+            e,
+            double,
+        } => sign_len(neg) + digits_of(m) + 1 + exponent_len(eneg, e, double),
+        Value::Text { start: _, count } => digits_of(count as u64) + 1,
+    }
 }

@@ -1,4 +1,4 @@
--- `values::back::strict`: by what the text begins with; nothing is a default.
+-- `values::back::strict`: by what stands behind the digits; reading straight is strict reading.
 use borrow.Author.Needs.{needs}
 use Rattle.values.proofs.Backs.{backs}
 use Rattle.values.proofs.back.strict.Statement.{statement}
@@ -9,9 +9,16 @@ strict-spec =
     tie.close
     (tie.spec
     (λ c. search (needs, backs))
+    (λ c. search (needs, backs))
+    (λ c κs. search (needs, backs))
     (λ c κs. search (needs, backs))
     (λ c. search (needs, backs))
     (λ c κs. search (needs, backs))
+    (λ c. search (needs, backs))
+    (λ c. search (needs, backs))
+    (λ c. search (needs, backs))
+    (λ c κs. search (needs, backs))
+    (λ c. search (needs, backs))
     (λ c. search (needs, backs))
     (λ c κs. search (needs, backs))
     (λ c. search (needs, backs))

@@ -1,4 +1,4 @@
--- `values::numbers::head_of`: the digits that a line begins with tell a count; a count is too short for the cap to be felt.
+-- `values::numbers::head_of`: the digits that a line begins with tell a count; a count is too short for the cap to be felt. Else they are the start of its number.
 use borrow.Author.Needs.{needs}
 use Rattle.values.proofs.Heads.{heads}
 use Rattle.values.proofs.numbers.head_of.Statement.{statement}
@@ -11,5 +11,7 @@ head-of-spec =
     (λ c κs. search (needs, heads))
     (λ c κs. search (needs, heads))
     (λ c κs. search (needs, heads))
+    (λ c. search (needs, heads))
+    (λ c. search (needs, heads))
     (λ c κs. search (needs, heads))
     (λ c. search (needs, heads)))

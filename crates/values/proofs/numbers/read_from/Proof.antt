@@ -1,12 +1,12 @@
--- `values::numbers::read`: sign, digits, point, digits and exponent are read where the definition looks for them.
+-- `values::numbers::read_from`: digits, point, digits and exponent are read where the definition looks for them.
 use native.Mathlib.Omega.{arith}
 use borrow.Author.Needs.{needs}
 use Rattle.values.proofs.Steps.{numbered}
-use Rattle.values.proofs.numbers.read.Statement.{statement}
-use Rattle.values.proofs.numbers.read.Tie as tie
+use Rattle.values.proofs.numbers.read_from.Statement.{statement}
+use Rattle.values.proofs.numbers.read_from.Tie as tie
 
-pub read-spec : {M : Type 1} → statement M
-read-spec =
+pub read-from-spec : {M : Type 1} → statement M
+read-from-spec =
     tie.close
     (tie.spec
     (λ c κs. search (needs, numbered))
@@ -21,5 +21,5 @@ read-spec =
     (λ c. search (needs, numbered))
     (λ c κs. search (needs, numbered))
     (λ c. search (needs, numbered))
-    (λ c κs. omega (arith, c .before .before .before .before .scan-at2 .ensures .1, c .before .before .before .before .before .before .before .before .scan-at .ensures .1, c .before .before .before .before .before .before .before .before .before .before .before .before))
+    (λ c κs. omega (arith, c .before .before .before .before .scan-at .ensures .1, c .before .before .before .before .before .before .before .before .before-of .ensures .1, c .before .before .before .before .before .before .before .before .before .before .before .before))
     (λ c. search (needs, numbered)))

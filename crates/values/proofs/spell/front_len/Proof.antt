@@ -1,0 +1,30 @@
+-- `values::spell::front_len`: by what the value is, part by part.
+use borrow.Author.Needs.{needs}
+use Rattle.values.proofs.Lengths.{lengths}
+use Rattle.values.proofs.spell.front_len.Statement.{statement}
+use Rattle.values.proofs.spell.front_len.Tie as tie
+
+pub front-len-spec : {M : Type 1} → statement M
+front-len-spec =
+    tie.close
+    (tie.spec
+    (λ c. search (needs, lengths))
+    (λ c. search (needs, lengths))
+    (λ c κs. search (needs, lengths))
+    (λ c κs. search (needs, lengths))
+    (λ c κs. search (needs, lengths))
+    (λ c. search (needs, lengths))
+    (λ c. search (needs, lengths))
+    (λ c κs. search (needs, lengths))
+    (λ c κs. search (needs, lengths))
+    (λ c. search (needs, lengths))
+    (λ c. search (needs, lengths))
+    (λ c κs. search (needs, lengths))
+    (λ c. search (needs, lengths))
+    (λ c. search (needs, lengths))
+    (λ c κs. search (needs, lengths))
+    (λ c. search (needs, lengths))
+    (λ c. search (needs, lengths))
+    (λ c. search (needs, lengths))
+    (λ c. search (needs, lengths))
+    (λ c. search (needs, lengths)))
