@@ -8,7 +8,7 @@ use Rattle.layouts.specs.declared.Then.the-variants.{Next}
 use Rattle.layouts.specs.declared.Place.{Place}
 use Rattle.layouts.specs.declared.State.{State}
 use Rattle.layouts.specs.Layout.{placeAt}
-use Rattle.layouts.specs.Machine.{times, follow, enter, beyond, ifEmpty, stand, settle, onward, refers, kindAt}
+use Rattle.layouts.specs.Machine.{times, follow, enter, beyond, ifEmpty, stand, settle, onward}
 
 pub follow-next : (x : Then) (s : State) → stand s (s .at + 1) 0 ≡ follow x s
 follow-next Next s = refl
@@ -36,8 +36,3 @@ unfolding onward
 onward-next s t r h e q = simp (le-ltb 1 (s .left) h) (q ∙ ap settle e)
 
 pub ruleset moves = (follow-next, enter-is, beyond-is, settle-past, settle-here, onward-same, onward-next)
-
-pub refers-is : (s : State) (p : Place) (b : Bool) → p ≡ placeAt (s .at) → b ≡ refers (p .kind) → b ≡ refers (kindAt s)
-refers-is s p b ep eb = eb ∙ ap (λ (q : Place). refers (q .kind)) ep
-
-pub ruleset told = refers-is

@@ -1,15 +1,17 @@
 -- How the code has the table: each of the places that rows are made of has a letter.
 use mathlib.Core.List.{List, [], _∷_}
-use mathlib.Core.Bool.{cond}
-use Prim.Native.Nat.{ℕ}
+use mathlib.Core.Bool.{Bool, false, cond}
+use Prim.Native.Nat.{ℕ, _-_}
 use Prim.Native.Char.{Char, code}
 use Prim.Native.String.{String, [] as []ˢ, _∷_ as _∷ˢ_}
-use lib.Dec.{eqb}
+use lib.Dec.{eqb, ltb}
+use lib.ListN.{getD}
 use Rattle.layouts.specs.declared.Kind.the-variants.{R, Given, Weight, S, I, Flag, Count, Outer, Upper1, Upper2, Degree1, Degree2, P, Q, Bound, Rest}
 use Rattle.layouts.specs.declared.Times.the-variants.{Fixed, N, Knots1, Knots2, C, ThreeC}
 use Rattle.layouts.specs.declared.Place.{Place}
 use Rattle.references.specs.References.{entry308, entry142}
 use Rattle.layouts.specs.Layout.{_of_, any, mostInteger}
+use Rattle.layouts.specs.Known.{bit}
 
 -- a letter and its place
 pub record Shape : Type 0 where
@@ -70,3 +72,11 @@ bytes (c ∷ˢ s) = code c ∷ bytes s
 -- the code's table: row after row
 unfoldable pub codes : List ℕ
 codes = bytes "7NqNq.NqNqNq.6NqNq.3pNqNq.tNqNq.KMfkwcg3NqNq.KLMOFklwcGNqNq.iQPiNqNq.QoNbuNqNq.dsNqNqNq.3sNqNq.NqNqNq.1sNqNq.I4NqNq."
+
+-- the letter at i; past the table that of the rest
+unfoldable pub letterAt : ℕ → ℕ
+letterAt i = getD codes i (code ".")
+
+-- what two words tell of the place at i, by a bit for each place
+unfoldable pub told : ℕ → ℕ → ℕ → Bool
+told low high i = cond (ltb i 64) (bit i low) (cond (ltb i 128) (bit (i - 64) high) false)

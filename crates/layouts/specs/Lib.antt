@@ -1,8 +1,8 @@
 pub mod Named
 pub mod Layout
+pub mod Known
 pub mod Coded
 pub mod Machine
-pub mod Known
 pub mod Entities
 pub mod Stepping
 pub mod Larger

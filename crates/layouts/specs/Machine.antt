@@ -196,6 +196,25 @@ refers (Q want) = true
 refers (Bound want) = true
 refers Rest = false
 
+-- a place that takes reals as they come
+abbrev pub reals : Kind → Bool
+reals R = true
+reals Given = true
+reals Weight = false
+reals S = false
+reals (I low high) = false
+reals Flag = false
+reals Count = false
+reals Outer = false
+reals Upper1 = false
+reals Upper2 = false
+reals Degree1 = false
+reals Degree2 = false
+reals (P want) = false
+reals (Q want) = false
+reals (Bound want) = false
+reals Rest = false
+
 -- the kind of the place where it stands
 abbrev pub kindAt : State → Kind
 kindAt s = placeAt (s .at) .kind
@@ -212,6 +231,10 @@ start typ form = enter (stand fresh (startOf (bitOf typ form)) 0)
 -- one value more
 unfoldable pub step : State → Value → ℕ → Stepped
 step s v class = moved (rests (kindAt s)) (takes (kindAt s) s v class)
+
+-- a real stands where more of its kind follow
+unfoldable pub runsOn : State → Value → Bool
+runsOn s v = ltb 1 (s .left) && (reals (kindAt s) && real v)
 
 -- ---- the end: what is missing is a default
 

@@ -1,8 +1,9 @@
 // From place to place: a start, a step for each value, a verdict at the end.
 ghost use mathlib.Core.Path.{_≡_};
 ghost use Prim.Native.Nat.{_+_, _≤_, _<_};
-ghost use Rattle.layouts.specs.Layout.{startOf};
-ghost use Rattle.layouts.specs.Machine.{times, follow, enter, beyond, settle, onward, step, closed, end, start, refers, kindAt};
+ghost use Rattle.layouts.specs.Layout.{placeAt, startOf};
+ghost use Rattle.layouts.specs.Machine.{times, follow, enter, beyond, settle, onward, step, closed, end, start, reals, refers, kindAt, stand, runsOn};
+ghost use Rattle.layouts.specs.Coded.{told};
 use crate::State;
 use crate::Stepped;
 use crate::Then;
@@ -11,9 +12,9 @@ use crate::Verdict;
 use crate::list::ROWS;
 use crate::list::bit_of;
 use crate::places::look;
-use crate::places::refers_in;
 use crate::places::rests_in;
 use crate::take::takes_in;
+use crate::told::real_in;
 use references::NO_ENTRY;
 use values::Value;
 
@@ -92,8 +93,23 @@ fn onward_of(s: State) -> State
     }
 }
 
-// One value more.
-pub fn step(s: State, v: Value, class: u8) -> Stepped
+// The state with so many left, made field by field: so its fields are kept apart, and a step needs no copy of the whole.
+fn with_left(s: State, left: u64) -> State
+    ensures { λ r. ⌜ r ≡ stand s (s .at) left ⌝ }
+{
+    State {
+        at: s.at,
+        left,
+        k1: s.k1,
+        k2: s.k2,
+        m1: s.m1,
+        m2: s.m2,
+        bad: s.bad,
+    }
+}
+
+// One value more, at a place of any kind.
+fn step_from(s: State, v: Value, class: u8) -> Stepped
     ensures { λ r. ⌜ r ≡ step s v class ⌝ }
 {
     let p = look(s.at);
@@ -107,6 +123,69 @@ pub fn step(s: State, v: Value, class: u8) -> Stepped
                 Stepped::Go(onward_of(t))
             }
         }
+    }
+}
+
+// The same, with the fields of the state kept apart.
+fn step_any(s: State, v: Value, class: u8) -> Stepped
+    ensures { λ r. ⌜ r ≡ step s v class ⌝ }
+{
+    let t = with_left(s, s.left);
+    step_from(t, v, class)
+}
+
+// What is told of the places by a bit for each: those below 64, and the others.
+const REALS_LOW: u64 = 30400293984804865;
+
+const REALS_HIGH: u64 = 70368760954880;
+
+const REFERENCES_LOW: u64 = 7277827994311363220;
+
+const REFERENCES_HIGH: u64 = 1453645242837802;
+
+fn told_by(low: u64, high: u64, at: usize) -> bool
+    ensures { λ r. ⌜ r ≡ told low high at ⌝ }
+{
+    if at < 64 {
+        (low >> at) % 2 == 1
+    } else if at < 128 {
+        (high >> (at - 64)) % 2 == 1
+    } else {
+        false
+    }
+}
+
+// Whether a place takes reals as they come: R and Given.
+fn reals_at(at: usize) -> bool
+    ensures { λ r. ⌜ r ≡ reals (placeAt at .kind) ⌝ }
+{
+    told_by(REALS_LOW, REALS_HIGH, at)
+}
+
+// Whether a real stands where more of its kind follow: most values do.
+fn runs_on(s: State, v: Value) -> bool
+    ensures { λ r. ⌜ r ≡ runsOn s v ⌝ }
+{
+    if s.left <= 1 {
+        return false;
+    }
+    if reals_at(s.at) {
+        return real_in(v);
+    }
+    false
+}
+
+// One value more. The commonest case comes first, and is small enough to stand where the step is called.
+pub fn step(s: State, v: Value, class: u8) -> Stepped
+    ensures { λ r. ⌜ r ≡ step s v class ⌝ }
+{
+    if runs_on(s, v) {
+        return Stepped::Go(with_left(s, s.left - 1));
+    }
+    let t = with_left(s, s.left);
+    match step_any(t, v, class) {
+        Stepped::Bad => Stepped::Bad,
+        Stepped::Go(u) => Stepped::Go(with_left(u, u.left)),
     }
 }
 
@@ -131,13 +210,15 @@ pub fn end(s: State) -> Verdict
         n -= 1;
         let p = look(t.at);
         let k = p.kind;
-        let Stepped::Go(u) = takes_in(k, t, Value::Default, NO_ENTRY) else {
+        if rests_in(k) {
+            return closed_of(t.bad);
+        }
+        // A default passes the whole place, however many of it were left.
+        let last = with_left(t, 1);
+        let Stepped::Go(u) = step_any(last, Value::Default, NO_ENTRY) else {
             return Verdict::Layout;
         };
-        if rests_in(k) {
-            return closed_of(u.bad);
-        }
-        t = settle_of(beyond_of(u));
+        t = u;
     }
     Verdict::Layout
 }
@@ -179,7 +260,5 @@ pub fn start(typ: u32, form: u32) -> State
 pub fn is_reference(s: State) -> bool
     ensures { λ r. ⌜ r ≡ refers (kindAt s) ⌝ }
 {
-    let p = look(s.at);
-    let k = p.kind;
-    refers_in(k)
+    told_by(REFERENCES_LOW, REFERENCES_HIGH, s.at)
 }

@@ -1,7 +1,7 @@
 // The table of places.
 ghost use mathlib.Core.Path.{_≡_};
 ghost use Rattle.layouts.specs.Layout.{_of_, placeAt};
-ghost use Rattle.layouts.specs.Coded.{shapeOf};
+ghost use Rattle.layouts.specs.Coded.{shapeOf, letterAt};
 ghost use Rattle.layouts.specs.Machine.{rests, refers};
 use crate::Kind;
 use crate::Place;
@@ -12,9 +12,6 @@ use references::ENTRY_308;
 
 // A reference that asks its target for no type.
 const ANY: u8 = references::ANY;
-
-// How many places the rows have.
-const PLACES: usize = 116;
 
 fn of(kind: Kind, times: Times) -> Place
     ensures { λ r. ⌜ r ≡ times of kind ⌝ }
@@ -71,17 +68,54 @@ fn shape(k: u8) -> Place
     }
 }
 
-// The table of places: the rows of the type list, each with the two groups that may follow a layout.
+// The table of places: the rows of the type list, each with the two groups that may follow a layout. Row after row it reads
+// 7NqNq. NqNqNq. 6NqNq. 3pNqNq. tNqNq. KMfkwcg3NqNq. KLMOFklwcGNqNq. iQPiNqNq. QoNbuNqNq. dsNqNqNq. 3sNqNq. NqNqNq. 1sNqNq. I4NqNq.
+// Here it stands letter by letter, since so it is looked up at once.
+fn letter_at(at: usize) -> u8
+    ensures { λ r. ⌜ r ≡ letterAt at ⌝ }
+{
+    match at {
+        19 | 39 | 88 => b'3',
+        110 => b'4',
+        13 => b'6',
+        0 => b'7',
+        26 => b't',
+        80 | 89 | 103 => b's',
+        60 | 63 => b'i',
+        102 => b'1',
+        79 => b'd',
+        1 | 3 | 6 | 8 | 10 | 14 | 16 | 21 | 23 | 27 | 29 | 40 | 42 | 55 | 57 | 64 => b'N',
+        66 | 71 | 74 | 76 | 81 | 83 | 85 | 90 | 92 | 95 | 97 | 99 | 104 | 106 | 111 | 113 => b'N',
+        70 => b'o',
+        32 | 45 => b'K',
+        46 => b'L',
+        33 | 47 => b'M',
+        48 => b'O',
+        34 => b'f',
+        49 => b'F',
+        35 | 50 => b'k',
+        51 => b'l',
+        36 | 52 => b'w',
+        37 | 53 => b'c',
+        38 => b'g',
+        54 => b'G',
+        20 => b'p',
+        62 => b'P',
+        61 | 69 => b'Q',
+        2 | 4 | 7 | 9 | 11 | 15 | 17 | 22 | 24 | 28 | 30 | 41 | 43 | 56 | 58 | 65 => b'q',
+        67 | 75 | 77 | 82 | 84 | 86 | 91 | 93 | 96 | 98 | 100 | 105 | 107 | 112 | 114 => b'q',
+        72 => b'b',
+        73 => b'u',
+        109 => b'I',
+        _ => b'.',
+    }
+}
+
+// The place at `at`; past the table all is rest.
 pub fn look(at: usize) -> Place
     ensures { λ r. ⌜ r ≡ placeAt at ⌝ }
 {
-    let t =
-        b"7NqNq.NqNqNq.6NqNq.3pNqNq.tNqNq.KMfkwcg3NqNq.KLMOFklwcGNqNq.iQPiNqNq.QoNbuNqNq.dsNqNqNq.3sNqNq.NqNqNq.1sNqNq.I4NqNq.";
-    if at < PLACES {
-        shape(t[at])
-    } else {
-        shape(b'.')
-    }
+    shape(letter_at(at))
 }
 
 // Nothing but defaults follows.

@@ -1,6 +1,6 @@
--- The kind of the place that is looked up says it.
+-- The bits are right for each place.
 use borrow.Author.Needs.{needs}
-use Rattle.layouts.proofs.Moves.{told}
+use Rattle.layouts.proofs.Tables.{references-are}
 use Rattle.layouts.proofs.machine.is_reference.Statement.{statement}
 use Rattle.layouts.proofs.machine.is_reference.Tie as tie
 
@@ -8,6 +8,5 @@ pub is-reference-spec : {M : Type 1} → statement M
 is-reference-spec =
     tie.close
     (tie.spec
-    (λ c κs. search (needs, told))
-    (λ c κs. search (needs, told))
-    (λ c. search (needs, told)))
+    (λ c κs. search needs)
+    (λ c. search (needs, references-are)))

@@ -1,6 +1,6 @@
--- What the place makes of the value, and then onward, but from the rest; past the table all is rest, so the place has room to move.
+-- Where a run goes on there is one less of it; else the step is that of the same state.
 use borrow.Author.Needs.{needs}
-use Rattle.layouts.proofs.Steps.{steps}
+use Rattle.layouts.proofs.Steps.{one-step}
 use Rattle.layouts.proofs.machine.step.Statement.{statement}
 use Rattle.layouts.proofs.machine.step.Tie as tie
 
@@ -8,12 +8,14 @@ pub step-spec : {M : Type 1} → statement M
 step-spec =
     tie.close
     (tie.spec
-    (λ c κs. search (needs, steps))
-    (λ c κs. search (needs, steps))
-    (λ c. search (needs, steps))
-    (λ c. search (needs, steps))
-    (λ c κs. search (needs, steps))
-    (λ c κs. search (needs, steps))
-    (λ c. search (needs, steps))
-    (λ c. search (needs, steps))
-    (λ c. search (needs, steps)))
+    (λ c κs. search (needs, one-step))
+    (λ c. search (needs, one-step))
+    (λ c κs. search (needs, one-step))
+    (λ c. search (needs, one-step))
+    (λ c κs. search (needs, one-step))
+    (λ c κs. search (needs, one-step))
+    (λ c. search (needs, one-step))
+    (λ c. search (needs, one-step))
+    (λ c κs. search (needs, one-step))
+    (λ c. search (needs, one-step))
+    (λ c. search (needs, one-step)))
