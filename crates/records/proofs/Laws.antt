@@ -1,19 +1,20 @@
 -- What the functions that read go by, one law for each need. Assumes nothing.
 use mathlib.Core.Path.{_≡_, refl, sym, ap, _∙_}
 use mathlib.Core.Bool.{Bool, true, false, cond}
-use mathlib.Core.List.{List}
+use mathlib.Core.List.{List, []}
 use Prim.Native.Nat.{ℕ, suc, _+_, _-_, _*_, _/_, _%_, _^_, _≤_, _<_}
-use native.Mathlib.Nat.{sub-self}
+use native.Mathlib.Nat.{add-zero}
 use native.Mathlib.Numerals.{add-one}
 use native.Mathlib.Omega.{arith}
 use lib.ListN.{length, getD, drop, take, length-take, drop-of-length-le}
 use lib.Seq.{drop-cons, take-nil}
-use lib.Dec.{eqb}
-use borrow.Author.Tests.{eq-eqb, ne-eqb, le-leb, lt-leb}
+use lib.Dec.{leb, eqb}
+use borrow.Author.Tests.{eq-eqb, ne-eqb, le-leb, lt-leb, leb-true, leb-false}
 use Rattle.values.specs.declared.Token.{Token}
 use Rattle.values.specs.declared.Number.{Number}
 use Rattle.values.specs.declared.Number.the-variants.{Whole as WholeOf, Real as RealOf, Beyond, Bad}
 use Rattle.values.specs.Head.{headOf}
+use Rattle.values.specs.Number.{numberOf}
 use Rattle.values.specs.Reading.{Within}
 use Rattle.values.proofs.Heads.{count-few, count-in, plain-in}
 use Rattle.columns.specs.declared.Fault.the-variants.{Spelling, Limit}
@@ -39,29 +40,27 @@ module _ {file : List ℕ} {base w lines : ℕ} (st : Stands file base w lines) 
     pub turn-fits : p + 1 < 2 ^ 64
     turn-fits = omega (arith, small file base w lines st)
 
-    pub line-fits : p / w * 81 < 2 ^ 64
-    line-fits = omega (arith, index file base w lines st p h)
-
-    pub start-fits : base + p / w * 81 < 2 ^ 64
-    start-fits = omega (arith, index file base w lines st p h)
-
     pub index-fits : base + p / w * 81 + p % w < 2 ^ 64
     index-fits = omega (arith, index file base w lines st p h)
 
-    pub index-in : base + p / w * 81 + p % w < length file
-    index-in = omega (arith, index file base w lines st p h, column file base w lines st p h)
+    module _ {i : ℕ} (e : i ≡ base + p / w * 81 + p % w) where
+      pub index-in : i < length file
+      index-in = omega (arith, index file base w lines st p h, column file base w lines st p h)
 
-    pub column-in : p % w ≤ w
-    column-in = omega (arith, column file base w lines st p h)
+      pub char-in : getD file i 0 ≡ getD (textOf file base w lines) p 0
+      char-in = ap (λ (n : ℕ). getD file n 0) e ∙ sym (char-of file base w lines st p h)
 
-    pub end-fits : base + p / w * 81 + p % w + (w - p % w) < 2 ^ 64
-    end-fits = omega (arith, index file base w lines st p h)
+    -- the rest of its line
+    module _ {j : ℕ} (ej : j ≡ p % w) where
+      pub column-in : j ≤ w
+      column-in = omega (arith, column file base w lines st p h)
 
-    pub end-in : base + p / w * 81 + p % w + (w - p % w) ≤ length file
-    end-in = index file base w lines st p h
+      module _ {a : ℕ} (ea : a ≡ base + p / w * 81 + p % w) where
+        pub end-fits : a + (w - j) < 2 ^ 64
+        end-fits = omega (arith, index file base w lines st p h)
 
-    pub char-in : getD file (base + p / w * 81 + p % w) 0 ≡ getD (textOf file base w lines) p 0
-    char-in = sym (char-of file base w lines st p h)
+        pub end-in : a + (w - j) ≤ length file
+        end-in = omega (arith, index file base w lines st p h)
 
   pub char-out : {p : ℕ} → lines * w ≤ p → 0 ≡ getD (textOf file base w lines) p 0
   char-out {p} h = sym (char-end file base w lines st p h)
@@ -89,6 +88,28 @@ module _ {file : List ℕ} {base w lines : ℕ} (st : Stands file base w lines) 
         let z : blanks (drop q t) ≡ 0 = rw (drop-of-length-le t k) in
         omega arith
 
+  -- what stands at p is no blank, or it is one and p stands in the text
+  module _ {x : ℕ} (p : ℕ) (g : x ≡ getD (textOf file base w lines) p 0) where
+    ink-none : (x ≡ 32 → ⊥) → p ≡ p + blanks (drop p (textOf file base w lines))
+    ink-none n = pick (leb (lines * w) p) refl
+      where
+        pick : (b : Bool) → leb (lines * w) p ≡ b → p ≡ p + blanks (drop p (textOf file base w lines))
+        pick true e = skip-end p (p + blanks (drop p (textOf file base w lines))) refl (leb-true (lines * w) p e)
+        pick false e = skip-ink p (p + blanks (drop p (textOf file base w lines))) refl g n (leb-false (lines * w) p e)
+
+    blank-in : x ≡ 32 → p < lines * w
+    blank-in n = pick (leb (lines * w) p) refl
+      where
+        pick : (b : Bool) → leb (lines * w) p ≡ b → p < lines * w
+        pick true e = absurd (omega (arith, g, n, char-end file base w lines st p (leb-true (lines * w) p e)))
+        pick false e = leb-false (lines * w) p e
+
+    pub blank-fits : x ≡ 32 → p + 1 < 2 ^ 64
+    blank-fits n = turn-fits (blank-in n)
+
+    pub blank-turn : x ≡ 32 → p + 1 ≤ lines * w
+    blank-turn n = omega (arith, blank-in n)
+
 -- ---- marks
 
 module _ (c d x q : ℕ) where
@@ -109,9 +130,20 @@ module _ (c d x q : ℕ) where
       pick false true = refl
       pick false false = refl
 
-pub next-parts : (c d x q : ℕ) (t : List ℕ) (p : ℕ) {n : Next} → n ≡ mark c d x q → x ≡ getD t q 0 → q ≡ p + blanks (drop p t) → n ≡ nextAt c d t p
+next-parts : (c d x q : ℕ) (t : List ℕ) (p : ℕ) {n : Next} → n ≡ mark c d x q → x ≡ getD t q 0 → q ≡ p + blanks (drop p t) → n ≡ nextAt c d t p
 unfolding nextAt
 next-parts c d x q t p en ex eq = rw (en, ex, eq)
+
+-- at p itself, or behind the blank there
+module _ {file : List ℕ} {base w lines : ℕ} (st : Stands file base w lines) (c d : ℕ) {x : ℕ} (p : ℕ) (g : x ≡ getD (textOf file base w lines) p 0) where
+  pub next-here : {n : Next} → (x ≡ 32 → ⊥) → n ≡ mark c d x p → n ≡ nextAt c d (textOf file base w lines) p
+  next-here k en = next-parts c d x p (textOf file base w lines) p en g (ink-none st p g k)
+
+  pub next-on : {n : Next} {y q : ℕ} → x ≡ 32 → q ≡ p + 1 + blanks (drop (p + 1) (textOf file base w lines)) → y ≡ getD (textOf file base w lines) q 0 → n ≡ mark c d y q
+      → n ≡ nextAt c d (textOf file base w lines) p
+  next-on {y = y} {q = q} k eq ey en =
+      let t = textOf file base w lines in
+      next-parts c d y q t p en ey (eq ∙ sym (skip-blank st p (p + blanks (drop p t)) refl g k (blank-in st p g k)))
 
 pub next-place : (c d x q : ℕ) {m : ℕ} {n : Next} → n ≡ mark c d x q → q ≤ m → place n ≤ m
 next-place c d x q en h = rw (en, place-mark c d x q) h
@@ -151,31 +183,45 @@ plain-bad s end n e = rw e
 -- ---- heads
 
 -- the rest of p's line, as a part of the file
-module _ {file : List ℕ} {base w lines : ℕ} (st : Stands file base w lines) (p : ℕ) (h : Head) where
-  pub head-here : p < lines * w → h ≡ headOf (take (base + p / w * 81 + p % w + (w - p % w) - (base + p / w * 81 + p % w)) (drop (base + p / w * 81 + p % w) file))
-      → h ≡ headOf (take (w - p % w) (drop p (textOf file base w lines)))
-  head-here l e =
-      let a = base + p / w * 81 + p % w in
-      let n : a + (w - p % w) - a ≡ w - p % w = omega arith in
-      e ∙ ap (λ (k : ℕ). headOf (take k (drop a file))) n ∙ ap headOf (sym (rest-of file base w lines st p l))
+module _ {file : List ℕ} {base w lines : ℕ} (st : Stands file base w lines) {p a j : ℕ} {h : Head} (l : p < lines * w) (ea : a ≡ base + p / w * 81 + p % w) (ej : j ≡ p % w)
+    (e : h ≡ headOf (take (a + (w - j) - a) (drop a file))) where
+  rest-length : a + (w - j) - a ≡ w - p % w
+  rest-length = omega arith
 
-  pub within-here : p < lines * w → h ≡ headOf (take (base + p / w * 81 + p % w + (w - p % w) - (base + p / w * 81 + p % w)) (drop (base + p / w * 81 + p % w) file))
-      → Within (lines * w - p) h
-  within-here l e =
-      let a = base + p / w * 81 + p % w in
+  head-here : h ≡ headOf (take (w - p % w) (drop p (textOf file base w lines)))
+  head-here = e ∙ ap (λ (k : ℕ). headOf (take k (drop a file))) rest-length ∙ ap (λ (i : ℕ). headOf (take (w - p % w) (drop i file))) ea ∙ ap headOf (sym (rest-of file base w lines st p l))
+
+  within-here : Within (lines * w - p) h
+  within-here =
       let n = rest-in file base w lines st p l in
-      let m : length (take (a + (w - p % w) - a) (drop a file)) ≤ lines * w - p = simp length-take (omega arith) in
+      let m : length (take (a + (w - j) - a) (drop a file)) ≤ lines * w - p = simp length-take (omega arith) in
       rw e (within _ (lines * w - p) m)
 
-  pub head-past : lines * w ≤ p → h ≡ headOf (take (base - base) (drop base file)) → h ≡ headOf (take (w - p % w) (drop p (textOf file base w lines)))
-  head-past l e =
-      let k : length (textOf file base w lines) ≤ p = omega (arith, length-text file base w lines st) in
-      e ∙ ap (λ (k : ℕ). headOf (take k (drop base file))) (sub-self base) ∙ sym (ap (λ (y : List ℕ). headOf (take (w - p % w) y)) (drop-of-length-le (textOf file base w lines) k) ∙ ap headOf (take-nil (w - p % w)))
+  module _ {count len : ℕ} (eh : h ≡ Count count len) where
+    pub count-within : Within (lines * w - p) (Count count len)
+    count-within = rw eh at within-here
 
-  pub within-past : h ≡ headOf (take (base - base) (drop base file)) → Within (lines * w - p) h
-  within-past e =
-      let m : length (take (base - base) (drop base file)) ≤ lines * w - p = simp (length-take, sub-self) (omega arith) in
-      rw e (within _ (lines * w - p) m)
+    pub given-count : {r : Got} (c d : ℕ) → r ≡ headed c d (textOf file base w lines) p (Count count len) → r ≡ byNext w c d (textOf file base w lines) (Other p)
+    given-count c d q = q ∙ ap (headed c d (textOf file base w lines) p) (sym eh ∙ head-here)
+
+  module _ {k : Token} (eh : h ≡ Plain k) where
+    pub plain-within : Within (lines * w - p) (Plain k)
+    plain-within = rw eh at within-here
+
+    pub given-plain : {r : Got} (c d : ℕ) → r ≡ headed c d (textOf file base w lines) p (Plain k) → r ≡ byNext w c d (textOf file base w lines) (Other p)
+    given-plain c d q = q ∙ ap (headed c d (textOf file base w lines) p) (sym eh ∙ head-here)
+
+-- past the text's end there is nothing to read
+no-head : headOf [] ≡ Plain (record { number = Bad; len = 0 })
+unfolding headOf numberOf
+no-head = refl
+
+pub given-none : {file : List ℕ} {base w lines : ℕ} → Stands file base w lines → (c d s : ℕ) → lines * w ≤ s → Refused Spelling s s ≡ byNext w c d (textOf file base w lines) (Other s)
+given-none {file} {base} {w} {lines} st c d s l =
+    let t = textOf file base w lines in
+    let k : length t ≤ s = omega (arith, length-text file base w lines st) in
+    let e : headOf (take (w - s % w) (drop s t)) ≡ Plain (record { number = Bad; len = 0 }) = ap (λ (y : List ℕ). headOf (take (w - s % w) y)) (drop-of-length-le t k) ∙ ap headOf (take-nil (w - s % w)) ∙ no-head in
+    ap (Refused Spelling s) (sym (add-zero s)) ∙ ap (headed c d t s) (sym e)
 
 -- ---- put together
 
@@ -206,13 +252,6 @@ sum-in s a m h k = omega arith
 pub plain-parts : (c d s : ℕ) (t : List ℕ) (k : Token) {n : Next} {r : Got} → n ≡ nextAt c d t (s + k .len) → r ≡ plain s (s + k .len) n (k .number) → r ≡ headed c d t s (Plain k)
 plain-parts c d s t k en er = er ∙ rw en
 
-module _ (w c d s : ℕ) (t : List ℕ) {h : Head} {r : Got} (eh : h ≡ headOf (take (w - s % w) (drop s t))) where
-  pub given-count : {count len : ℕ} → h ≡ Count count len → r ≡ headed c d t s (Count count len) → r ≡ byNext w c d t (Other s)
-  given-count e q = q ∙ ap (headed c d t s) (sym e ∙ eh)
-
-  pub given-plain : {k : Token} → h ≡ Plain k → r ≡ headed c d t s (Plain k) → r ≡ byNext w c d t (Other s)
-  given-plain e q = q ∙ ap (headed c d t s) (sym e ∙ eh)
-
 pub other-in : (m : ℕ) {n : Next} {at : ℕ} → n ≡ Other at → place n ≤ m → at ≤ m
 other-in m e h = rw e at h
 
@@ -240,6 +279,6 @@ module _ {file : List ℕ} {base w lines : ℕ} (st : Stands file base w lines) 
     pub sane-given : {at : ℕ} {r : Got} → n ≡ Other at → r ≡ byNext w c d (textOf file base w lines) (Other at) → Sane p (lines * w) r
     sane-given e q = value-sane (value-given w c d p (textOf file base w lines) en e q)
 
-pub ruleset ends-laws = (product-fits, place-small, place-in, sum-fits, end-of-count, count-short, count-long, sum-in, plain-parts, given-count, given-plain, count-few, count-in, plain-in, other-in, value-default, value-given, sane-default, sane-given)
+pub ruleset ends-laws = (product-fits, place-small, place-in, sum-fits, end-of-count, count-short, count-long, sum-in, plain-parts, given-none, given-count, given-plain, count-within, plain-within, index-fits, column-in, end-fits, end-in, count-few, count-in, plain-in, other-in, value-default, value-given, sane-default, sane-given)
 
-pub ruleset laws = (product-fits, column-in, end-fits, end-in, turn-fits, line-fits, start-fits, index-fits, index-in, char-in, char-out, skip-ink, skip-blank, skip-end, mark-part, mark-end, mark-other, next-parts, next-place, found-some, found-none, beyond-some, beyond-none, place-fits, plain-whole, plain-real, plain-beyond, plain-bad, head-here, within-here, head-past, within-past)
+pub ruleset laws = (product-fits, turn-fits, index-fits, index-in, char-in, char-out, skip-ink, skip-blank, skip-end, blank-fits, blank-turn, mark-part, mark-end, mark-other, next-here, next-on, next-place, found-some, found-none, beyond-some, beyond-none, place-fits, plain-whole, plain-real, plain-beyond, plain-bad)

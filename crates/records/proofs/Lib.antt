@@ -6,6 +6,7 @@ pub mod Globals
 pub mod Round
 pub mod Lines
 pub mod Fine
+pub mod Positions
 pub mod Puts
 pub mod Overs
 pub mod Items

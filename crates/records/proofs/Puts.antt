@@ -9,7 +9,7 @@ use native.Mathlib.Omega.{arith}
 use lib.ListN.{length, take, drop, length-take, length-drop, getD, set, replicate, length-append, length-set, length-replicate, replicate-append-replicate}
 use lib.Seq.{take-append-seam, take-suc, take-all, set-out}
 use borrow.Author.Tests.{le-leb, lt-leb}
-use Rattle.columns.specs.Laid.{Wrote, laid-eq}
+use Rattle.columns.specs.Laid.{Wrote, laid, laid-eq}
 use Rattle.columns.proofs.Writes.{wrote-length}
 use Rattle.values.specs.declared.Value.{Value}
 use Rattle.values.specs.declared.Value.the-variants.{Default, Whole, Real, Text}
@@ -20,6 +20,7 @@ use Rattle.records.specs.Reading.{Writable}
 use Rattle.records.specs.Flow.{firm, gap, delimiter, piece, none, flow}
 use Rattle.records.specs.Written.{indexOf, over, Put, Room, copied, pieceEnd}
 use Rattle.records.proofs.Bounds.{text-in, text-few}
+use Rattle.records.proofs.Positions.{on-line}
 
 pub length-over : (base w : ℕ) (o : List ℕ) (p : ℕ) (bs : List ℕ) → length (over base w o p bs) ≡ length o
 unfolding over
@@ -33,17 +34,30 @@ over-over base w o p [] b = rw add-zero
 over-over base w o p (x ∷ a) b = rw (add-suc, ← suc-add) (over-over base w (set o (indexOf base w p) x) (suc p) a b)
 
 module _ {base w : ℕ} where
-  pub put-one : (o : List ℕ) (p b r : ℕ) → r ≡ p + 1 → Put base w o p (b ∷ []) (set o (base + p / w * 81 + p % w) b) r
+  pub put-one : (o : List ℕ) (p b r i : ℕ) → i ≡ base + p / w * 81 + p % w → r ≡ p + 1 → Put base w o p (b ∷ []) (set o i b) r
   unfolding over
-  put-one o p b r e = record { bytes = refl; next = e }
+  put-one o p b r i k e = record { bytes = ap (λ (n : ℕ). set o n b) k; next = e }
 
-  pub put-out : (o : List ℕ) (p b r : ℕ) → r ≡ p + 1 → length o ≤ base + p / w * 81 + p % w → Put base w o p (b ∷ []) o r
+  pub put-out : (o : List ℕ) (p b r i : ℕ) → i ≡ base + p / w * 81 + p % w → r ≡ p + 1 → length o ≤ i → Put base w o p (b ∷ []) o r
   unfolding over
-  put-out o p b r e h = record { bytes = sym (set-out o (indexOf base w p) b h); next = e }
+  put-out o p b r i k e h = record { bytes = sym (set-out o (indexOf base w p) b (omega arith)); next = e }
 
   pub put-none : {o : List ℕ} {p : ℕ} → Put base w o p [] o p
   unfolding over
   put-none {o} {p} = record { bytes = refl; next = sym (add-zero p) }
+
+  -- what is written to the file from a position's place on, on one line
+  pub put-line : {o o′ bs : List ℕ} {at r′ : ℕ} (p j r : ℕ) → at ≡ base + p / w * 81 + p % w → j ≡ p % w → j + length bs ≤ w → r ≡ p + length bs → Wrote o at bs o′ r′ → Put base w o p bs o′ r
+  put-line {o} {bs = bs} p j r ea ej h er x = record { bytes = x .bytes ∙ ap (λ (i : ℕ). laid o i bs) ea ∙ sym (on-line base w o p bs (omega arith)); next = er }
+
+  pub run-line : {o o′ : List ℕ} {at r′ : ℕ} (p j r b count : ℕ) → at ≡ base + p / w * 81 + p % w → j ≡ p % w → j + count ≤ w → r ≡ p + count → Wrote o at (replicate count b) o′ r′
+      → Put base w o p (replicate count b) o′ r
+  run-line p j r b count ea ej h er x =
+      let n = length-replicate count b in
+      put-line p j r ea ej (omega arith) (omega arith) x
+
+  pub run-none : {o : List ℕ} {p : ℕ} (b count : ℕ) → count ≡ 0 → Put base w o p (replicate count b) o p
+  run-none b count e = rw e put-none
 
   pub then : {o o′ o″ a b : List ℕ} {p r r′ : ℕ} → Put base w o p a o′ r → Put base w o′ r b o″ r′ → Put base w o p (a ++ b) o″ r′
   then {o} {o′} {o″} {a} {b} {p} {r} {r′} x y = record {
@@ -104,22 +118,37 @@ module _ (base w p : ℕ) where
   pub index-fits : base ≤ 2 ^ 40 → p ≤ 2 ^ 41 → 1 ≤ w → w ≤ 80 → base + p / w * 81 + p % w < 2 ^ 64
   index-fits k h l m = omega (arith, div-le-self p w, mod-lt p l)
 
-module _ (w p n : ℕ) where
-  pub column-fits : 1 ≤ w → w ≤ 80 → n ≤ 2 ^ 40 → p % w + n < 2 ^ 64
+-- n characters from p on, on one line
+module _ (base w p n : ℕ) (l : 1 ≤ w) (m : w ≤ 80) (h : p + n ≤ 2 ^ 41) where
+  pub row-fits : {j : ℕ} → j ≡ p % w → j + n < 2 ^ 64
+  row-fits e = omega (arith, mod-lt p l)
+
+  pub row-index-fits : base ≤ 2 ^ 40 → base + p / w * 81 + p % w < 2 ^ 64
+  row-index-fits k = omega (arith, index-fits base w p k (omega arith) l m)
+
+  module _ {at : ℕ} (e : at ≡ base + p / w * 81 + p % w) (k : base ≤ 2 ^ 40) where
+    pub row-start : at < 2 ^ 62
+    row-start = omega (arith, div-le-self p w, mod-lt p l)
+
+    pub row-end : at + n < 2 ^ 64
+    row-end = omega (arith, div-le-self p w, mod-lt p l)
+
+module _ (w p n : ℕ) {j : ℕ} (e : j ≡ p % w) where
+  pub column-fits : 1 ≤ w → w ≤ 80 → n ≤ 2 ^ 40 → j + n < 2 ^ 64
   column-fits l m h = omega (arith, mod-lt p l)
 
-  pub column-in : 1 ≤ w → p % w ≤ w
+  pub column-in : 1 ≤ w → j ≤ w
   column-in l = omega (arith, mod-lt p l)
 
-  pub gap-none : p % w + n ≤ w → 0 ≡ gap w p n
+  pub gap-none : j + n ≤ w → 0 ≡ gap w p n
   unfolding gap
-  gap-none h = simp (le-leb (p % w + n) w h)
+  gap-none h = simp (le-leb (p % w + n) w (rw e at h))
 
-  pub gap-some : w < p % w + n → w - p % w ≡ gap w p n
+  pub gap-some : w < j + n → w - j ≡ gap w p n
   unfolding gap
-  gap-some h = simp (lt-leb (p % w + n) w h)
+  gap-some h = rw e (simp (lt-leb (p % w + n) w (rw e at h)))
 
-  pub gap-small : w ≤ 80 → w - p % w ≤ 80
+  pub gap-small : w ≤ 80 → w - j ≤ 80
   gap-small h = omega arith
 
 pub last-true : (last : Bool) → last ≡ true → 59 ≡ delimiter last
@@ -130,7 +159,7 @@ last-false last e = rw e
 
 pub ruleset owing = (owed-all, owed-less, owed-none, owed-piece, put-length)
 
-pub ruleset puts = (put-one, put-out, put-none, then, put-length, put-more, put-all-of, run-more, run-all, line-fits, start-fits, index-fits, column-fits, column-in, gap-none, gap-some, gap-small, last-true, last-false)
+pub ruleset puts = (put-one, put-out, put-line, run-line, run-none, row-fits, row-index-fits, row-start, row-end, put-none, then, put-length, put-more, put-all-of, run-more, run-all, line-fits, start-fits, index-fits, column-fits, column-in, gap-none, gap-some, gap-small, last-true, last-false)
 
 -- ---- a string's characters and the delimiter
 

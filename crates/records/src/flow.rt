@@ -1,5 +1,7 @@
 // The canonical flow: values written into the columns of a file's lines. With an empty buffer nothing is written, and the answer measures.
-use crate::LINE;
+use crate::position::column_of;
+use crate::position::index_of;
+use columns::emit;
 use values::Value;
 use values::spell;
 ghost use mathlib.Core.Path.{_≡_};
@@ -19,15 +21,15 @@ pub fn put_char(out: &mut [u8], base: usize, w: usize, p: usize, b: u8) -> usize
     ensures { λ r. ⌜ r ≡ p + 1 ⌝ }
 {
     let next = p + 1;
-    let i = base + p / w * LINE + p % w;
+    let i = index_of(base, w, p);
     if i < out.len() {
         out[i] = b;
     }
     next
 }
 
-// Writes all of s from position p on.
-pub fn put_all(out: &mut [u8], base: usize, w: usize, p: usize, s: &[u8]) -> usize
+// Writes all of s from position p on, character by character.
+fn put_each(out: &mut [u8], base: usize, w: usize, p: usize, s: &[u8]) -> usize
     requires { ⌜ (base ≤ 2 ^ 40) × (p + length (now s) ≤ 2 ^ 41) × (1 ≤ w) × (w ≤ 80) ⌝ }
     ensures { λ r. ⌜ Put base w (now (out .entry)) p (now (s .entry)) (now (out .exit)) r ⌝ }
     ensures { λ r. ⌜ r ≡ p + length (now (s .entry)) ⌝ }
@@ -41,8 +43,25 @@ pub fn put_all(out: &mut [u8], base: usize, w: usize, p: usize, s: &[u8]) -> usi
     next
 }
 
-// Writes b count times.
-pub fn put_run(out: &mut [u8], base: usize, w: usize, p: usize, b: u8, count: usize) -> usize
+// Writes all of s from position p on: on one line its characters stand side by side.
+pub fn put_all(out: &mut [u8], base: usize, w: usize, p: usize, s: &[u8]) -> usize
+    requires { ⌜ (base ≤ 2 ^ 40) × (p + length (now s) ≤ 2 ^ 41) × (1 ≤ w) × (w ≤ 80) ⌝ }
+    ensures { λ r. ⌜ Put base w (now (out .entry)) p (now (s .entry)) (now (out .exit)) r ⌝ }
+    ensures { λ r. ⌜ r ≡ p + length (now (s .entry)) ⌝ }
+{
+    let n = s.len();
+    let j = column_of(w, p);
+    if w < j + n {
+        return put_each(out, base, w, p, s);
+    }
+    let next = p + n;
+    let at = index_of(base, w, p);
+    emit::put_all(out, at, s);
+    next
+}
+
+// Writes b count times, one by one.
+fn put_times(out: &mut [u8], base: usize, w: usize, p: usize, b: u8, count: usize) -> usize
     requires { ⌜ (base ≤ 2 ^ 40) × (p + count ≤ 2 ^ 41) × (1 ≤ w) × (w ≤ 80) ⌝ }
     ensures { λ r. ⌜ Put base w (now (out .entry)) p (replicate count b) (now (out .exit)) r ⌝ }
     ensures { λ r. ⌜ r ≡ p + count ⌝ }
@@ -56,12 +75,31 @@ pub fn put_run(out: &mut [u8], base: usize, w: usize, p: usize, b: u8, count: us
     next
 }
 
+// Writes b count times: on one line side by side.
+pub fn put_run(out: &mut [u8], base: usize, w: usize, p: usize, b: u8, count: usize) -> usize
+    requires { ⌜ (base ≤ 2 ^ 40) × (p + count ≤ 2 ^ 41) × (1 ≤ w) × (w ≤ 80) ⌝ }
+    ensures { λ r. ⌜ Put base w (now (out .entry)) p (replicate count b) (now (out .exit)) r ⌝ }
+    ensures { λ r. ⌜ r ≡ p + count ⌝ }
+{
+    if count == 0 {
+        return p;
+    }
+    let j = column_of(w, p);
+    if w < j + count {
+        return put_times(out, base, w, p, b, count);
+    }
+    let next = p + count;
+    let at = index_of(base, w, p);
+    emit::put_run(out, at, b, count);
+    next
+}
+
 // The blanks before n characters that have to stand on one line.
 fn gap_of(w: usize, p: usize, n: usize) -> usize
     requires { ⌜ (1 ≤ w) × (w ≤ 80) × (n ≤ 2 ^ 40) ⌝ }
     ensures { λ r. ⌜ (r ≡ gap w p n) × (r ≤ 80) ⌝ }
 {
-    let j = p % w;
+    let j = column_of(w, p);
     if j + n <= w { 0 } else { w - j }
 }
 

@@ -1,8 +1,9 @@
 // The values of a record, read where they stand in the file: the first w columns of so many lines, the first of them at base.
 use crate::Check;
 use crate::Got;
-use crate::LINE;
 use crate::Next;
+use crate::position::column_of;
+use crate::position::index_of;
 use columns::Fault;
 use values::Head;
 use values::Number;
@@ -24,7 +25,8 @@ pub fn char_at(file: &[u8], base: usize, w: usize, lines: usize, p: usize) -> u8
     ensures { λ r. ⌜ r ≡ getD (textOf (now (file .entry)) base w lines) p 0 ⌝ }
 {
     if p < lines * w {
-        file[base + p / w * LINE + p % w]
+        let i = index_of(base, w, p);
+        file[i]
     } else {
         0
     }
@@ -59,28 +61,18 @@ fn mark_of(c: u8, d: u8, x: u8, q: usize) -> Next
     Next::Other { at: q }
 }
 
-// What stands behind the blanks from p on.
+// What stands behind the blanks from p on; mostly there are none.
 fn next_at(file: &[u8], base: usize, w: usize, lines: usize, c: u8, d: u8, p: usize) -> Next
     requires { ⌜ Stands (now file) base w lines × (p ≤ lines * w) ⌝ }
     ensures { λ r. ⌜ (r ≡ nextAt c d (textOf (now (file .entry)) base w lines) p) × (place r ≤ lines * w) ⌝ }
 {
-    let q = behind_blanks(file, base, w, lines, p);
-    let x = char_at(file, base, w, lines, q);
-    mark_of(c, d, x, q)
-}
-
-// The rest of a line is a part of the file.
-fn head_at(file: &[u8], base: usize, w: usize, lines: usize, s: usize) -> Head
-    requires { ⌜ Stands (now file) base w lines × (s ≤ lines * w) ⌝ }
-    ensures { λ r. ⌜ (r ≡ headOf (take (w - s % w) (drop s (textOf (now (file .entry)) base w lines)))) × Within (lines * w - s) r ⌝ }
-{
-    if s < lines * w {
-        let a = base + s / w * LINE + s % w;
-        let e = a + (w - s % w);
-        numbers::head_of(&file[a..e])
-    } else {
-        numbers::head_of(&file[base..base])
+    let x = char_at(file, base, w, lines, p);
+    if x != 32 {
+        return mark_of(c, d, x, p);
     }
+    let q = behind_blanks(file, base, w, lines, p + 1);
+    let y = char_at(file, base, w, lines, q);
+    mark_of(c, d, y, q)
 }
 
 fn found_of(v: Value, s: usize, n: Next) -> Got
@@ -199,12 +191,21 @@ fn count_at(
     found_of(Value::Text { start: at, count }, s, behind)
 }
 
-// The value that starts at s.
+// The value that starts at s: its head stands on one line, and the rest of a line is a part of the file.
 fn given_at(file: &[u8], base: usize, w: usize, lines: usize, c: u8, d: u8, s: usize) -> Got
     requires { ⌜ Stands (now file) base w lines × (s ≤ lines * w) ⌝ }
     ensures { λ r. ⌜ r ≡ byNext w c d (textOf (now (file .entry)) base w lines) (Next.Other s) ⌝ }
 {
-    let h = head_at(file, base, w, lines, s);
+    if lines * w <= s {
+        return Got::Refused {
+            fault: Fault::Spelling,
+            start: s,
+            at: s,
+        };
+    }
+    let a = index_of(base, w, s);
+    let e = a + (w - column_of(w, s));
+    let h = numbers::head_of(&file[a..e]);
     match h {
         Head::Count { count, len } => count_at(file, base, w, lines, c, d, s, count, len),
         Head::Plain(k) => plain_at(file, base, w, lines, c, d, s, k),

@@ -12,3 +12,4 @@ pub mod Walk
 pub mod Sheets
 pub mod Written
 pub mod Bounds
+pub mod Valued

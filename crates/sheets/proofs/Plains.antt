@@ -134,12 +134,18 @@ pub run-on : (c b : ℕ) (bs : List ℕ) → (b ≡ c → ⊥) → run c (b ∷ 
 unfolding run
 run-on c b bs h = simp (run, ne-eqb _ _ h)
 
+end-at : {f : ℕ} (c : ℕ) (s : List ℕ) (end i : ℕ) → i + run c (columns s i end) ≡ f → i < end → end ≤ length s → getD s i 0 ≡ c → i ≡ f
+end-at c s end i inv lt le h = omega (arith, rw (column s i end lt le, run-here c _ _ h) at inv)
+
+on-at : {f : ℕ} (c : ℕ) (s : List ℕ) (end i k : ℕ) → k ≡ i + 1 → i + run c (columns s i end) ≡ f → i < end → end ≤ length s → (getD s i 0 ≡ c → ⊥) → k + run c (columns s k end) ≡ f
+on-at c s end i k e inv lt le h = rw e (omega (arith, rw (column s i end lt le, run-on c _ _ h) at inv))
+
 module _ (f c : ℕ) (s : List ℕ) (i end : ℕ) (inv : i + run c (columns s i end) ≡ f) where
   pub end-here : i < end → end ≤ length s → getD s i 0 ≡ c → i ≡ f
-  end-here lt le h = omega (arith, rw (column s i end lt le, run-here c _ _ h) at inv)
+  end-here lt le h = end-at c s end i inv lt le h
 
   pub end-on : i < end → end ≤ length s → (getD s i 0 ≡ c → ⊥) → i + 1 + run c (columns s (i + 1) end) ≡ f
-  end-on lt le h = omega (arith, rw (column s i end lt le, run-on c _ _ h) at inv)
+  end-on lt le h = on-at c s end i (i + 1) refl inv lt le h
 
   pub end-none : i ≤ end → end ≤ i → i ≡ f
   unfolding run
@@ -147,4 +153,54 @@ module _ (f c : ℕ) (s : List ℕ) (i end : ℕ) (inv : i + run c (columns s i 
       let e : i ≡ end = omega arith in
       omega (arith, rw (e, columns-none) at inv)
 
+  pub end-rest : {r : ℕ} → r ≡ i + run c (columns s i end) → r ≡ f
+  end-rest e = e ∙ inv
+
+  -- four bytes of one turn
+  module _ (h : 4 ≤ end - i) (le : end ≤ length s) where
+    pub end-0 : getD s i 0 ≡ c → i ≡ f
+    end-0 e = end-here (omega arith) le e
+
+    module _ (n0 : getD s i 0 ≡ c → ⊥) where
+      on-1 : i + 1 + run c (columns s (i + 1) end) ≡ f
+      on-1 = end-on (omega arith) le n0
+
+      pub end-1 : getD s (i + 1) 0 ≡ c → i + 1 ≡ f
+      end-1 e = end-at c s end (i + 1) on-1 (omega arith) le e
+
+      module _ (n1 : getD s (i + 1) 0 ≡ c → ⊥) where
+        on-2 : i + 2 + run c (columns s (i + 2) end) ≡ f
+        on-2 = on-at c s end (i + 1) (i + 2) (omega arith) on-1 (omega arith) le n1
+
+        pub end-2 : getD s (i + 2) 0 ≡ c → i + 2 ≡ f
+        end-2 e = end-at c s end (i + 2) on-2 (omega arith) le e
+
+        module _ (n2 : getD s (i + 2) 0 ≡ c → ⊥) where
+          on-3 : i + 3 + run c (columns s (i + 3) end) ≡ f
+          on-3 = on-at c s end (i + 2) (i + 3) (omega arith) on-2 (omega arith) le n2
+
+          pub end-3 : getD s (i + 3) 0 ≡ c → i + 3 ≡ f
+          end-3 e = end-at c s end (i + 3) on-3 (omega arith) le e
+
+          pub on-4 : (getD s (i + 3) 0 ≡ c → ⊥) → i + 4 + run c (columns s (i + 4) end) ≡ f
+          on-4 n3 = on-at c s end (i + 3) (i + 4) (omega arith) on-3 (omega arith) le n3
+
 pub ruleset fields = (end-here, end-on, end-none)
+
+-- ---- one digit and a tab
+digit-size : (s : List ℕ) (at d : ℕ) → at + 1 ≤ length s → 48 ≤ getD s at 0 → getD s at 0 ≤ 57 → d ≡ getD s at 0 - 48 → d ≡ sizeFrom 2147483649 (columns s at (at + 1))
+unfolding sizeFrom
+digit-size s at d le lo hi e = rw (column s at (at + 1) (omega arith) le, columns-none s (at + 1)) (step-first 2147483649 (getD s at 0) lo hi d e refl)
+
+module _ (s : List ℕ) (at end : ℕ) (two : 2 ≤ end - at) (le : end ≤ length s) (t : getD s (at + 1) 0 ≡ 9) (lo : 48 ≤ getD s at 0) where
+  pub digit-end : at + 1 ≡ at + run 9 (columns s at end)
+  digit-end =
+      let n : getD s at 0 ≡ 9 → ⊥ = omega arith in
+      rw (column s at end (omega arith) le, run-on 9 (getD s at 0) _ n, column s (at + 1) end (omega arith) le, run-here 9 (getD s (at + 1) 0) _ t)
+
+  pub digit-number : (left d : ℕ) → (left ≡ 3 → ⊥) → getD s at 0 ≤ 57 → d ≡ getD s at 0 - 48 → sized false d ≡ numOf left (columns s at (at + 1))
+  digit-number left d n hi e =
+      let m : getD s at 0 ≡ 45 → ⊥ = omega arith in
+      num-signed left (columns s at (at + 1)) (sized false d) n (signed-plain s at (at + 1) d (omega arith) (omega arith) m (digit-size s at d (omega arith) lo hi e))
+
+pub ruleset tabs = (digit-end, digit-number)

@@ -38,3 +38,12 @@ Within n (Nothing b) = Unit {0}
 abbrev pub Counted : ℕ → Verdict → Type 0
 Counted n (Good m) = m ≤ n
 Counted n (Wrong w) = Unit {0}
+
+-- a line that says no value
+abbrev pub NoValue : Said → Type 0
+NoValue Start = Unit {0}
+NoValue (Global m at v) = Unit {0}
+NoValue (Entry known m x) = Unit {0}
+NoValue (Given reference v) = ⊥
+NoValue (Last m) = Unit {0}
+NoValue (Nothing b) = Unit {0}

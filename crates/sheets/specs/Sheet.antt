@@ -100,6 +100,10 @@ isMissing (Text at count) = false
 unfoldable pub isMark : ℕ → Bool
 isMark b = eqb b 82 || eqb b 86
 
+-- a line begins with one of them and a tab (9)
+unfoldable pub isValue : List ℕ → Bool
+isValue l = eqb (getD l 1 0) 9 && isMark (getD l 0 0)
+
 -- the line that is read of l: its text, its value or its label stand there
 abbrev pub lineFrom : List ℕ → Said → Line
 lineFrom l Start = start (drop 2 l)

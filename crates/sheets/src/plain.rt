@@ -8,6 +8,18 @@ ghost use Rattle.columns.specs.Columns.{columns};
 ghost use Rattle.sheets.specs.Plain.{digitAfter, sizeFrom, plainOf, minusOf, signedPlain, statusFrom};
 ghost use Rattle.sheets.specs.Line.{run, numOf};
 
+// A number of an entry line, and where the tab behind it stands: at the line's end, if there is none.
+pub struct Tabbed {
+    pub number: Signed,
+    pub end: usize,
+}
+
+fn small(b: u8) -> u32
+    ensures { λ r. ⌜ r ≡ b ⌝ }
+{
+    b as u32
+}
+
 fn wide(b: u8) -> u64
     ensures { λ r. ⌜ r ≡ b ⌝ }
 {
@@ -127,8 +139,8 @@ pub fn num_at(s: &[u8], left: usize, at: usize, end: usize) -> Signed
     signed_at(s, at, end)
 }
 
-// Where the first c from `at` up to `end` stands, or `end`.
-pub fn find(s: &[u8], c: u8, at: usize, end: usize) -> usize
+// Where the first c from `at` up to `end` stands, or `end`, byte by byte.
+fn find_each(s: &[u8], c: u8, at: usize, end: usize) -> usize
     requires { ⌜ (at ≤ end) × (end ≤ length (now s)) ⌝ }
     ensures { λ r. ⌜ r ≡ at + run c (columns (now (s .entry)) at end) ⌝ }
     ensures { λ r. ⌜ (at ≤ r) × (r ≤ end) ⌝ }
@@ -141,4 +153,74 @@ pub fn find(s: &[u8], c: u8, at: usize, end: usize) -> usize
         i += 1;
     }
     i
+}
+
+// Where the first c from `at` up to `end` stands, or `end`: four bytes a turn, so that the end is asked for less often.
+pub fn find(s: &[u8], c: u8, at: usize, end: usize) -> usize
+    requires { ⌜ (at ≤ end) × (end ≤ length (now s)) ⌝ }
+    ensures { λ r. ⌜ r ≡ at + run c (columns (now (s .entry)) at end) ⌝ }
+    ensures { λ r. ⌜ (at ≤ r) × (r ≤ end) ⌝ }
+{
+    let mut i = at;
+    while 4 <= end - i {
+        if s[i] == c {
+            return i;
+        }
+        if s[i + 1] == c {
+            return i + 1;
+        }
+        if s[i + 2] == c {
+            return i + 2;
+        }
+        if s[i + 3] == c {
+            return i + 3;
+        }
+        i += 4;
+    }
+    find_each(s, c, i, end)
+}
+
+// The number of an entry line from `at` on, that `left` others follow, and its tab: found first.
+fn tabbed_by(s: &[u8], left: usize, at: usize, end: usize) -> Tabbed
+    requires { ⌜ (at ≤ end) × (end ≤ length (now s)) ⌝ }
+    ensures { λ r. ⌜ r .end ≡ at + run 9 (columns (now (s .entry)) at end) ⌝ }
+    ensures { λ r. ⌜ r .number ≡ numOf left (columns (now (s .entry)) at (r .end)) ⌝ }
+    ensures { λ r. ⌜ (at ≤ r .end) × (r .end ≤ end) ⌝ }
+{
+    let tab = find(s, 9, at, end);
+    let number = num_at(s, left, at, tab);
+    Tabbed { number, end: tab }
+}
+
+// The number of an entry line from `at` on, that `left` others follow, and its tab. Most are one digit, and no status.
+pub fn tabbed_at(s: &[u8], left: usize, at: usize, end: usize) -> Tabbed
+    requires { ⌜ (at ≤ end) × (end ≤ length (now s)) ⌝ }
+    ensures { λ r. ⌜ r .end ≡ at + run 9 (columns (now (s .entry)) at end) ⌝ }
+    ensures { λ r. ⌜ r .number ≡ numOf left (columns (now (s .entry)) at (r .end)) ⌝ }
+    ensures { λ r. ⌜ (at ≤ r .end) × (r .end ≤ end) ⌝ }
+{
+    if end - at < 2 {
+        return tabbed_by(s, left, at, end);
+    }
+    if s[at + 1] != 9 {
+        return tabbed_by(s, left, at, end);
+    }
+    if left == 3 {
+        return tabbed_by(s, left, at, end);
+    }
+    let b = s[at];
+    if b < 48 {
+        return tabbed_by(s, left, at, end);
+    }
+    if 57 < b {
+        return tabbed_by(s, left, at, end);
+    }
+    let number = Signed {
+        neg: false,
+        size: small(b - 48),
+    };
+    Tabbed {
+        number,
+        end: at + 1,
+    }
 }

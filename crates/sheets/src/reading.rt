@@ -20,7 +20,7 @@ ghost use Rattle.columns.specs.Columns.{columns};
 ghost use Rattle.values.specs.Strict.{strictOf};
 ghost use Rattle.values.specs.Writing.{Placed};
 ghost use Rattle.sheets.specs.Line.{run, entryFrom, numbersOf, numberCount, entryOf};
-ghost use Rattle.sheets.specs.Sheet.{isMark, isStart, startLine, globalOf, globalLine, entryLineOf, valueOf, lastLine, saysOf};
+ghost use Rattle.sheets.specs.Sheet.{isMark, isValue, isStart, startLine, globalOf, globalLine, entryLineOf, valueOf, lastLine, saysOf};
 ghost use Rattle.sheets.specs.Order.{verdictOf};
 ghost use Rattle.sheets.specs.Reading.{Within, Counted};
 
@@ -68,12 +68,13 @@ fn numbers(s: &[u8], at: usize, end: usize, known: bool) -> EntryLine
     let mut k = 0;
     let mut i = at;
     while 0 < left {
-        let e = plain::find(s, 9, i, end);
+        left -= 1;
+        let f = plain::tabbed_at(s, left, i, end);
+        let e = f.end;
         if e == end {
             return EntryLine::Wrong;
         }
-        left -= 1;
-        let x = plain::num_at(s, left, i, e);
+        let x = f.number;
         if 2147483647 < x.size {
             return EntryLine::Wrong;
         }
@@ -117,7 +118,7 @@ pub fn entry_line(l: &[u8]) -> EntryLine
     entry_at(l, 0, l.len())
 }
 
-fn is_mark(b: u8) -> bool
+pub fn is_mark(b: u8) -> bool
     ensures { λ r. ⌜ r ≡ isMark b ⌝ }
 {
     if b == 82 {
@@ -230,6 +231,20 @@ fn last_line(s: &[u8], at: usize, end: usize) -> Said
         return Said::Nothing(false);
     }
     Said::Last(n as usize)
+}
+
+// Whether the line from `at` up to `end` begins as a value line does: R or V, and a tab. What follows is then its value.
+pub fn is_value(s: &[u8], at: usize, end: usize) -> bool
+    requires { ⌜ (at ≤ end) × (end ≤ length (now s)) ⌝ }
+    ensures { λ r. ⌜ r ≡ isValue (columns (now (s .entry)) at end) ⌝ }
+{
+    if end - at < 2 {
+        return false;
+    }
+    if s[at + 1] != 9 {
+        return false;
+    }
+    is_mark(s[at])
 }
 
 // What a line says by its first byte; its second is a tab.

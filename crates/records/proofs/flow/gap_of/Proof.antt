@@ -8,7 +8,7 @@ pub gap-of-spec : {M : Type 1} → statement M
 gap-of-spec =
     tie.close
     (tie.spec
-    (λ c. search (needs, puts))
+    (λ c κs. search (needs, puts))
     (λ c. search (needs, puts))
     (λ c. search (needs, puts))
     (λ c. search (needs, puts))

@@ -1,31 +1,20 @@
--- What is written so far is the first i bytes of s.
-use mathlib.Core.Path.{_≡_}
-use Prim.Native.Nat.{_+_, _-_, _≤_}
-use lib.ListN.{length, take}
-use Rattle.records.specs.Written.{Put}
+-- On one line all of it stands side by side; else it goes character by character.
 use borrow.Author.Needs.{needs}
 use Rattle.records.proofs.Puts.{puts}
 use Rattle.records.proofs.flow.put_all.Statement.{statement}
 use Rattle.records.proofs.flow.put_all.Tie as tie
 
-abbrev Inv-loop : tie.InvT-loop
-Inv-loop out₀ base w p s next₀ i₀ out next i =
-    (i ≤ length s) × (next ≡ p + i) × (length out ≡ length out₀) × Put base w out₀ p (take i s) out next
-
-abbrev μ-loop : tie.MeasureT-loop
-μ-loop out₀ base w p s next₀ i₀ out next i = length s - i
-
 pub put-all-spec : {M : Type 1} → statement M
 put-all-spec =
     tie.close
     (tie.spec
-    Inv-loop
-    μ-loop
-    (λ c. search (needs, puts))
+    (λ c κs. search (needs, puts))
     (λ c. search (needs, puts))
     (λ c κs. search (needs, puts))
     (λ c. search (needs, puts))
     (λ c. search (needs, puts))
     (λ c. search (needs, puts))
+    (λ c κs. search (needs, puts))
+    (λ c κs. search (needs, puts))
     (λ c. search (needs, puts))
     (λ c. search (needs, puts)))

@@ -9,11 +9,7 @@ put-char-spec =
     tie.close
     (tie.spec
     (λ c. search (needs, puts))
-    (λ c. search (needs, puts))
-    (λ c. search (needs, puts))
-    (λ c. search (needs, puts))
-    (λ c. search (needs, puts))
-    (λ c. search (needs, puts))
+    (λ c κs. search (needs, puts))
     (λ c. search (needs, puts))
     (λ c. search (needs, puts))
     (λ c. search (needs, puts))

@@ -1,4 +1,4 @@
--- A head is a string's count or a number.
+-- A head is read in the rest of its line, a part of the file; it is a string's count or a number.
 use borrow.Author.Needs.{needs}
 use Rattle.records.proofs.Laws.{ends-laws}
 use Rattle.records.proofs.reading.given_at.Statement.{statement}
@@ -8,9 +8,18 @@ pub given-at-spec : {M : Type 1} → statement M
 given-at-spec =
     tie.close
     (tie.spec
+    (λ c. search (needs, ends-laws))
+    (λ c. search (needs, ends-laws))
+    (λ c κs. search (needs, ends-laws))
     (λ c κs. search (needs, ends-laws))
     (λ c. search (needs, ends-laws))
     (λ c. search (needs, ends-laws))
+    (λ c. search (needs, ends-laws))
+    (λ c. search (needs, ends-laws))
+    (λ c. search (needs, ends-laws))
+    (λ c κs. search (needs, ends-laws))
+    (λ c. search (needs, ends-laws))
+    (λ c κs. search (needs, ends-laws))
     (λ c. search (needs, ends-laws))
     (λ c κs. search (needs, ends-laws))
     (λ c. search (needs, ends-laws))

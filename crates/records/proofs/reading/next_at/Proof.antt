@@ -1,4 +1,4 @@
--- The mark of what stands behind the blanks.
+-- The mark of what stands at p, or behind the blanks there.
 use borrow.Author.Needs.{needs}
 use Rattle.records.proofs.Laws.{laws}
 use Rattle.records.proofs.reading.next_at.Statement.{statement}
@@ -8,6 +8,10 @@ pub next-at-spec : {M : Type 1} → statement M
 next-at-spec =
     tie.close
     (tie.spec
+    (λ c κs. search (needs, laws))
+    (λ c κs. search (needs, laws))
+    (λ c. search (needs, laws))
+    (λ c. search (needs, laws))
     (λ c κs. search (needs, laws))
     (λ c κs. search (needs, laws))
     (λ c κs. search (needs, laws))

@@ -1,10 +1,10 @@
--- As long as no c was met, i and the bytes before the first c from i on add up to the same place.
+-- As long as no c was met, i and the bytes before the first c from i on add up to the same place; four bytes a turn.
 use mathlib.Core.Path.{_≡_}
 use Prim.Native.Nat.{_+_, _-_, _≤_, _<_}
 use Rattle.columns.specs.Columns.{columns}
 use Rattle.sheets.specs.Line.{run}
 use borrow.Author.Needs.{needs}
-use Rattle.sheets.proofs.Plains.{fields}
+use Rattle.sheets.proofs.Plains.{end-0, end-1, end-2, end-3, on-4, end-rest}
 use Rattle.sheets.proofs.plain.find.Statement.{statement}
 use Rattle.sheets.proofs.plain.find.Tie as tie
 
@@ -20,10 +20,24 @@ find-spec =
     (tie.spec
     Inv-loop
     μ-loop
-    (λ c. search (needs, fields))
-    (λ c. search (needs, fields))
-    (λ c. search (needs, fields))
-    (λ c. search (needs, fields))
-    (λ c. search (needs, fields))
-    (λ c. search (needs, fields))
-    (λ c. search (needs, fields)))
+    (λ c. search needs)
+    (λ c. search needs)
+    (λ c. search needs)
+    (λ c. search (needs, end-0))
+    (λ c. search needs)
+    (λ c. search needs)
+    (λ c. search needs)
+    (λ c. search (needs, end-1))
+    (λ c. search needs)
+    (λ c. search needs)
+    (λ c. search needs)
+    (λ c. search (needs, end-2))
+    (λ c. search needs)
+    (λ c. search needs)
+    (λ c. search needs)
+    (λ c. search (needs, end-3))
+    (λ c. search needs)
+    (λ c. search needs)
+    (λ c. search (needs, on-4))
+    (λ c κs. search needs)
+    (λ c. search (needs, end-rest)))

@@ -23,10 +23,9 @@ numbers-spec =
     Inv-loop
     μ-loop
     (λ c. search (needs, rows))
-    (λ c κs. search (needs, rows))
-    (λ c. search (needs, rows))
     (λ c. search (needs, rows))
     (λ c κs. search (needs, rows))
+    (λ c. search (needs, rows))
     (λ c. search (needs, rows))
     (λ c. search (needs, rows))
     (λ c. search (needs, rows))
