@@ -2,5 +2,7 @@ pub mod Names
 pub mod Feeding
 pub mod Passes
 pub mod Marking
+pub mod Walks
+pub mod Weighing
 pub mod Entries
 pub mod Types

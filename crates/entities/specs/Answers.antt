@@ -1,5 +1,5 @@
 -- What the last pass says of one entity: the answer of `byParameters` without what is carried and without the place.
-use mathlib.Core.Bool.{Bool, false, not, _&&_}
+use mathlib.Core.Bool.{Bool, false, cond, not, _&&_}
 use mathlib.Core.List.{List}
 use Prim.Native.Nat.{ℕ}
 use lib.Dec.{eqb}
@@ -12,7 +12,8 @@ use Rattle.values.specs.Value.{default}
 use Rattle.records.specs.Record.{Values, values, wrong, trimmed}
 use Rattle.layouts.specs.declared.Verdict.{Verdict}
 use Rattle.layouts.specs.declared.Verdict.the-variants.{Good as GoodVerdict, Layout, LayoutReference}
-use Rattle.layouts.specs.Entities.{entityCheck}
+use Rattle.layouts.specs.declared.Stepped.{Stepped}
+use Rattle.layouts.specs.Entities.{ended, entityCheck}
 use Rattle.model.specs.Read.{isType}
 use Rattle.entities.specs.declared.EntityAnswer.{EntityAnswer}
 use Rattle.entities.specs.declared.EntityAnswer.the-variants.{Good, Refused}
@@ -45,3 +46,7 @@ abbrev pub verdictAnswer : Verdict → EntityAnswer
 verdictAnswer GoodVerdict = Good
 verdictAnswer Layout = Refused LayoutFault
 verdictAnswer LayoutReference = Refused LayoutReferenceFault
+
+-- by whether the first value is the type, whether the list knows the entity, and where its layout stands behind its values
+abbrev pub passAnswer : Bool → Bool → Stepped → EntityAnswer
+passAnswer typed inside g = cond typed (cond inside (verdictAnswer (ended g)) Good) (Refused FirstValue)

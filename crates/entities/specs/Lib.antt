@@ -2,3 +2,4 @@ pub mod Naming
 pub mod Taking
 pub mod Answers
 pub mod Marks
+pub mod Walking

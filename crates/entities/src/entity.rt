@@ -1,13 +1,17 @@
 // The pass over one entity: its record's values, the type that stands first, its layout.
+use crate::COLUMNS;
 use crate::EntityAnswer;
-use crate::layout::COLUMNS;
-use crate::layout::take_at;
-use crate::layout::verdict_of;
+use crate::Walked;
+use crate::Weighed;
+use crate::marks::marks_begun;
+use crate::walking::walk;
 use columns::Fault;
+use layouts::Stepped;
 use layouts::Verdict;
 use layouts::list::known;
-use records::Check;
-use records::reading::check_from;
+use layouts::machine::end;
+use records::Got;
+use records::reading::value_at;
 use values::Value;
 ghost use mathlib.Core.Path.{_≡_};
 ghost use Prim.Native.Nat.{_+_, _*_, _≤_, _<_};
@@ -16,7 +20,9 @@ ghost use Rattle.columns.specs.Columns.{textOf};
 ghost use Rattle.records.specs.Record.{valuesAt};
 ghost use Rattle.records.specs.Reading.{Stands};
 ghost use Rattle.entities.specs.Naming.{typesAt};
-ghost use Rattle.entities.specs.Answers.{typeRead, verdictAnswer, entityPassOf};
+ghost use Rattle.entities.specs.Marks.{carriedIn};
+ghost use Rattle.entities.specs.Walking.{carriedLength};
+ghost use Rattle.entities.specs.Answers.{typeRead, verdictAnswer, passAnswer, entityPassOf};
 
 // Whether a value is the integer type.
 fn is_type(typ: u32, v: Value) -> bool
@@ -51,6 +57,26 @@ fn verdict_answer(w: Verdict) -> EntityAnswer
     }
 }
 
+// What is said of an entity whose first value is its type or not, that the list knows or not, and whose layout stands there
+// behind its values.
+fn pass_answer(typed: bool, inside: bool, g: Stepped) -> EntityAnswer
+    ensures { λ r. ⌜ r ≡ passAnswer typed inside g ⌝ }
+{
+    if !typed {
+        return EntityAnswer::Refused(Fault::FirstValue);
+    }
+    if !inside {
+        return EntityAnswer::Good;
+    }
+    match g {
+        Stepped::Go(s) => {
+            let w = end(s);
+            verdict_answer(w)
+        }
+        Stepped::Bad => EntityAnswer::Refused(Fault::Layout),
+    }
+}
+
 // The entity of this type and form whose record stands in so many P lines from base on. The values behind the first are those
 // of its layout, up to the last that is no default.
 pub fn entity_pass(
@@ -64,32 +90,46 @@ pub fn entity_pass(
     form: u32,
     first: usize,
     n: usize,
-) -> EntityAnswer
+) -> Weighed
     requires { ⌜ Stands (now file) base 64 lines × (0 < c) × (0 < d) × (81 * (first + 2 * n) ≤ length (now file)) ⌝ }
-    ensures { λ r. ⌜ r ≡ entityPassOf list (typesAt (now (file .entry)) first n) typ form (valuesAt 64 c d (textOf (now (file .entry)) base 64 lines) 0) ⌝ }
+    ensures { λ r. ⌜ r .answer ≡ entityPassOf list (typesAt (now (file .entry)) first n) typ form (valuesAt 64 c d (textOf (now (file .entry)) base 64 lines) 0) ⌝ }
+    ensures { λ r. ⌜ r .length ≡ carriedLength (carriedIn (valuesAt 64 c d (textOf (now (file .entry)) base 64 lines) 0)) ⌝ }
+    ensures { λ r. ⌜ r .length ≤ 70400 * lines ⌝ }
 {
-    match check_from(file, base, COLUMNS, lines, c, d, 0) {
-        Check::Wrong {
+    let g = value_at(file, base, COLUMNS, lines, c, d, 0);
+    match g {
+        Got::Refused {
             fault,
             start: _,
             at: _,
-        } => EntityAnswer::Refused(fault),
-        Check::Done {
-            count: _,
-            kept,
-            end: _,
+        } => Weighed {
+            answer: EntityAnswer::Refused(fault),
+            length: 0,
+        },
+        Got::Found {
+            value,
+            start: _,
+            next,
+            last,
         } => {
-            let x = take_at(file, base, lines, c, d, 0);
-            let v = x.value;
-            if !is_type(typ, v) {
-                return EntityAnswer::Refused(Fault::FirstValue);
+            let typed = is_type(typ, value);
+            let inside = known(list, typ, form);
+            let begun = marks_begun(list, typ, form);
+            if last {
+                let answer = pass_answer(typed, inside, begun);
+                return Weighed { answer, length: 0 };
             }
-            if !known(list, typ, form) {
-                return EntityAnswer::Good;
+            let walked = walk(file, base, lines, c, d, next, begun, first, n);
+            match walked {
+                Walked::Wrong(fault) => Weighed {
+                    answer: EntityAnswer::Refused(fault),
+                    length: 0,
+                },
+                Walked::Done { state, length } => {
+                    let answer = pass_answer(typed, inside, state);
+                    Weighed { answer, length }
+                }
             }
-            let from = x.next;
-            let w = verdict_of(file, base, lines, c, d, from, kept - 1, typ, form, first, n);
-            verdict_answer(w)
         }
     }
 }

@@ -1,13 +1,17 @@
 // The last pass over one entity, read where its record stands: 6 and 7 in text order, 12, 14, 15.
-// `naming` tells what a value names in the file, `layout` feeds an entity's values to the layouts, `entity` is the pass,
-// `marks` tells where an entity's carried values stand and how each is marked in the sheet.
+// `naming` tells what a value names in the file, `walking` goes over an entity's values once, `entity` is the pass, `marks` tells how each
+// value is marked in the sheet.
 pub mod entity;
-pub mod layout;
 pub mod marks;
 pub mod naming;
+mod walking;
 
 use columns::Fault;
+use layouts::Stepped;
 use values::Value;
+
+// The columns of a P line that hold values.
+pub const COLUMNS: usize = 64;
 
 // A value of a record, and the position behind its delimiter.
 pub struct Taken {
@@ -21,8 +25,15 @@ pub enum EntityAnswer {
     Refused(Fault),
 }
 
-// The values that an entity carries: so many from a position of its record's text on.
-pub struct Span {
-    pub from: usize,
-    pub count: usize,
+// What the last pass says of an entity, and the bytes of the lines of the values that it carries.
+pub struct Weighed {
+    pub answer: EntityAnswer,
+    pub length: usize,
+}
+
+// An entity's values behind its type, walked over: the layout behind the last that is no default, and the bytes of the value
+// lines up to it; or the first refusal.
+pub enum Walked {
+    Done { state: Stepped, length: usize },
+    Wrong(Fault),
 }

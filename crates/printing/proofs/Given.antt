@@ -51,7 +51,7 @@ missing-real v e = rw e
 pub missing-text : (v : Value) {from count : ℕ} → v ≡ Text from count → false ≡ isMissing v
 missing-text v e = rw e
 
-is-default : (t : List ℕ) (v : Value) → isDefault (itemOf t v) ≡ isMissing v
+pub is-default : (t : List ℕ) (v : Value) → isDefault (itemOf t v) ≡ isMissing v
 is-default t Default = refl
 is-default t (Whole neg size) = refl
 is-default t (Real neg m eneg x double) = refl

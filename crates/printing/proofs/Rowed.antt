@@ -29,7 +29,8 @@ use Rattle.entities.specs.Naming.{typesAt}
 use Rattle.entities.specs.Taking.{entityWith}
 use Rattle.entities.specs.Marks.{carriedIn}
 use Rattle.printing.specs.Bytes.{valueBytes, entityBytes}
-use Rattle.printing.specs.Rows.{speltBytes, rowBytes, rowsBytes}
+use Rattle.printing.specs.Taking.{Unrefused}
+use Rattle.printing.specs.Rows.{speltBytes, rowBytes, rowsBytes, SpeltReads, RowReads, RowsRead}
 
 module _ (f : List ℕ) (k from end : ℕ) (ef : from ≡ 81 * (k + 1) + 56) (ee : end ≡ from + 8) where
   label-is : take (end - from) (drop from f) ≡ labelAt f k
@@ -90,7 +91,20 @@ module _ (list : ℕ) (f : List ℕ) (first n parameters c d i : ℕ) {e : Entry
   unfolding rowBytes
   row-some h p = rw (← ee, h) p
 
-pub ruleset row = (stands-of, spelt-none, spelt-some, row-none, row-some, wrote-length)
+-- its record is not refused
+pub spelt-reads : (f : List ℕ) (parameters c d pointer count : ℕ) {b m : ℕ} → b ≡ pointer - 1 → m ≡ count → SpeltReads f parameters c d pointer count
+    → 81 * (parameters + b) + m * 81 ≤ length f → Unrefused (valuesAt 64 c d (textOf f (81 * (parameters + b)) 64 m) 0)
+unfolding SpeltReads
+spelt-reads f parameters c d pointer count eb em p h =
+    let k : 81 * (parameters + (pointer - 1)) + count * 81 ≤ length f = rw (eb, em) at h in
+    rw (eb, em) (p k)
+
+pub row-reads : (f : List ℕ) (first parameters c d i : ℕ) {e : EntryRead} → e ≡ entryAt f (first + 2 * i) → {x : Fields} {pointer : ParameterLine} {count : ℕ} → e ≡ Spelt x pointer count
+    → RowReads f first parameters c d i → SpeltReads f parameters c d (pointer .0) count
+unfolding RowReads
+row-reads f first parameters c d i ee h p = rw (← ee, h) at p
+
+pub ruleset row = (stands-of, spelt-none, spelt-some, spelt-reads, row-none, row-some, row-reads, wrote-length)
 
 -- ---- all of them
 
@@ -114,4 +128,8 @@ module _ (list : ℕ) (f : List ℕ) (first n parameters c d : ℕ) where
         let e : n - i ≡ 0 = omega arith in
         then (owes-none (rw e at p)) w
 
-pub ruleset rows = (rows-all, rows-more, rows-end, wrote-length)
+-- each record is read
+pub rows-read : (f : List ℕ) (first n parameters c d i : ℕ) → RowsRead f first n parameters c d → i < n → RowReads f first parameters c d i
+rows-read f first n parameters c d i p h = p .row i h
+
+pub ruleset rows = (rows-all, rows-more, rows-end, rows-read, wrote-length)

@@ -1,3 +1,4 @@
 pub mod Bytes
+pub mod Taking
 pub mod Rows
 pub mod Whole

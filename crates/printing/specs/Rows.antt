@@ -2,7 +2,7 @@
 -- An entry that is misspelt, or whose P lines do not stand in the file, has none: a file that was accepted has no such entry.
 use mathlib.Core.Bool.{cond}
 use mathlib.Core.List.{List, [], _++_}
-use Prim.Native.Nat.{ℕ, zero, suc, _+_, _-_, _*_}
+use Prim.Native.Nat.{ℕ, zero, suc, _+_, _-_, _*_, _≤_, _<_}
 use lib.ListN.{length}
 use lib.Dec.{leb}
 use Rattle.columns.specs.Columns.{textOf, lineBytes}
@@ -14,6 +14,7 @@ use Rattle.directory.specs.Lines.{entryAt, labelAt}
 use Rattle.entities.specs.Naming.{typesAt}
 use Rattle.entities.specs.Marks.{carriedIn}
 use Rattle.printing.specs.Bytes.{entityBytes}
+use Rattle.printing.specs.Taking.{Unrefused}
 
 -- with these numbers, its record in count P lines from the one numbered pointer on
 unfoldable pub speltBytes : ℕ → List ℕ → ℕ → ℕ → ℕ → ℕ → ℕ → ℕ → Fields → ℕ → ℕ → List ℕ
@@ -34,3 +35,24 @@ rowBytes list f first n parameters c d i = readBytes list f first n parameters c
 unfoldable pub rowsBytes : ℕ → List ℕ → ℕ → ℕ → ℕ → ℕ → ℕ → ℕ → ℕ → List ℕ
 rowsBytes list f first n parameters c d i zero = []
 rowsBytes list f first n parameters c d i (suc left) = rowBytes list f first n parameters c d i ++ rowsBytes list f first n parameters c d (i + 1) left
+
+-- ---- records that are not refused
+
+-- in count P lines from the one numbered pointer on, if they stand in the file
+unfoldable pub SpeltReads : List ℕ → ℕ → ℕ → ℕ → ℕ → ℕ → Type 0
+SpeltReads f parameters c d pointer count =
+    lineBytes * (parameters + (pointer - 1)) + count * lineBytes ≤ length f
+    → Unrefused (valuesAt 64 c d (textOf f (lineBytes * (parameters + (pointer - 1))) 64 count) 0)
+
+-- a misspelt entry has none
+abbrev pub EntryReads : List ℕ → ℕ → ℕ → ℕ → EntryRead → Type 0
+EntryReads f parameters c d Wrong = Unit {0}
+EntryReads f parameters c d (Spelt x pointer count) = SpeltReads f parameters c d (pointer .0) count
+
+-- that of entry i
+unfoldable pub RowReads : List ℕ → ℕ → ℕ → ℕ → ℕ → ℕ → Type 0
+RowReads f first parameters c d i = EntryReads f parameters c d (entryAt f (first + 2 * i))
+
+-- those of n entries
+pub record RowsRead (f : List ℕ) (first n parameters c d : ℕ) : Type 0 where
+  pub row : (i : ℕ) → i < n → RowReads f first parameters c d i

@@ -1,24 +1,61 @@
 // The value lines of an entity.
+use crate::Behind;
+use crate::globals::is_missing;
 use crate::lines::put_value_line;
-use crate::taking::value_from;
-use entities::layout::COLUMNS;
-use entities::marks::carried_at;
+use crate::taking::met_at;
 use entities::marks::mark_of;
 use entities::marks::mark_step;
 use entities::marks::marks_begun;
+use layouts::Stepped;
+use values::Value;
 ghost use mathlib.Core.Path.{_≡_};
 ghost use Prim.Native.Nat.{ℕ, _+_, _*_, _^_, _≤_, _<_};
 ghost use lib.ListN.{length};
 ghost use Rattle.columns.specs.Columns.{textOf};
 ghost use Rattle.columns.specs.Laid.{Wrote};
+ghost use Rattle.values.specs.Value.{itemOf};
 ghost use Rattle.records.specs.Record.{valuesAt};
-ghost use Rattle.records.specs.Reading.{Stands};
-ghost use Rattle.layouts.specs.Entities.{marks};
+ghost use Rattle.records.specs.Reading.{Stands, Writable};
+ghost use Rattle.layouts.specs.Entities.{run, marks};
 ghost use Rattle.model.specs.Model.{marked};
 ghost use Rattle.entities.specs.Naming.{typesAt};
 ghost use Rattle.entities.specs.Taking.{entityWith};
-ghost use Rattle.entities.specs.Marks.{carriedIn};
+ghost use Rattle.entities.specs.Marks.{carriedIn, markedFrom};
 ghost use Rattle.printing.specs.Bytes.{valueBytes};
+ghost use Rattle.printing.specs.Taking.{Unrefused, owedBefore};
+
+// The lines of the defaults owed before a given value, and its own.
+fn put_owed(
+    out: &mut [u8],
+    at: usize,
+    file: &[u8],
+    base: usize,
+    lines: usize,
+    first: usize,
+    n: usize,
+    g: Stepped,
+    owed: usize,
+    v: Value,
+) -> Behind
+    requires { ⌜ Stands (now file) base 64 lines × Writable (lines * 64) v × (81 * (first + 2 * n) ≤ length (now file)) × (at + 1100 * owed < 2 ^ 59) ⌝ }
+    ensures { λ r. ⌜ Wrote (now (out .entry)) at (valueBytes (markedFrom (typesAt (now (file .entry)) first n) g (owedBefore owed (itemOf (textOf (now (file .entry)) base 64 lines) v)))) (now (out .exit)) (r .next) ⌝ }
+    ensures { λ r. ⌜ r .marks ≡ run (typesAt (now (file .entry)) first n) g (owedBefore owed (itemOf (textOf (now (file .entry)) base 64 lines) v)) ⌝ }
+    ensures { λ r. ⌜ r .next ≤ at + 1100 * owed + 1100 ⌝ }
+{
+    let mut s = g;
+    let mut left = owed;
+    let mut next = at;
+    while 0 < left {
+        let reference = mark_of(s);
+        next = put_value_line(out, next, file, base, lines, reference, Value::Default);
+        s = mark_step(file, first, n, s, Value::Default);
+        left -= 1;
+    }
+    let reference = mark_of(s);
+    let end = put_value_line(out, next, file, base, lines, reference, v);
+    let marks = mark_step(file, first, n, s, v);
+    Behind { next: end, marks }
+}
 
 // The values behind the type, up to the last that is no default, each with its mark.
 pub fn put_values(
@@ -35,23 +72,29 @@ pub fn put_values(
     first: usize,
     n: usize,
 ) -> usize
-    requires { ⌜ Stands (now file) base 64 lines × (0 < c) × (0 < d) × (81 * (first + 2 * n) ≤ length (now file)) × (at < 2 ^ 58) ⌝ }
+    requires { ⌜ Stands (now file) base 64 lines × (0 < c) × (0 < d) × (81 * (first + 2 * n) ≤ length (now file)) × (at < 2 ^ 58) × Unrefused (valuesAt 64 c d (textOf (now file) base 64 lines) 0) ⌝ }
     ensures { λ r. ⌜ Wrote (now (out .entry)) at (valueBytes (marked (marks list (typesAt (now (file .entry)) first n) (entityWith typ form (carriedIn (valuesAt 64 c d (textOf (now (file .entry)) base 64 lines) 0)))) (carriedIn (valuesAt 64 c d (textOf (now (file .entry)) base 64 lines) 0)))) (now (out .exit)) r ⌝ }
     ensures { λ r. ⌜ r ≤ at + 70400 * lines ⌝ }
 {
-    let span = carried_at(file, base, lines, c, d);
     let mut g = marks_begun(list, typ, form);
-    let mut q = span.from;
-    let mut left = span.count;
+    let x = met_at(file, base, lines, c, d, 0);
+    let mut q = x.next;
+    let mut last = x.last;
+    let mut owed = 0;
     let mut next = at;
-    while 0 < left {
-        let x = value_from(file, base, COLUMNS, lines, c, d, q);
-        let v = x.value;
-        let reference = mark_of(g);
-        next = put_value_line(out, next, file, base, lines, reference, v);
-        g = mark_step(file, first, n, g, v);
-        q = x.next;
-        left -= 1;
+    while !last {
+        let y = met_at(file, base, lines, c, d, q);
+        let v = y.value;
+        q = y.next;
+        last = y.last;
+        if is_missing(v) {
+            owed += 1;
+            continue;
+        }
+        let z = put_owed(out, next, file, base, lines, first, n, g, owed, v);
+        g = z.marks;
+        next = z.next;
+        owed = 0;
     }
     next
 }

@@ -23,7 +23,8 @@ const COLUMNS: usize = 72;
 
 const FIRST: u32 = 3;
 
-fn is_missing(v: Value) -> bool
+// Whether a value is a default.
+pub fn is_missing(v: Value) -> bool
     ensures { λ r. ⌜ r ≡ isMissing v ⌝ }
 {
     match v {

@@ -10,3 +10,19 @@ pub mod rows;
 pub mod sheet;
 pub mod starts;
 pub mod taking;
+
+use layouts::Stepped;
+use values::Value;
+
+// A value that is met in a record, the position behind its delimiter, and whether that ends the record.
+pub struct Met {
+    pub value: Value,
+    pub next: usize,
+    pub last: bool,
+}
+
+// Behind a value's line: the place in the sheet, and where the marks stand.
+pub struct Behind {
+    pub next: usize,
+    pub marks: Stepped,
+}

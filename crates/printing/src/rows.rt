@@ -25,13 +25,14 @@ ghost use Rattle.sheets.specs.Sheet.{Line, lineOf};
 ghost use Rattle.entities.specs.Naming.{typesAt};
 ghost use Rattle.entities.specs.Marks.{carriedIn};
 ghost use Rattle.printing.specs.Bytes.{entityBytes};
-ghost use Rattle.printing.specs.Rows.{speltBytes, rowBytes, rowsBytes};
+ghost use Rattle.printing.specs.Taking.{Unrefused};
+ghost use Rattle.printing.specs.Rows.{speltBytes, rowBytes, rowsBytes, SpeltReads, RowReads, RowsRead};
 
 // The columns of a label.
 const LABEL: usize = 8;
 
 // The entry line of the entry whose first D line is line k: its label stands in the file.
-fn put_entry_line(
+pub fn put_entry_line(
     out: &mut [u8],
     at: usize,
     list: u64,
@@ -68,7 +69,7 @@ pub fn put_entity(
     first: usize,
     n: usize,
 ) -> usize
-    requires { ⌜ Stands (now file) base 64 lines × (0 < c) × (0 < d) × (81 * (first + 2 * n) ≤ length (now file)) × (81 * k + 162 ≤ length (now file)) × (at < 2 ^ 57) ⌝ }
+    requires { ⌜ Stands (now file) base 64 lines × (0 < c) × (0 < d) × (81 * (first + 2 * n) ≤ length (now file)) × (81 * k + 162 ≤ length (now file)) × (at < 2 ^ 57) × Unrefused (valuesAt 64 c d (textOf (now file) base 64 lines) 0) ⌝ }
     ensures { λ r. ⌜ Wrote (now (out .entry)) at (entityBytes list (typesAt (now (file .entry)) first n) (number .0) x (labelAt (now (file .entry)) k) (carriedIn (valuesAt 64 c d (textOf (now (file .entry)) base 64 lines) 0))) (now (out .exit)) r ⌝ }
     ensures { λ r. ⌜ r ≤ at + 388 + 70400 * lines ⌝ }
 {
@@ -132,7 +133,7 @@ fn put_spelt(
     pointer: u32,
     count: u32,
 ) -> usize
-    requires { ⌜ (length (now file) ≤ 16200000) × (0 < c) × (0 < d) × (81 * (first + 2 * n) ≤ length (now file)) × (i < n) × (parameters ≤ 200000) × (at < 2 ^ 57) ⌝ }
+    requires { ⌜ (length (now file) ≤ 16200000) × (0 < c) × (0 < d) × (81 * (first + 2 * n) ≤ length (now file)) × (i < n) × (parameters ≤ 200000) × (at < 2 ^ 57) × SpeltReads (now file) parameters c d pointer count ⌝ }
     ensures { λ r. ⌜ Wrote (now (out .entry)) at (speltBytes list (now (file .entry)) first n parameters c d i x pointer count) (now (out .exit)) r ⌝ }
     ensures { λ r. ⌜ r ≤ at + 15000000000 ⌝ }
 {
@@ -175,7 +176,7 @@ fn put_row(
     d: u8,
     i: usize,
 ) -> usize
-    requires { ⌜ (length (now file) ≤ 16200000) × (0 < c) × (0 < d) × (81 * (first + 2 * n) ≤ length (now file)) × (i < n) × (parameters ≤ 200000) × (at < 2 ^ 57) ⌝ }
+    requires { ⌜ (length (now file) ≤ 16200000) × (0 < c) × (0 < d) × (81 * (first + 2 * n) ≤ length (now file)) × (i < n) × (parameters ≤ 200000) × (at < 2 ^ 57) × RowReads (now file) first parameters c d i ⌝ }
     ensures { λ r. ⌜ Wrote (now (out .entry)) at (rowBytes list (now (file .entry)) first n parameters c d i) (now (out .exit)) r ⌝ }
     ensures { λ r. ⌜ r ≤ at + 15000000000 ⌝ }
 {
@@ -215,7 +216,7 @@ pub fn put_rows(
     c: u8,
     d: u8,
 ) -> usize
-    requires { ⌜ (length (now file) ≤ 16200000) × (0 < c) × (0 < d) × (81 * (first + 2 * n) ≤ length (now file)) × (parameters ≤ 200000) × (at < 2 ^ 56) ⌝ }
+    requires { ⌜ (length (now file) ≤ 16200000) × (0 < c) × (0 < d) × (81 * (first + 2 * n) ≤ length (now file)) × (parameters ≤ 200000) × (at < 2 ^ 56) × RowsRead (now file) first n parameters c d ⌝ }
     ensures { λ r. ⌜ Wrote (now (out .entry)) at (rowsBytes list (now (file .entry)) first n parameters c d 0 n ++ (lineOf (Line.last n) ++ (10 ∷ []))) (now (out .exit)) r ⌝ }
     ensures { λ r. ⌜ r ≤ at + 15000000000 * n + 23 ⌝ }
 {

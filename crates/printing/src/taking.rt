@@ -1,14 +1,17 @@
 // The values of a record, one after the other, within their limits.
+use crate::Met;
+use entities::COLUMNS;
 use entities::Taken;
 use records::Got;
 use records::reading::value_at;
 use values::Value;
 ghost use mathlib.Core.Path.{_≡_};
-ghost use Prim.Native.Nat.{ℕ, _*_, _≤_, _<_};
+ghost use Prim.Native.Nat.{_*_, _≤_, _<_};
 ghost use Rattle.columns.specs.Columns.{textOf};
-ghost use Rattle.records.specs.Record.{valueAt};
+ghost use Rattle.records.specs.Record.{valueAt, valuesAt};
 ghost use Rattle.records.specs.Reading.{Stands, Writable};
 ghost use Rattle.entities.specs.Taking.{takenOf};
+ghost use Rattle.printing.specs.Taking.{Unrefused, metOf};
 
 // A value that was read. A refused one stands for a default: a record that was checked has none.
 fn taken_of(g: Got) -> Taken
@@ -40,4 +43,37 @@ pub fn value_from(file: &[u8], base: usize, w: usize, lines: usize, c: u8, d: u8
 {
     let g = value_at(file, base, w, lines, c, d, q);
     taken_of(g)
+}
+
+// A value that is met. A refused one would end the record.
+fn met_of(g: Got) -> Met
+    ensures { λ r. ⌜ r ≡ metOf g ⌝ }
+{
+    match g {
+        Got::Found {
+            value,
+            start: _,
+            next,
+            last,
+        } => Met { value, next, last },
+        Got::Refused {
+            fault: _,
+            start: _,
+            at,
+        } => Met {
+            value: Value::Default,
+            next: at,
+            last: true,
+        },
+    }
+}
+
+// The value from position q of an entity's record on, which is not refused.
+pub fn met_at(file: &[u8], base: usize, lines: usize, c: u8, d: u8, q: usize) -> Met
+    requires { ⌜ Stands (now file) base 64 lines × (q ≤ lines * 64) × (0 < c) × (0 < d) × Unrefused (valuesAt 64 c d (textOf (now file) base 64 lines) q) ⌝ }
+    ensures { λ r. ⌜ r ≡ metOf (valueAt 64 c d (textOf (now (file .entry)) base 64 lines) q) ⌝ }
+    ensures { λ r. ⌜ (q < r .next) × (r .next ≤ lines * 64) × Writable (lines * 64) (r .value) ⌝ }
+{
+    let g = value_at(file, base, COLUMNS, lines, c, d, q);
+    met_of(g)
 }

@@ -5,7 +5,6 @@ use mathlib.Core.List.{List}
 use Prim.Native.Nat.{ℕ}
 use native.Mathlib.Omega.{arith}
 use lib.Dec.{leb}
-use borrow.Author.Tests.{not-true, not-false}
 use Rattle.columns.specs.declared.Fault.{Fault}
 use Rattle.columns.specs.declared.Fault.the-variants.{ListOrLength}
 use Rattle.columns.specs.declared.FileLine.{FileLine}
@@ -21,7 +20,7 @@ use Rattle.passes.specs.declared.BeforeAnswer.the-variants.{Good as GoodBefore,
 use Rattle.passes.specs.Passes.{fileLine, passOf, beforeAnswer}
 use Rattle.passes.specs.Listed.{allEntries}
 use Rattle.passes.proofs.Facts.{passed-all}
-use Rattle.passes.proofs.After.{Answered, answered, before-ready, before-parameter, before-closing}
+use Rattle.passes.proofs.After.{Answered, answered}
 use Rattle.reading.specs.declared.Checked.the-variants.{Good, Refused}
 use Rattle.reading.specs.Checks.{delimited, checkedOf, checkOf}
 use Rattle.reading.proofs.Last.{last-any}
@@ -106,5 +105,3 @@ module _ (list : ℕ) (f : List ℕ) (b : Bool) (eb : b ≡ leb list mostList) w
               good-same list f (a .whole) c p d (a .counts) (a .parameter) (a .closing)
               (accepts list f (modelWith f (a .whole .counts) (a .whole .global) es) (a .whole) eo (a .is))
           by (refused m q) eo j = let z : _≡_ {A = ℕ} 0 1 = cc in absurd (omega arith)
-
-pub ruleset checks = (not-true, not-false, before-ready, before-parameter, before-closing, check-list, check-before, check-last, check-good)

@@ -22,14 +22,17 @@ use Rattle.passes.specs.Passes.{fileLine, passOf}
 use Rattle.passes.specs.Listed.{entryOf, allEntries, allTypes}
 use Rattle.passes.specs.Ready.{Ready}
 use Rattle.passes.proofs.Whole.{good-entries}
-use Rattle.passes.proofs.After.{never-wrong, listed-fields, listed-pointer, listed-lines, pointer-some, pointer-stays}
+use Rattle.passes.proofs.After.{never-wrong, listed-fields, listed-pointer, listed-lines}
 use Rattle.entities.specs.declared.EntityAnswer.{EntityAnswer}
 use Rattle.entities.specs.declared.EntityAnswer.the-variants.{Good as GoodEntity, Refused as RefusedEntity}
 use Rattle.entities.specs.Naming.{typesAt}
 use Rattle.entities.specs.Answers.{entityPassOf}
+use Rattle.entities.specs.Marks.{carriedIn}
+use Rattle.entities.specs.Walking.{carriedLength}
 use Rattle.entities.proofs.Entries.{entity-good, entity-refused}
 use Rattle.entities.proofs.Types.{types-listed}
 use Rattle.reading.specs.Checks.{delimited, recordAnswer, entityAt}
+use Rattle.reading.specs.Weights.{recordCarried}
 
 -- ---- its record
 
@@ -60,7 +63,11 @@ module _ (f : List ℕ) (c : Counts) (rd : Ready f c) where
     unfolding recordAnswer
     record-told list p d typ form first b y ef eb ey = rw (← em, ← el, ← en, ← types-are first b ef eb) ey
 
-pub ruleset records = (entries-inside, record-stands, record-told)
+    pub record-weighed : (p d k : ℕ) → k ≡ carriedLength (carriedIn (valuesAt 64 p d (textOf f (81 * l) 64 n) 0)) → k ≡ carriedLength (recordCarried f c p d (from .0) count)
+    unfolding recordCarried
+    record-weighed p d k ek = rw (← em, ← el, ← en) ek
+
+pub ruleset records = (entries-inside, record-stands, record-told, record-weighed)
 
 -- ---- its entry
 
@@ -93,5 +100,3 @@ module _ (list : ℕ) (f : List ℕ) (c : Counts) (p d : ℕ) (rd : Ready f c) (
     entity-refuses w g =
         ap (λ (q : ℕ). Refused w (fileLine q)) place
         ∙ sym (ap passOf (entity-refused list f c (delimited p d) (allTypes f c) (firstEntry c + 2 * i) (entryOf f c i) told g))
-
-pub ruleset ones = (entry-inside, pointer-some, pointer-stays, wrong-never, entity-passes, entity-refuses)

@@ -10,7 +10,7 @@ use Rattle.model.specs.Read.{GlobalRead, globalRead, Listed, firstEntry, entity
 use Rattle.passes.specs.Passes.{passOf}
 use Rattle.passes.specs.Listed.{entryOf, allEntries, allTypes}
 use Rattle.passes.specs.Walks.{firstOf}
-use Rattle.passes.proofs.Walks.{walk-on, walk-here, walk-end, walk-start, row-walk}
+use Rattle.passes.proofs.Walks.{walk-start, row-walk}
 use Rattle.reading.specs.Checks.{delimited, entityAt}
 
 module _ (list : ℕ) (f : List ℕ) (c : Counts) (p d : ℕ) where
@@ -28,5 +28,3 @@ module _ (list : ℕ) (f : List ℕ) (c : Counts) (p d : ℕ) where
 
   pub last-any : (g : GlobalRead) (es : List Listed) → g .parameter ≡ p → g .record-end ≡ d → lastPass list f c g es ≡ lastPass list f c (delimited p d) es
   last-any g es ep ed = ap₂ (λ (a b : ℕ). lastPass list f c (globalRead a b (g .fields)) es) ep ed ∙ fields-free es (g .fields)
-
-pub ruleset lasts = (last-start, walk-on, walk-here, walk-end)

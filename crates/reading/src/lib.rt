@@ -1,22 +1,34 @@
-// Reading: all checks of a file in the paper's order. `last_pass` reads the parameters of each entity in turn,
-// and `check` asks the list, all that is asked before, and the last pass.
+// Reading: all checks of a file in the paper's order. `last_pass` reads the parameters of each entity in turn, and measures its lines
+// in the sheet on the way; `weigh` asks the list, all that is asked before, and the last pass; `check` is its answer alone.
 use cards::Counts;
 use cards::LINE_BYTES;
+use columns::DirectoryNumber;
 use columns::Fault;
 use columns::FileLine;
 use columns::ParameterLine;
 use directory::EntryRead;
+use directory::Fields;
 use entities::EntityAnswer;
+use entities::Weighed;
 use passes::BeforeAnswer;
-use passes::Pass;
+use sheets::writing::put_last;
 ghost use mathlib.Core.Path.{_≡_};
-ghost use Prim.Native.Nat.{_+_, _^_, _<_, _≤_};
-ghost use Rattle.cards.specs.Cards.{entries};
+ghost use mathlib.Core.Bool.{false};
+ghost use mathlib.Core.List.{[], _∷_, _++_};
+ghost use Prim.Native.Nat.{_+_, _*_, _^_, _<_, _≤_};
+ghost use lib.ListN.{length};
+ghost use Rattle.cards.specs.Cards.{entries, entryLine};
+ghost use Rattle.directory.specs.Lines.{labelAt};
+ghost use Rattle.layouts.specs.Known.{known};
+ghost use Rattle.sheets.specs.Plain.{sized};
+ghost use Rattle.sheets.specs.Sheet.{Line, lineOf};
+ghost use Rattle.entities.specs.Walking.{carriedLength};
 ghost use Rattle.model.specs.Read.{lastPass};
 ghost use Rattle.passes.specs.Passes.{passOf};
 ghost use Rattle.passes.specs.Listed.{allEntries};
 ghost use Rattle.passes.specs.Ready.{Ready};
 ghost use Rattle.reading.specs.Checks.{delimited, recordAnswer, entityAt, checkOf};
+ghost use Rattle.reading.specs.Weights.{recordCarried, rowLength, rowsLength, answerRows, speltRows, rowsOf, weightOf, Few, Light};
 
 // What a file tells that passes all checks: its counts and delimiters; or its first refusal.
 pub enum Checked {
@@ -29,6 +41,26 @@ pub enum Checked {
         fault: Fault,
         line: FileLine,
     },
+}
+
+// The same, with the bytes of the sheet behind its G lines.
+pub enum Weight {
+    Good {
+        counts: Counts,
+        parameter: u8,
+        closing: u8,
+        rows: usize,
+    },
+    Refused {
+        fault: Fault,
+        line: FileLine,
+    },
+}
+
+// Entities that pass, and the bytes that they take in the sheet; or the first refusal.
+pub enum Rows {
+    Good(usize),
+    Refused { fault: Fault, line: FileLine },
 }
 
 fn wide(x: u32) -> usize
@@ -48,9 +80,10 @@ fn record_answer(
     form: u32,
     pointer: ParameterLine,
     lines: u32,
-) -> EntityAnswer
+) -> Weighed
     requires { ⌜ Ready (now file) c × (0 < parameter) × (0 < closing) × (1 ≤ pointer .0) × (pointer .0 + lines ≤ c .p + 1) ⌝ }
-    ensures { λ r. ⌜ r ≡ recordAnswer list (now (file .entry)) c parameter closing typ form (pointer .0) lines ⌝ }
+    ensures { λ r. ⌜ r .answer ≡ recordAnswer list (now (file .entry)) c parameter closing typ form (pointer .0) lines ⌝ }
+    ensures { λ r. ⌜ (r .length ≡ carriedLength (recordCarried (now (file .entry)) c parameter closing (pointer .0) lines)) × (r .length ≤ 70400 * lines) ⌝ }
 {
     let total = wide(c.d) / 2;
     let first = cards::entry_line(c, 0);
@@ -71,75 +104,130 @@ fn record_answer(
     )
 }
 
-// Entity i, whose place is its entry's first D line; its entry is spelt, as all are.
-fn entity_at(list: u64, file: &[u8], c: Counts, parameter: u8, closing: u8, i: usize) -> Pass
-    requires { ⌜ Ready (now file) c × (0 < parameter) × (0 < closing) × (i < entries c) ⌝ }
-    ensures { λ r. ⌜ r ≡ entityAt list (now (file .entry)) c parameter closing i ⌝ }
+// The directory number of entry i.
+fn number_of(i: usize) -> DirectoryNumber
+    requires { ⌜ i < 2 ^ 30 ⌝ }
+    ensures { λ r. ⌜ r .0 ≡ 2 * i + 1 ⌝ }
 {
-    let k = cards::entry_line(c, i);
-    let line = FileLine(k + 1);
-    let read = directory::lines::entry_at(file, k);
-    let EntryRead::Spelt {
-        fields,
-        pointer,
-        lines,
-    } = read
-    else {
-        return Pass::Good;
-    };
-    let entity = fields.entity;
-    let form = fields.form;
-    let answer = record_answer(
-        list,
-        file,
-        c,
-        parameter,
-        closing,
-        entity.size,
-        form.size,
-        pointer,
-        lines,
-    );
+    let n = i as u32;
+    DirectoryNumber(2 * n + 1)
+}
+
+// The bytes of the entry line of entry i, whose first D line is line k: written where there is no room for it, it is measured.
+fn head_len(list: u64, file: &[u8], k: usize, i: usize, x: Fields) -> usize
+    requires { ⌜ (81 * k + 162 ≤ length (now file)) × (i < 2 ^ 30) ⌝ }
+    ensures { λ r. ⌜ r ≡ length (lineOf (Line.entry (known list (x .entity .size) (x .form .size)) (sized false (2 * i + 1)) x (labelAt (now (file .entry)) k)) ++ (10 ∷ [])) ⌝ }
+    ensures { λ r. ⌜ r ≤ 388 ⌝ }
+{
+    let mut none = [0u8; 1];
+    let number = number_of(i);
+    printing::rows::put_entry_line(&mut none, 0, list, file, k, number, x)
+}
+
+// So many bytes, if the entity passes.
+fn rows_of(answer: EntityAnswer, length: usize, line: FileLine) -> Rows
+    ensures { λ r. ⌜ r ≡ answerRows answer length line ⌝ }
+{
     match answer {
-        EntityAnswer::Good => Pass::Good,
-        EntityAnswer::Refused(fault) => Pass::Refused { fault, line },
+        EntityAnswer::Good => Rows::Good(length),
+        EntityAnswer::Refused(fault) => Rows::Refused { fault, line },
     }
 }
 
-// The last pass: each entity in turn.
-pub fn last_pass(list: u64, file: &[u8], c: Counts, parameter: u8, closing: u8) -> Pass
+// Entry i, whose first D line is line k, with these fields and its record in so many P lines from its pointer on.
+fn row_at(
+    list: u64,
+    file: &[u8],
+    c: Counts,
+    parameter: u8,
+    closing: u8,
+    i: usize,
+    k: usize,
+    fields: Fields,
+    pointer: ParameterLine,
+    lines: u32,
+) -> Rows
+    requires { ⌜ Ready (now file) c × (0 < parameter) × (0 < closing) × (i < entries c) × (k ≡ entryLine c i) × (1 ≤ pointer .0) × (pointer .0 + lines ≤ c .p + 1) ⌝ }
+    ensures { λ r. ⌜ r ≡ speltRows list (now (file .entry)) c parameter closing i k fields (pointer .0) lines ⌝ }
+    ensures { λ r. ⌜ Few 15000000000 r ⌝ }
+{
+    let head = head_len(list, file, k, i, fields);
+    let typ = fields.entity.size;
+    let form = fields.form.size;
+    let weighed = record_answer(list, file, c, parameter, closing, typ, form, pointer, lines);
+    let answer = weighed.answer;
+    rows_of(answer, head + weighed.length, FileLine(k + 1))
+}
+
+// Entity i; its entry is spelt, as all are.
+fn entity_at(list: u64, file: &[u8], c: Counts, parameter: u8, closing: u8, i: usize) -> Rows
+    requires { ⌜ Ready (now file) c × (0 < parameter) × (0 < closing) × (i < entries c) ⌝ }
+    ensures { λ r. ⌜ r ≡ rowsOf (rowLength list (now (file .entry)) c parameter closing i) (entityAt list (now (file .entry)) c parameter closing i) ⌝ }
+    ensures { λ r. ⌜ Few 15000000000 r ⌝ }
+{
+    let k = cards::entry_line(c, i);
+    let read = directory::lines::entry_at(file, k);
+    match read {
+        EntryRead::Wrong => Rows::Good(0),
+        EntryRead::Spelt {
+            fields,
+            pointer,
+            lines,
+        } => row_at(
+            list,
+            file,
+            c,
+            parameter,
+            closing,
+            i,
+            k,
+            fields,
+            pointer,
+            lines,
+        ),
+    }
+}
+
+// The last pass: each entity in turn, and behind them the Z line.
+pub fn last_pass(list: u64, file: &[u8], c: Counts, parameter: u8, closing: u8) -> Rows
     requires { ⌜ Ready (now file) c × (0 < parameter) × (0 < closing) ⌝ }
-    ensures { λ r. ⌜ r ≡ passOf (lastPass list (now (file .entry)) c (delimited parameter closing) (allEntries (now (file .entry)) c)) ⌝ }
+    ensures { λ r. ⌜ r ≡ rowsOf (rowsLength list (now (file .entry)) c parameter closing) (passOf (lastPass list (now (file .entry)) c (delimited parameter closing) (allEntries (now (file .entry)) c))) ⌝ }
+    ensures { λ r. ⌜ Few (2 ^ 51) r ⌝ }
 {
     let n = wide(c.d) / 2;
     let mut i = 0;
+    let mut length = 0;
     while i < n {
         let found = entity_at(list, file, c, parameter, closing, i);
         match found {
-            Pass::Refused { fault, line } => {
-                return Pass::Refused { fault, line };
+            Rows::Refused { fault, line } => {
+                return Rows::Refused { fault, line };
             }
-            Pass::Good => {
+            Rows::Good(more) => {
+                length += more;
                 i += 1;
             }
         }
     }
-    Pass::Good
+    let mut none = [0u8; 1];
+    let end = put_last(&mut none, 0, n);
+    Rows::Good(length + end)
 }
 
-// All checks of a file under a list.
-pub fn check(list: u64, file: &[u8]) -> Checked
-    ensures { λ r. ⌜ r ≡ checkOf list (now (file .entry)) ⌝ }
+// All checks of a file under a list, and the bytes of its sheet behind the G lines.
+pub fn weigh(list: u64, file: &[u8]) -> Weight
+    ensures { λ r. ⌜ r ≡ weightOf list (now (file .entry)) (checkOf list (now (file .entry))) ⌝ }
+    ensures { λ r. ⌜ Light (2 ^ 51) r ⌝ }
 {
     if !layouts::list::is_list(list) {
-        return Checked::Refused {
+        return Weight::Refused {
             fault: Fault::ListOrLength,
             line: FileLine(0),
         };
     }
     let told = passes::before(file);
     match told {
-        BeforeAnswer::Refused { fault, line } => Checked::Refused { fault, line },
+        BeforeAnswer::Refused { fault, line } => Weight::Refused { fault, line },
         BeforeAnswer::Good {
             counts,
             parameter,
@@ -147,13 +235,34 @@ pub fn check(list: u64, file: &[u8]) -> Checked
         } => {
             let found = last_pass(list, file, counts, parameter, closing);
             match found {
-                Pass::Refused { fault, line } => Checked::Refused { fault, line },
-                Pass::Good => Checked::Good {
+                Rows::Refused { fault, line } => Weight::Refused { fault, line },
+                Rows::Good(rows) => Weight::Good {
                     counts,
                     parameter,
                     closing,
+                    rows,
                 },
             }
         }
+    }
+}
+
+// All checks of a file under a list.
+pub fn check(list: u64, file: &[u8]) -> Checked
+    ensures { λ r. ⌜ r ≡ checkOf list (now (file .entry)) ⌝ }
+{
+    let told = weigh(list, file);
+    match told {
+        Weight::Refused { fault, line } => Checked::Refused { fault, line },
+        Weight::Good {
+            counts,
+            parameter,
+            closing,
+            rows: _,
+        } => Checked::Good {
+            counts,
+            parameter,
+            closing,
+        },
     }
 }

@@ -7,6 +7,7 @@ pub mod Sound
 pub mod Complete
 pub mod Exactly
 pub mod Reading
+pub mod Records
 pub mod Answered
 pub mod ReadingAnswers
 pub mod WritingAnswers

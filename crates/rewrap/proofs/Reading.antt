@@ -1,10 +1,11 @@
 -- A file that passes all checks: its parts stand in it, and what is printed of it is its sheet. Assumes nothing.
 use mathlib.Core.Path.{_≡_, refl, sym, ap, ap₂, _∙_}
-use mathlib.Core.Bool.{Bool}
+use mathlib.Core.Bool.{Bool, true, false}
 use mathlib.Core.List.{List, map}
-use Prim.Native.Nat.{ℕ, zero, suc, _+_, _-_, _*_, _/_, _≤_, _<_}
+use Prim.Native.Nat.{ℕ, zero, suc, _+_, _-_, _*_, _/_, _^_, _≤_, _<_}
+use native.Mathlib.Nat.{zero-add}
 use native.Mathlib.Omega.{arith}
-use lib.ListN.{length}
+use lib.ListN.{length, length-append}
 use Rattle.columns.specs.Columns.{textOf}
 use Rattle.columns.specs.First.{upFrom}
 use Rattle.columns.specs.Laid.{Wrote}
@@ -14,21 +15,23 @@ use Rattle.cards.specs.declared.Counts.{Counts}
 use Rattle.cards.specs.Cards.{firstD, firstP, entries, parameterLine}
 use Rattle.records.specs.declared.Opening.{Opening}
 use Rattle.records.specs.declared.Opening.the-variants.{Opened, Wrong}
-use Rattle.records.specs.Global.{openingOf}
+use Rattle.records.specs.Record.{valuesAt}
+use Rattle.records.specs.Global.{firstField, openingOf}
 use Rattle.records.specs.Reading.{Stands, Delimits}
 use Rattle.records.proofs.Globals.{opening-in}
 use Rattle.sheets.specs.Sheet.{sheetText}
 use Rattle.model.specs.Model.{Carried, sheetOf}
-use Rattle.model.specs.Read.{GlobalRead, globalText, byOpening, globalIn, lastPass, modelWith, reads}
+use Rattle.model.specs.Read.{GlobalRead, startText, given, globalText, byOpening, globalIn, lastPass, modelWith, reads}
 use Rattle.passes.specs.Listed.{entryOf, entriesFrom, allEntries}
 use Rattle.passes.specs.Ready.{Ready}
 use Rattle.passes.proofs.Facts.{entered}
 use Rattle.passes.proofs.Whole.{good-entries}
 use Rattle.reading.specs.declared.Checked.the-variants.{Good}
 use Rattle.reading.specs.Checks.{carriedOf, checkOf}
+use Rattle.reading.specs.Weights.{rowsFrom, rowsLength}
 use Rattle.reading.proofs.Last.{last-any}
 use Rattle.reading.proofs.Facts.{Modelled, checked-model, checked-passed, checked-ready, checked-parameter, checked-closing, checked-sheet}
-use Rattle.printing.specs.Bytes.{globalBytes}
+use Rattle.printing.specs.Bytes.{startBytes, globalBytes, valuesIn}
 use Rattle.printing.specs.Whole.{fieldBytes, wholeBytes}
 use Rattle.printing.proofs.Listed.{Roomy}
 use Rattle.printing.proofs.Demand.{whole-sheet}
@@ -117,9 +120,8 @@ module _ (list : ℕ) (f : List ℕ) (c : Counts) (p d : ℕ) (h : Good c p d �
         let z : _≡_ {A = ℕ} 0 1 = cc in
         absurd (omega arith)
 
-    pub sheet-whole : (b q x y next : ℕ) (last : Bool) (u v : List ℕ) (at r : ℕ) → b ≡ c .d → q ≡ parameterLine c 1 → o ≡ Opened x y next last
-        → Wrote u at (wholeBytes list f s g (b / 2) q p d next last) v r → Wrote u at (sheetIn list f) v r
-    sheet-whole b q x y next last u v at r eb eq e w =
+    whole-is : (b q x y next : ℕ) (last : Bool) → b ≡ c .d → q ≡ parameterLine c 1 → o ≡ Opened x y next last → wholeBytes list f s g (b / 2) q p d next last ≡ sheetIn list f
+    whole-is b q x y next last eb eq e =
         let t : List ℕ = globalText f c in
         let a = opened-read c t x y next said last (opening-says (Opened x y next last) (opening-is ∙ e)) in
         let fields : fieldBytes (said .parameter) (said .record-end) t next last ≡ globalBytes (said .fields) = ap₂ (λ (i j : ℕ). fieldBytes i j t next last) (a .0) (a .1) ∙ a .2 in
@@ -129,6 +131,57 @@ module _ (list : ℕ) (f : List ℕ) (c : Counts) (p d : ℕ) (h : Good c p d �
         = roomy f c ready list (said .parameter) (said .record-end) (entries c) 0 (omega arith) in
         let same : wholeBytes list f s g (b / 2) q p d next last ≡ wholeBytes list f (c .s) (c .g) (entries c) (firstP c) (said .parameter) (said .record-end) next last
         = whole-same list f next last es eg (ap (λ (j : ℕ). j / 2) eb) (omega arith) (sym (model .told .parameter)) (sym (model .told .closing)) in
-        wrote-same w (same ∙ whole-sheet list f c said (allEntries f c) carry next last (good-entries f c (ready .spelt)) passes room fields ∙ sym sheet-is)
+        same ∙ whole-sheet list f c said (allEntries f c) carry next last (good-entries f c (ready .spelt)) passes room fields ∙ sym sheet-is
+
+    pub sheet-whole : (b q x y next : ℕ) (last : Bool) (u v : List ℕ) (at r : ℕ) → b ≡ c .d → q ≡ parameterLine c 1 → o ≡ Opened x y next last
+        → Wrote u at (wholeBytes list f s g (b / 2) q p d next last) v r → Wrote u at (sheetIn list f) v r
+    sheet-whole b q x y next last u v at r eb eq e w = wrote-same w (whole-is b q x y next last eb eq e)
+
+    -- ---- how long it is
+
+    pub measured-never : (k : ℕ) → o ≡ Wrong → 0 ≡ k
+    measured-never k e =
+        let q : byOpening c (globalText f c) Wrong ≡ accepted said = opening-says Wrong (opening-is ∙ e) in
+        let z : _≡_ {A = ℕ} 0 1 = cc in
+        absurd (omega arith)
+
+    whole-length : (next : ℕ) (last : Bool) → length (wholeBytes list f s g (entries c) (firstP c) p d next last)
+        ≡ length (startBytes (map (startText f) (upFrom 0 s))) + (length (fieldBytes p d (textOf f (81 * s) 72 g) next last) + rowsLength list f c p d)
+    unfolding wholeBytes rowsFrom
+    whole-length next last = rw (es, eg) (simp length-append (omega arith))
+
+    pub measured : (x y next : ℕ) (last : Bool) (a k n : ℕ) {u v : List ℕ} → o ≡ Opened x y next last → Wrote u 0 (startBytes (map (startText f) (upFrom 0 s))) v a
+        → k ≡ length (fieldBytes p d (textOf f (81 * s) 72 g) next last) → n ≡ rowsLength list f c p d → a + k + n ≡ length (sheetIn list f)
+    measured x y next last a k n e w ek en =
+        let t : length (wholeBytes list f s g (entries c) (firstP c) p d next last) ≡ length (sheetIn list f) = ap length (whole-is (c .d) (firstP c) x y next last refl (omega arith) e) in
+        omega (arith, whole-length next last, w .next)
+
+  module _ (s g : ℕ) (es : s ≡ c .s) (eg : g ≡ c .g) where
+    pub starts-inside : 81 * s ≤ length f
+    starts-inside = omega (arith, ready .holds .size)
+
+    pub starts-few : s ≤ 200000
+    starts-few = omega (arith, ready .holds .most)
+
+    pub two-fit : (a k : ℕ) → a ≤ 0 + 75 * s → k ≤ 79200 * g → a + k < 2 ^ 64
+    two-fit a k l m = omega (arith, ready .holds .most)
+
+    pub three-fit : (a k n : ℕ) → a ≤ 0 + 75 * s → k ≤ 79200 * g → n ≤ 2 ^ 51 → a + k + n < 2 ^ 64
+    three-fit a k n l m h = omega (arith, ready .holds .most)
+
+-- ---- the G lines, measured
+
+module _ (p d : ℕ) (t : List ℕ) (from : ℕ) (last : Bool) where
+  pub fields-none : last ≡ true → 0 ≡ length (fieldBytes p d t from last)
+  unfolding fieldBytes
+  fields-none e = rw e
+
+  pub fields-some : {u v : List ℕ} {r : ℕ} → last ≡ false → Wrote u 0 (globalBytes (given firstField (valuesIn (valuesAt 72 p d t from)))) v r → r ≡ length (fieldBytes p d t from last)
+  unfolding fieldBytes
+  fields-some e w = rw e (w .next ∙ zero-add _)
+
+pub ruleset fielding = (fields-none, fields-some)
+
+pub ruleset measures = (file-small, opening-stands, opening-within, parameter-some, closing-some, measured-never, measured, starts-inside, starts-few, two-fit, three-fit)
 
 pub ruleset sheets = (file-small, opening-stands, sheet-inside, first-small, opening-within, parameter-some, closing-some, opening-never, sheet-whole, wrote-length)

@@ -1,5 +1,5 @@
 -- The answer of reading into a buffer, and what is left in it. Assumes nothing.
-use mathlib.Core.Path.{_≡_, sym, _∙_}
+use mathlib.Core.Path.{_≡_, refl}
 use mathlib.Core.List.{List}
 use Prim.Native.Nat.{ℕ, _≤_, _<_}
 use lib.ListN.{length}
@@ -11,20 +11,23 @@ use Rattle.columns.specs.Refusal.{accepted, refused, number}
 use Rattle.columns.proofs.Writes.{wrote-length}
 use Rattle.cards.specs.declared.Counts.{Counts}
 use Rattle.model.specs.Read.{reads}
-use Rattle.reading.specs.declared.Checked.{Checked}
 use Rattle.reading.specs.declared.Checked.the-variants.{Good, Refused}
+use Rattle.reading.specs.declared.Weight.{Weight}
+use Rattle.reading.specs.declared.Weight.the-variants.{Good as GoodWeight, Refused as RefusedWeight}
 use Rattle.reading.specs.Checks.{checkOf}
+use Rattle.reading.specs.Weights.{rowsLength, weightOf, Light}
 use Rattle.reading.proofs.Facts.{checked-no-sheet}
+use Rattle.reading.proofs.Weights.{weight-refused, weight-good, weight-rows, weight-few}
 use Rattle.rewrap.specs.declared.Answer.{Answer}
 use Rattle.rewrap.specs.Answers.{answer, answerOf, leftIn, readsInto}
 use Rattle.rewrap.specs.Reading.{sheetIn}
 use Rattle.rewrap.proofs.Answered as answered
 use Rattle.rewrap.proofs.Reading.{reads-sheet}
 
-module _ (list : ℕ) (f o : List ℕ) (r : Checked) (er : r ≡ checkOf list f) where
-  module _ (n : Fault) (l : FileLine) (e : r ≡ Refused n l) where
+module _ (list : ℕ) (f o : List ℕ) (r : Weight) (er : r ≡ weightOf list f (checkOf list f)) where
+  module _ (n : Fault) (l : FileLine) (e : r ≡ RefusedWeight n l) where
     refuses : reads list f ≡ refused n (l .0)
-    refuses = checked-no-sheet list f r er n l e
+    refuses = checked-no-sheet list f (Refused n l) (weight-refused list f er n l e) n l refl
 
     pub refused-answer : (y : Answer) → y ≡ answer (number n) (l .0) 0 → y ≡ answerOf (readsInto list f (length o))
     unfolding readsInto
@@ -34,9 +37,15 @@ module _ (list : ℕ) (f o : List ℕ) (r : Checked) (er : r ≡ checkOf list f)
     unfolding readsInto
     refused-left = answered.refused-left (reads list f) o n (l .0) refuses
 
-  module _ (c : Counts) (p d : ℕ) (e : r ≡ Good c p d) where
+  module _ (c : Counts) (p d rows : ℕ) (e : r ≡ GoodWeight c p d rows) where
     pub good-here : Good c p d ≡ checkOf list f
-    good-here = sym e ∙ er
+    good-here = weight-good list f er c p d rows e
+
+    pub rows-here : rows ≡ rowsLength list f c p d
+    rows-here = weight-rows list f er c p d rows e
+
+    pub rows-few : (m : ℕ) → Light m r → rows ≤ m
+    rows-few m h = weight-few list f er c p d rows e m h
 
     accepts : reads list f ≡ accepted (sheetIn list f)
     accepts = reads-sheet list f c p d good-here
@@ -59,4 +68,4 @@ module _ (list : ℕ) (f o : List ℕ) (r : Checked) (er : r ≡ checkOf list f)
         unfolding readsInto
         good-left = answered.whole-left (reads list f) o (sheetIn list f) accepts k ek h o′ t w
 
-pub ruleset readings = (refused-answer, refused-left, good-here, short-answer, short-left, good-answer, good-left, wrote-length)
+pub ruleset readings = (refused-answer, refused-left, good-here, rows-here, rows-few, short-answer, short-left, good-answer, good-left, wrote-length)

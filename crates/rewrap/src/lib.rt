@@ -7,7 +7,7 @@ use canonical::Lines;
 use columns::Fault;
 use columns::ParameterLine;
 use directory::Entry;
-use reading::Checked;
+use reading::Weight;
 use writing::Ruled;
 ghost use mathlib.Core.Path.{_≡_};
 ghost use lib.ListN.{length};
@@ -34,15 +34,16 @@ pub fn read(list: u64, file: &[u8], out: &mut [u8]) -> Answer
     ensures { λ r. ⌜ r ≡ answerOf (readsInto list (now (file .entry)) (length (now (out .entry)))) ⌝ }
     ensures { λ r. ⌜ now (out .exit) ≡ leftIn (now (out .entry)) (readsInto list (now (file .entry)) (length (now (out .entry)))) ⌝ }
 {
-    let told = reading::check(list, file);
+    let told = reading::weigh(list, file);
     match told {
-        Checked::Refused { fault, line } => answers::refusal(fault, line.0),
-        Checked::Good {
+        Weight::Refused { fault, line } => answers::refusal(fault, line.0),
+        Weight::Good {
             counts,
             parameter,
             closing,
+            rows,
         } => {
-            let length = sheet::measure(list, file, counts, parameter, closing);
+            let length = sheet::measure(list, file, counts, parameter, closing, rows);
             if out.len() < length {
                 return answers::refusal(Fault::Room, 0);
             }

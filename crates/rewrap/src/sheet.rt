@@ -3,11 +3,15 @@ use cards::Counts;
 use cards::LINE_BYTES;
 use records::Opening;
 ghost use mathlib.Core.Path.{_≡_};
-ghost use Prim.Native.Nat.{_^_, _<_};
+ghost use Prim.Native.Nat.{_*_, _^_, _≤_, _<_};
 ghost use lib.ListN.{length};
+ghost use Rattle.columns.specs.Columns.{textOf};
 ghost use Rattle.columns.specs.Laid.{Wrote};
+ghost use Rattle.records.specs.Reading.{Stands};
+ghost use Rattle.printing.specs.Whole.{fieldBytes};
 ghost use Rattle.reading.specs.declared.Checked.the-variants.{Good};
 ghost use Rattle.reading.specs.Checks.{checkOf};
+ghost use Rattle.reading.specs.Weights.{rowsLength};
 ghost use Rattle.rewrap.specs.Reading.{sheetIn};
 
 fn wide(x: u32) -> usize
@@ -58,11 +62,47 @@ pub fn put_file(
     )
 }
 
-// How long the sheet is: written where there is no room for it, it is measured.
-pub fn measure(list: u64, file: &[u8], c: Counts, parameter: u8, closing: u8) -> usize
-    requires { ⌜ Good c parameter closing ≡ checkOf list (now file) ⌝ }
+// How long the G lines are: none if the record ends with its opening. Written where there is no room for them, they are measured.
+fn fields_len(
+    file: &[u8],
+    base: usize,
+    lines: usize,
+    c: u8,
+    d: u8,
+    from: usize,
+    last: bool,
+) -> usize
+    requires { ⌜ Stands (now file) base 72 lines × (from ≤ lines * 72) × (0 < c) × (0 < d) ⌝ }
+    ensures { λ r. ⌜ r ≡ length (fieldBytes c d (textOf (now (file .entry)) base 72 lines) from last) ⌝ }
+    ensures { λ r. ⌜ r ≤ 79200 * lines ⌝ }
+{
+    if last {
+        return 0;
+    }
+    let mut none = [0u8; 1];
+    printing::globals::put_globals(&mut none, 0, file, base, lines, c, d, from)
+}
+
+// How long the sheet is, what stands behind its G lines taking so many bytes.
+pub fn measure(list: u64, file: &[u8], c: Counts, parameter: u8, closing: u8, rows: usize) -> usize
+    requires { ⌜ (Good c parameter closing ≡ checkOf list (now file)) × (rows ≡ rowsLength list (now file) c parameter closing) × (rows ≤ 2 ^ 51) ⌝ }
     ensures { λ r. ⌜ r ≡ length (sheetIn list (now (file .entry))) ⌝ }
 {
+    let s = wide(c.s);
+    let g = wide(c.g);
+    let base = LINE_BYTES * s;
+    let opening = records::global::opening_of(file, base, g);
+    let Opening::Opened {
+        parameter: _,
+        record: _,
+        next,
+        last,
+    } = opening
+    else {
+        return 0;
+    };
     let mut none = [0u8; 1];
-    put_file(&mut none, list, file, c, parameter, closing)
+    let starts = printing::starts::put_starts(&mut none, 0, file, s);
+    let fields = fields_len(file, base, g, parameter, closing, next, last);
+    starts + fields + rows
 }

@@ -1,6 +1,6 @@
 -- The entry that stands there tells where its record is; what is refused has its place.
 use borrow.Author.Needs.{needs}
-use Rattle.reading.proofs.Entity.{ones}
+use Rattle.reading.proofs.Weighing.{ones}
 use Rattle.reading.proofs.entity_at.Statement.{statement}
 use Rattle.reading.proofs.entity_at.Tie as tie
 
@@ -9,13 +9,9 @@ entity-at-spec =
     tie.close
     (tie.spec
     (λ c κs. search (needs, ones))
-    (λ c. search (needs, ones))
     (λ c κs. search (needs, ones))
     (λ c. search (needs, ones))
     (λ c. search (needs, ones))
-    (λ c. search (needs, ones))
     (λ c κs. search (needs, ones))
-    (λ c. search (needs, ones))
-    (λ c. search (needs, ones))
     (λ c. search (needs, ones))
     (λ c. search (needs, ones)))

@@ -1,21 +1,22 @@
--- What is left of the entities has the answer of all.
+-- What is left of the entities has the answer of all, and the bytes so far with theirs are the bytes of all.
 use mathlib.Core.Path.{_≡_}
-use Prim.Native.Nat.{_-_, _≤_}
+use Prim.Native.Nat.{_+_, _-_, _*_, _≤_}
 use Rattle.model.specs.Read.{lastPass}
 use Rattle.passes.specs.Passes.{passOf}
 use Rattle.passes.specs.Listed.{allEntries}
 use Rattle.passes.specs.Walks.{firstOf}
 use Rattle.reading.specs.Checks.{delimited, entityAt}
+use Rattle.reading.specs.Weights.{rowsFrom, rowsLength}
 use borrow.Author.Needs.{needs}
-use Rattle.reading.proofs.Last.{lasts}
+use Rattle.reading.proofs.Weights.{lasts}
 use Rattle.reading.proofs.last_pass.Statement.{statement}
 use Rattle.reading.proofs.last_pass.Tie as tie
 
 abbrev Inv-loop : tie.InvT-loop
-Inv-loop list file c parameter closing n i₀ i = (i ≤ n) × (firstOf (entityAt list file c parameter closing) i (n - i) ≡ passOf (lastPass list file c (delimited parameter closing) (allEntries file c)))
+Inv-loop list file c parameter closing n i₀ length₀ i length = (i ≤ n) × (firstOf (entityAt list file c parameter closing) i (n - i) ≡ passOf (lastPass list file c (delimited parameter closing) (allEntries file c))) × (length + rowsFrom list file c parameter closing i (n - i) ≡ rowsLength list file c parameter closing) × (length ≤ 15000000000 * i)
 
 abbrev μ-loop : tie.MeasureT-loop
-μ-loop list file c parameter closing n i₀ i = n - i
+μ-loop list file c parameter closing n i₀ length₀ i length = n - i
 
 pub last-pass-spec : {M : Type 1} → statement M
 last-pass-spec =
@@ -31,5 +32,9 @@ last-pass-spec =
     (λ c. search (needs, lasts))
     (λ c. search (needs, lasts))
     (λ c. search (needs, lasts))
+    (λ c. search (needs, lasts))
+    (λ c. search (needs, lasts))
+    (λ c. search (needs, lasts))
+    (λ c κs. search (needs, lasts))
     (λ c. search (needs, lasts))
     (λ c. search (needs, lasts)))

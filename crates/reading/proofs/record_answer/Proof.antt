@@ -15,4 +15,4 @@ record-answer-spec =
     (λ c. search (needs, records))
     (λ c κs. search (needs, records))
     (λ c κs. search (needs, records))
-    (λ c. search (needs, records)))
+    (λ c. (search (needs, records), (search (needs, records), search (needs, records)))))

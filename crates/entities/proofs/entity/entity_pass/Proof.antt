@@ -1,6 +1,6 @@
--- The checks in their order; the kept values behind the first are those that the layout must see.
+-- The first value by itself, the others by the walk: a refusal of any of them goes before all else.
 use borrow.Author.Needs.{needs}
-use Rattle.entities.proofs.Passes.{passes}
+use Rattle.entities.proofs.Weighing.{passes}
 use Rattle.entities.proofs.entity.entity_pass.Statement.{statement}
 use Rattle.entities.proofs.entity.entity_pass.Tie as tie
 
@@ -13,11 +13,13 @@ entity-pass-spec =
     (λ c. search (needs, passes))
     (λ c κs. search (needs, passes))
     (λ c κs. search (needs, passes))
-    (λ c. search (needs, passes))
+    (λ c κs. search (needs, passes))
+    (λ c κs. search (needs, passes))
+    (λ c. (search (needs, passes), (search (needs, passes), search (needs, passes))))
     (λ c κs. search (needs, passes))
     (λ c. search (needs, passes))
     (λ c. search (needs, passes))
     (λ c κs. search (needs, passes))
-    (λ c κs. search (needs, passes))
-    (λ c. search (needs, passes))
-    (λ c. search (needs, passes)))
+    (λ c. (search (needs, passes), (search (needs, passes), search (needs, passes))))
+    (λ c. (search (needs, passes), (search (needs, passes), search (needs, passes))))
+    (λ c. (search (needs, passes), (search (needs, passes), search (needs, passes)))))

@@ -18,6 +18,6 @@ put-spelt-spec =
     (λ c. search (needs, row))
     (λ c. search (needs, row))
     (λ c κs. search (needs, row))
-    (λ c κs. search (needs, row))
+    (λ c κs. (search (needs, row), search needs, search needs, search needs, search needs, search needs, search (needs, row)))
     (λ c. search (needs, row))
     (λ c. search (needs, row)))

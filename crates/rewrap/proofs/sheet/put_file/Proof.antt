@@ -1,6 +1,7 @@
 -- The opening of a file that was accepted is there, and what is printed behind it is its sheet.
 use borrow.Author.Needs.{needs}
 use Rattle.rewrap.proofs.Reading.{sheets}
+use Rattle.rewrap.proofs.Records.{records-read}
 use Rattle.rewrap.proofs.sheet.put_file.Statement.{statement}
 use Rattle.rewrap.proofs.sheet.put_file.Tie as tie
 
@@ -17,6 +18,6 @@ put-file-spec =
     (λ c. search (needs, sheets))
     (λ c. search (needs, sheets))
     (λ c. search (needs, sheets))
-    (λ c κs. search (needs, sheets))
+    (λ c κs. search (needs, sheets, records-read))
     (λ c. search (needs, sheets))
     (λ c. search (needs, sheets)))

@@ -1,0 +1,14 @@
+-- By whether the value is a default.
+use borrow.Author.Needs.{needs}
+use Rattle.entities.proofs.Walks.{afters}
+use Rattle.entities.proofs.walking.owed_after.Statement.{statement}
+use Rattle.entities.proofs.walking.owed_after.Tie as tie
+
+pub owed-after-spec : {M : Type 1} → statement M
+owed-after-spec =
+    tie.close
+    (tie.spec
+    (λ c κs. search (needs, afters))
+    (λ c. search (needs, afters))
+    (λ c. search (needs, afters))
+    (λ c. search (needs, afters)))

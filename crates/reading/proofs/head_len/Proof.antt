@@ -1,0 +1,14 @@
+-- Where there is no room for the line, the place behind it is its length.
+use borrow.Author.Needs.{needs}
+use Rattle.reading.proofs.Weighing.{heads}
+use Rattle.reading.proofs.head_len.Statement.{statement}
+use Rattle.reading.proofs.head_len.Tie as tie
+
+pub head-len-spec : {M : Type 1} → statement M
+head-len-spec =
+    tie.close
+    (tie.spec
+    (λ c κs. search (needs, heads))
+    (λ c. search (needs, heads))
+    (λ c κs. search (needs, heads))
+    (λ c. search (needs, heads)))
