@@ -2,6 +2,7 @@ pub mod Filed
 pub mod Lined
 pub mod Ended
 pub mod Said
+pub mod Spelled
 pub mod Valued
 pub mod Tailed
 pub mod Blocked

@@ -113,13 +113,6 @@ module _ (t : List ℕ) (at end : ℕ) (lo : at ≤ end) (hi : end ≤ length t)
   rest-long : (k : ℕ) → length (drop k line) ≡ end - (at + k)
   rest-long k = length-drop k line ∙ omega (arith, length-columns t at end lo hi)
 
-  pub value-writable : {reference : Bool} {v : Value} → x ≡ Given reference v → Writable (end - (at + 2)) v
-  value-writable {reference} {v} q =
-      let s : Strictly line (Given reference v) = rw (sym e ∙ q) at (says-strictly line) in
-      let i : Within (end - at) (Given reference v) = rw q at w in
-      let k : end - at - 2 ≡ end - (at + 2) = omega arith in
-      writable (end - (at + 2)) (drop 2 line) v (sym (rest-long 2)) (sound (drop 2 line) s .fine) (rw k at (i .1))
-
   pub global-writable : {n k : ℕ} {v : Value} → x ≡ Global n k v → Writable (end - (at + k)) v
   global-writable {n} {k} {v} q =
       let s : Strictly line (Global n k v) = rw (sym e ∙ q) at (says-strictly line) in

@@ -1,32 +1,35 @@
 -- The value lines of a sheet from a place on, one by one, and their values into a record. Assumes nothing.
 use mathlib.Core.Path.{_≡_, refl, sym, ap, _∙_}
-use mathlib.Core.Bool.{Bool, false}
+use mathlib.Core.Bool.{Bool, true, false}
 use mathlib.Core.List.{List, [], _∷_}
 use Prim.Native.Nat.{ℕ, _+_, _-_, _^_, _≤_, _<_}
 use native.Mathlib.Omega.{arith}
-use lib.ListN.{length, take, drop, length-take, length-drop}
-use Rattle.columns.specs.declared.Signed.{Signed}
+use lib.ListN.{length, getD, take, drop}
+use lib.Dec.{eqb}
+use borrow.Author.Tests.{not-true, not-false}
 use Rattle.columns.specs.Columns.{columns}
 use Rattle.values.specs.declared.Value.{Value}
+use Rattle.values.specs.declared.Strict.{Strict}
+use Rattle.values.specs.declared.Strict.the-variants.{Is, Not}
 use Rattle.values.specs.Value.{itemOf}
+use Rattle.values.specs.Strict.{strictOf}
 use Rattle.records.specs.Flow.{piece}
-use Rattle.records.specs.Reading.{Writable}
 use Rattle.records.specs.Written.{Put}
 use Rattle.records.proofs.Puts.{Owed, owed-all, owed-none, put-length}
-use Rattle.directory.specs.declared.Fields.{Fields}
 use Rattle.sheets.specs.declared.Said.{Said}
 use Rattle.sheets.specs.declared.Said.the-variants.{Start, Global, Entry, Value as Given, Last, Nothing}
 use Rattle.sheets.specs.Line.{run}
-use Rattle.sheets.specs.Sheet.{Line, start, value, last, none, lineFrom, saysOf, lastPiece, linesIn}
-use Rattle.sheets.specs.Reading.{Within}
+use Rattle.sheets.specs.Sheet.{Line, value, lineFrom, isValue, saysOf, lastPiece, linesIn}
+use Rattle.sheets.specs.Reading.{NoValue}
 use Rattle.sheets.proofs.Walk.{line-says, lines-first}
+use Rattle.sheets.proofs.Valued.{no-value, value-long, value-given, value-not}
 use Rattle.rows.specs.Rows.{valuesFirst}
 use Rattle.blocks.specs.declared.ValueLine.{ValueLine}
 use Rattle.blocks.specs.declared.ValueLine.the-variants.{Here, Other}
 use Rattle.blocks.specs.Blocks.{itemsFirst, behindValues}
 use Rattle.blocks.specs.Writing.{parted, ValueStands, ValuesEnd, ValueAt}
 use Rattle.blocks.proofs.Ended.{parted-next}
-use Rattle.blocks.proofs.Said.{value-writable, line-part, lines-whole}
+use Rattle.blocks.proofs.Said.{line-part, lines-whole}
 
 -- ---- a line
 
@@ -42,53 +45,65 @@ unfolding lastPiece valuesFirst behindValues
 piece-ends [] = (refl, refl)
 piece-ends (b ∷ bs) = (refl, refl)
 
+-- a line that says no value ends them
+line-ends : (l : List ℕ) (x : Said) (ls : List Line) → NoValue x → Ends (lineFrom l x ∷ ls)
+unfolding valuesFirst behindValues
+line-ends l Start ls h = (refl, refl)
+line-ends l (Global n k v) ls h = (refl, refl)
+line-ends l (Entry known n f) ls h = (refl, refl)
+line-ends l (Given reference v) ls h = absurd h
+line-ends l (Last n) ls h = (refl, refl)
+line-ends l (Nothing b) ls h = (refl, refl)
+
+strict-part : (t : List ℕ) (from end : ℕ) {v : Value} → strictOf (columns t from end) ≡ Is v → strictOf (take (end - from) (drop from t)) ≡ Is v
+unfolding columns
+strict-part t from end e = e
+
 module _ (t : List ℕ) (at end : ℕ) (run-is : end ≡ at + run 10 (drop at t)) where
   pub value-none : end ≡ length t → ValuesEnd t at
   value-none h = ends-at t at (lines-whole t at end run-is h) (piece-ends (drop at t))
 
-  module _ (lo : at ≤ end) (hi : end ≤ length t) (h : end ≡ length t → ⊥) (x : Said) (e : x ≡ saysOf (columns t at end)) where
-    lines-are : (i : Line) → lineFrom (columns t at end) x ≡ i → linesIn (drop at t) ≡ i ∷ linesIn (drop (end + 1) t)
-    lines-are i q =
+  module _ (lo : at ≤ end) (hi : end ≤ length t) (h : end ≡ length t → ⊥) where
+    lines-are : (x : Said) → x ≡ saysOf (columns t at end) → linesIn (drop at t) ≡ lineFrom (columns t at end) x ∷ linesIn (drop (end + 1) t)
+    lines-are x e =
         let k : end < length t = omega arith in
-        lines-first t at end lo k run-is ∙ ap (λ (j : Line). j ∷ linesIn (drop (end + 1) t)) (line-says (columns t at end) x e ∙ q)
+        lines-first t at end lo k run-is ∙ ap (λ (j : Line). j ∷ linesIn (drop (end + 1) t)) (line-says (columns t at end) x e)
 
-    pub value-here : {reference : Bool} {v : Value} → Within (end - at) x → x ≡ Given reference v → ValueStands t at (at + 2) end v
-    unfolding valuesFirst behindValues
-    value-here {reference} {v} w q =
-        let i : Within (end - at) (Given reference v) = rw q at w in
-        let ls : linesIn (drop at t) ≡ value reference (itemOf (take (end - (at + 2)) (drop (at + 2) t)) v) ∷ linesIn (drop (end + 1) t)
-        = lines-are (value reference (itemOf (take (end - (at + 2)) (drop (at + 2) t)) v))
-        (ap (lineFrom (columns t at end)) q ∙ ap (λ (l : List ℕ). value reference (itemOf l v)) (line-part t at 2 end)) in
-        record {
-          low = omega arith;
-          inside = omega arith;
-          high = omega arith;
-          writable = value-writable t at end lo hi x e w q;
-          values = ap itemsFirst ls;
-          behind = ap behindValues ls;
-        }
+    none-here : (x : Said) → x ≡ saysOf (columns t at end) → NoValue x → ValuesEnd t at
+    none-here x e n = ends-at t at (lines-are x e) (line-ends (columns t at end) x (linesIn (drop (end + 1) t)) n)
 
-    pub start-here : x ≡ Start → ValuesEnd t at
-    unfolding valuesFirst behindValues
-    start-here q = ends-at t at (lines-are (start (drop 2 (columns t at end))) (ap (lineFrom (columns t at end)) q)) (refl, refl)
+    module _ (b : Bool) (eb : b ≡ isValue (columns t at end)) where
+      pub other-here : b ≡ false → ValuesEnd t at
+      other-here q = none-here (saysOf (columns t at end)) refl (no-value t at end b eb q)
 
-    pub global-here : {n k : ℕ} {v : Value} → x ≡ Global n k v → ValuesEnd t at
-    unfolding valuesFirst behindValues
-    global-here {n} {k} {v} q = ends-at t at (lines-are (lineFrom (columns t at end) (Global n k v)) (ap (lineFrom (columns t at end)) q)) (refl, refl)
+      module _ (yes-is : b ≡ true) (x : Strict) (ex : x ≡ strictOf (columns t (at + 2) end)) where
+        long : at + 2 ≤ end
+        long = value-long t at end b eb lo hi yes-is
 
-    pub entry-here : {known : Bool} {n : Signed} {f : Fields} → x ≡ Entry known n f → ValuesEnd t at
-    unfolding valuesFirst behindValues
-    entry-here {known} {n} {f} q = ends-at t at (lines-are (lineFrom (columns t at end) (Entry known n f)) (ap (lineFrom (columns t at end)) q)) (refl, refl)
+        pub not-here : x ≡ Not → ValuesEnd t at
+        not-here q = none-here (Nothing true) (sym (value-not t at end b eb long yes-is x ex q)) tt
 
-    pub last-here : {n : ℕ} → x ≡ Last n → ValuesEnd t at
-    unfolding valuesFirst behindValues
-    last-here {n} q = ends-at t at (lines-are (last n) (ap (lineFrom (columns t at end)) q)) (refl, refl)
+        pub value-here : {v : Value} → x ≡ Is v → ValueStands t at (at + 2) end v
+        unfolding valuesFirst behindValues
+        value-here {v} q =
+            let reference : Bool = eqb (getD t at 0) 82 in
+            let ls : linesIn (drop at t) ≡ value reference (itemOf (take (end - (at + 2)) (drop (at + 2) t)) v) ∷ linesIn (drop (end + 1) t)
+            = lines-are (Given reference v) (sym (value-given t at end b eb long yes-is x ex v q))
+            ∙ ap (λ (l : List ℕ). value reference (itemOf l v) ∷ linesIn (drop (end + 1) t)) (line-part t at 2 end) in
+            record {
+              low = omega arith;
+              inside = long;
+              high = omega arith;
+              strict = strict-part t (at + 2) end (sym ex ∙ q);
+              values = ap itemsFirst ls;
+              behind = ap behindValues ls;
+            }
 
-    pub nothing-here : {b : Bool} → x ≡ Nothing b → ValuesEnd t at
-    unfolding valuesFirst behindValues
-    nothing-here {b} q = ends-at t at (lines-are (none b) (ap (lineFrom (columns t at end)) q)) (refl, refl)
+-- the place behind its tab is one of the text
+pub value-room : (t : List ℕ) (at end : ℕ) (b : Bool) → b ≡ isValue (columns t at end) → at ≤ end → end ≤ length t → b ≡ true → length t < 2 ^ 64 → at + 2 < 2 ^ 64
+value-room t at end b eb lo hi e h = omega (arith, value-long t at end b eb lo hi e)
 
-pub ruleset valued = (value-none, value-here, start-here, global-here, entry-here, last-here, nothing-here)
+pub ruleset valued = (value-none, other-here, not-here, value-here, value-long, value-room, not-true, not-false)
 
 -- ---- all of them
 
@@ -117,11 +132,8 @@ module _ (t : List ℕ) (at : ℕ) {x : ValueLine} (h : ValueAt t at x) {from en
   pub value-behind : (ls : List Line) → behindValues (linesIn (drop at t)) ≡ ls → behindValues (linesIn (drop (end + 1) t)) ≡ ls
   value-behind ls e = sym (stands .behind) ∙ e
 
-  pub value-written : Writable (length (take (end - from) (drop from t))) v
-  value-written = rw (part t from end (stands .inside) (omega (arith, stands .high))) (stands .writable)
-    where
-      part : (t : List ℕ) (from end : ℕ) → from ≤ end → end ≤ length t → length (take (end - from) (drop from t)) ≡ end - from
-      part t from end a b = simp (length-take, length-drop) (omega arith)
+  pub value-strict : strictOf (take (end - from) (drop from t)) ≡ Is v
+  value-strict = stands .strict
 
   pub value-more : {base w p r r′ : ℕ} {o bs o1 o2 : List ℕ} → Owed base w o p bs o1 r (parted w r (itemsFirst (linesIn (drop at t))))
       → Put base w o1 r (piece w r (itemOf (take (end - from) (drop from t)) v) false) o2 r′ → Owed base w o p bs o2 r′ (parted w r′ (itemsFirst (linesIn (drop (end + 1) t))))
@@ -142,4 +154,4 @@ module _ (t : List ℕ) (at : ℕ) {x : ValueLine} (h : ValueAt t at x) (q : x �
 pub values-room : {base w p r : ℕ} {o bs o1 cs : List ℕ} → Owed base w o p bs o1 r cs → p + length bs ≤ 2 ^ 40 → r ≤ 2 ^ 40
 values-room a h = omega (arith, a .next)
 
-pub ruleset looping = (owed-all, value-low, value-high, value-next, value-on, value-sum, value-less, value-behind, value-written, value-more, values-behind, values-all, values-room, put-length)
+pub ruleset looping = (owed-all, value-low, value-high, value-next, value-on, value-sum, value-less, value-behind, value-strict, value-more, values-behind, values-all, values-room, put-length)

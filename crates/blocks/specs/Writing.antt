@@ -8,7 +8,9 @@ use Rattle.columns.specs.Columns.{lineBytes}
 use Rattle.columns.specs.Decimal.{dec, padded}
 use Rattle.columns.specs.Laid.{laid}
 use Rattle.values.specs.declared.Value.{Value}
+use Rattle.values.specs.declared.Strict.the-variants.{Is}
 use Rattle.values.specs.Value.{Item, itemOf}
+use Rattle.values.specs.Strict.{strictOf}
 use Rattle.records.specs.Flow.{piece}
 use Rattle.records.specs.Global.{lastField}
 use Rattle.records.specs.Reading.{Writable}
@@ -39,12 +41,12 @@ tailed o q m b n (suc k) = tailed (laid o q (m ++ tailOf b n)) (q + lineBytes) m
 
 -- ---- the line at a place
 
--- a value line stands at this place: what follows its tab goes from `from` up to `end`
+-- a value line stands at this place: what follows its tab goes from `from` up to `end` and is this value's spelling
 pub record ValueStands (t : List ℕ) (at from end : ℕ) (v : Value) : Type 0 where
   pub low : at ≤ from
   pub inside : from ≤ end
   pub high : end < length t
-  pub writable : Writable (end - from) v
+  pub strict : strictOf (take (end - from) (drop from t)) ≡ Is v
   pub values : itemsFirst (linesIn (drop at t)) ≡ itemOf (take (end - from) (drop from t)) v ∷ itemsFirst (linesIn (drop (end + 1) t))
   pub behind : behindValues (linesIn (drop at t)) ≡ behindValues (linesIn (drop (end + 1) t))
 

@@ -8,17 +8,21 @@ use crate::text;
 use cards::LINE_BYTES;
 use columns::emit;
 use records::flow;
-use sheets::Said;
 use sheets::reading;
+use values::Strict;
 use values::Value;
 ghost use mathlib.Core.Path.{_≡_};
+ghost use mathlib.Core.Bool.{false};
 ghost use mathlib.Core.List.{_++_};
 ghost use Prim.Native.Nat.{_+_, _^_, _≤_, _<_};
 ghost use lib.ListN.{length, drop};
 ghost use Rattle.columns.specs.Columns.{joined};
 ghost use Rattle.columns.specs.Laid.{laid, Wrote};
-ghost use Rattle.records.specs.Flow.{lineCount};
-ghost use Rattle.records.specs.Written.{Put};
+ghost use Rattle.values.specs.declared.Strict.the-variants.{Is};
+ghost use Rattle.values.specs.Value.{itemOf};
+ghost use Rattle.values.specs.Strict.{strictOf};
+ghost use Rattle.records.specs.Flow.{gap, piece, lineCount};
+ghost use Rattle.records.specs.Written.{Put, copied};
 ghost use Rattle.cards.specs.Written.{section};
 ghost use Rattle.sheets.specs.Sheet.{linesIn};
 ghost use Rattle.blocks.specs.Blocks.{behindValues, itemsFirst, recordText, blockLines, tailOf};
@@ -29,6 +33,8 @@ const COLUMNS: usize = 64;
 
 const NUMBER: usize = 7;
 
+const COMMA: u8 = 44;
+
 // What the line at `at` says, if it is a value line.
 fn value_at(t: &[u8], at: usize) -> ValueLine
     requires { ⌜ at ≤ length (now t) ⌝ }
@@ -38,30 +44,54 @@ fn value_at(t: &[u8], at: usize) -> ValueLine
     if end == t.len() {
         return ValueLine::Other;
     }
-    let said = reading::line_at(t, at, end);
-    match said {
-        Said::Value {
-            reference: _,
-            value,
-        } => ValueLine::Here {
-            from: at + 2,
-            end,
-            value,
-        },
-        Said::Start => ValueLine::Other,
-        Said::Global {
-            number: _,
-            at: _,
-            value: _,
-        } => ValueLine::Other,
-        Said::Entry {
-            known: _,
-            number: _,
-            fields: _,
-        } => ValueLine::Other,
-        Said::Last(_) => ValueLine::Other,
-        Said::Nothing(_) => ValueLine::Other,
+    if !reading::is_value(t, at, end) {
+        return ValueLine::Other;
     }
+    let from = at + 2;
+    match reading::strict_at(t, from, end) {
+        Strict::Is(value) => ValueLine::Here { from, end, value },
+        Strict::Not => ValueLine::Other,
+    }
+}
+
+// How many columns of a value that is spelled in n characters stand on one line, with its delimiter: a string's characters may go on to the next.
+fn firm_of(n: usize, v: Value) -> usize
+    requires { ⌜ (copied v ≤ n) × (n ≤ 2 ^ 36) ⌝ }
+    ensures { λ r. ⌜ (r + copied v ≡ n + 1) × (r ≤ n + 1) ⌝ }
+{
+    match v {
+        Value::Default => n + 1,
+        Value::Whole { neg: _, size: _ } => n + 1,
+        Value::Real {
+            neg: _,
+            m: _,
+            eneg: _,
+            e: _,
+            double: _,
+        } => n + 1,
+        Value::Text { start: _, count } => n - count + 1,
+    }
+}
+
+// The blanks at position p before n characters that have to stand on one line.
+fn gap_of(p: usize, n: usize) -> usize
+    requires { ⌜ n ≤ 2 ^ 40 ⌝ }
+    ensures { λ r. ⌜ (r ≡ gap 64 p n) × (r ≤ 80) ⌝ }
+{
+    let j = p % COLUMNS;
+    if j + n <= COLUMNS { 0 } else { COLUMNS - j }
+}
+
+// Writes a value at position p with ',' behind it, as it is spelled on its line: that is its canonical form.
+fn put_spelled(out: &mut [u8], base: usize, p: usize, l: &[u8], v: Value) -> usize
+    requires { ⌜ (base ≤ 2 ^ 40) × (p ≤ 2 ^ 40) × (strictOf (now l) ≡ Is v) ⌝ }
+    ensures { λ r. ⌜ Put base 64 (now (out .entry)) p (piece 64 p (itemOf (now (l .entry)) v) false) (now (out .exit)) r ⌝ }
+{
+    let n = firm_of(l.len(), v);
+    let g = gap_of(p, n);
+    let q = flow::put_run(out, base, COLUMNS, p, 32, g);
+    let e = flow::put_all(out, base, COLUMNS, q, l);
+    flow::put_char(out, base, COLUMNS, e, COMMA)
 }
 
 // The values of the value lines from `at` on, from position p of the record on.
@@ -83,7 +113,7 @@ fn put_values(out: &mut [u8], base: usize, t: &[u8], at: usize, p: usize) -> Flo
                 end: stop,
                 value,
             } => {
-                end = flow::put_piece(out, base, COLUMNS, end, &t[from..stop], value, false);
+                end = put_spelled(out, base, end, &t[from..stop], value);
                 next = stop + 1;
             }
         }

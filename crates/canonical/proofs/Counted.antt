@@ -8,7 +8,6 @@ use borrow.Author.Tests.{le-leb, lt-leb}
 use Rattle.columns.specs.Columns.{columns}
 use Rattle.records.specs.Flow.{lineCount}
 use Rattle.cards.specs.Cards.{mostLines}
-use Rattle.sheets.specs.declared.Said.{Said}
 use Rattle.sheets.specs.Line.{run}
 use Rattle.sheets.specs.Sheet.{Line, none, isMark, lastPiece, saysOf, saidBy, linesIn}
 use Rattle.sheets.proofs.Says.{none-of}
@@ -18,7 +17,7 @@ use Rattle.canonical.specs.declared.Tally.{Tally}
 use Rattle.canonical.specs.declared.Lines.{Lines}
 use Rattle.canonical.specs.declared.Lines.the-variants.{Are, TooMany}
 use Rattle.canonical.specs.Counting.{begun, tallyLine, tallySaid, countsIn, totalIn, countedFrom, linesOfSheet}
-use Rattle.canonical.proofs.Tallies.{line-short, tally-line, tally-under, tally-few}
+use Rattle.canonical.proofs.Tallies.{tally-line, tally-under, tally-few}
 
 -- behind the end there are no lines
 lines-none : (t : List ℕ) (at : ℕ) → length t ≤ at → linesIn (drop at t) ≡ []
@@ -53,12 +52,12 @@ module _ (f : Lines) (t : List ℕ) (x : Tally) (at : ℕ) (inv : countedFrom x 
     pub pass-piece : {r : Lines} → e ≡ n → totalIn x ≤ mostLines → r ≡ Are (countsIn x) → r ≡ f
     pass-piece h k q = q ∙ sym (counted-piece x (drop at t) k) ∙ (rw (lines-whole t at e en (omega arith)) at inv)
 
-    module _ {y : Said} {z : Tally} {m : ℕ} (h : e ≡ n → ⊥) (d : y ≡ saysOf (columns t at e)) (p : z ≡ tallySaid x y) (s : m ≡ totalIn z) where
+    module _ {z : Tally} {m : ℕ} (h : e ≡ n → ⊥) (p : z ≡ tallySaid x (saysOf (columns t at e))) (s : m ≡ totalIn z) where
       here : countedFrom x (saidBy (columns t at e) ∷ linesIn (drop (e + 1) t)) ≡ f
       here = rw (lines-first t at e lo (omega arith) en) at inv
 
       line : z ≡ tallyLine x (saidBy (columns t at e))
-      line = p ∙ tally-line x (columns t at e) y d
+      line = p ∙ tally-line x (columns t at e) (saysOf (columns t at e)) refl
 
       pub pass-many : mostLines < m → TooMany ≡ f
       pass-many k = sym (counted-off x (saidBy (columns t at e)) (linesIn (drop (e + 1) t)) (rw (← line, ← s) k)) ∙ here
@@ -77,4 +76,4 @@ pub begun-few : totalIn begun ≤ mostLines
 unfolding totalIn countsIn lineCount
 begun-few = omega arith
 
-pub ruleset pass = (pass-end, pass-piece, pass-many, pass-next, pass-few, pass-start, begun-few, line-short, tally-under, tally-few)
+pub ruleset pass = (pass-end, pass-piece, pass-many, pass-next, pass-few, pass-start, begun-few, tally-under, tally-few)

@@ -1,15 +1,20 @@
 -- A line more by what was read of it, what a tally comes to, and its bounds.
 use mathlib.Core.Path.{_≡_, refl, sym, ap, _∙_}
-use mathlib.Core.Bool.{Bool, false}
+use mathlib.Core.Bool.{Bool, true, false}
 use mathlib.Core.List.{List}
 use Prim.Native.Nat.{ℕ, _+_, _-_, _/_, _^_, _≤_}
 use native.Mathlib.Nat.{div-le-self}
 use native.Mathlib.Omega.{arith}
 use lib.ListN.{length, drop}
+use borrow.Author.Tests.{not-true, not-false}
 use Rattle.columns.specs.declared.Signed.{Signed}
+use Rattle.columns.specs.Columns.{columns}
 use Rattle.values.specs.declared.Value.{Value}
 use Rattle.values.specs.declared.Value.the-variants.{Whole}
+use Rattle.values.specs.declared.Strict.{Strict}
+use Rattle.values.specs.declared.Strict.the-variants.{Is, Not}
 use Rattle.values.specs.Value.{whole, itemOf}
+use Rattle.values.specs.Strict.{strictOf}
 use Rattle.records.specs.Flow.{firm, lineCount}
 use Rattle.records.specs.Reading.{Writable}
 use Rattle.records.specs.Written.{copied, pieceEnd}
@@ -20,12 +25,14 @@ use Rattle.cards.specs.Cards.{mostLines, counts}
 use Rattle.directory.specs.declared.Fields.{Fields}
 use Rattle.sheets.specs.declared.Said.{Said}
 use Rattle.sheets.specs.declared.Said.the-variants.{Start, Global, Entry, Value as Given, Last, Nothing}
-use Rattle.sheets.specs.Sheet.{lineFrom, saysOf, saidBy}
+use Rattle.sheets.specs.Sheet.{lineFrom, isValue, saysOf, saidBy}
 use Rattle.sheets.proofs.Walk.{line-says}
+use Rattle.sheets.proofs.Valued.{value-long, value-given, value-not}
+use Rattle.blocks.proofs.Valued.{value-room}
 use Rattle.canonical.specs.declared.Tally.{Tally}
 use Rattle.canonical.specs.declared.Lines.the-variants.{Are}
 use Rattle.canonical.specs.Counting.{globalColumns, columnsHeld, behind, skipped, tally, withStart, withGlobal, withEntry, withValue, tallyLine, tallySaid, countsIn, totalIn, Under, Few, Short}
-use Rattle.canonical.proofs.Said.{Can, says-can}
+use Rattle.canonical.proofs.Said.{Can, says-can, strict-writable}
 
 -- ---- by what was read
 
@@ -131,6 +138,24 @@ short-global e h = rw e at h
 
 pub short-value : {y : Said} {reference : Bool} {v : Value} → y ≡ Given reference v → Short y → copied v ≤ 999
 short-value e h = rw e at h
+
+-- ---- a line where it stands
+module _ (x : Tally) (t : List ℕ) (at end : ℕ) where
+  pub line-tallied : {y : Said} {r : Tally} → y ≡ saysOf (columns t at end) → r ≡ tallySaid x y → r ≡ tallySaid x (saysOf (columns t at end))
+  line-tallied e q = q ∙ ap (tallySaid x) e
+
+  module _ (b : Bool) (eb : b ≡ isValue (columns t at end)) (lo : at + 2 ≤ end) (e : b ≡ true) {y : Strict} (ey : y ≡ strictOf (columns t (at + 2) end)) where
+    pub value-tallied : {v : Value} {r : Tally} → y ≡ Is v → r ≡ withValue x (pieceEnd columnsHeld (x .at) v) → r ≡ tallySaid x (saysOf (columns t at end))
+    value-tallied {v} h q = q ∙ ap (tallySaid x) (sym (value-given t at end b eb lo e y ey v h))
+
+    pub none-tallied : y ≡ Not → x ≡ tallySaid x (saysOf (columns t at end))
+    none-tallied h = ap (tallySaid x) (sym (value-not t at end b eb lo e y ey h))
+
+-- a string that is read back is short
+pub strict-short : (l : List ℕ) {y : Strict} {v : Value} → y ≡ strictOf l → y ≡ Is v → copied v ≤ 999
+strict-short l {y} {v} e h = copied-few (length l) v (strict-writable l v (sym e ∙ h))
+
+pub ruleset lined = (line-tallied, value-tallied, none-tallied, line-short, strict-short, value-long, value-room, under-more, not-true, not-false)
 
 pub ruleset said = (said-start, said-global, said-entry, said-value, said-last, said-none, short-global, short-value, under-more)
 

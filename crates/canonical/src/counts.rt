@@ -6,16 +6,21 @@ use cards::MOST_LINES;
 use records::flow::piece_end;
 use sheets::Said;
 use sheets::reading::end_of;
+use sheets::reading::is_value;
 use sheets::reading::line_at;
+use sheets::reading::strict_at;
+use values::Strict;
 use values::Value;
 ghost use mathlib.Core.Path.{_≡_};
 ghost use Prim.Native.Nat.{_+_, _-_, _^_, _≤_, _<_};
+ghost use lib.ListN.{length};
+ghost use Rattle.columns.specs.Columns.{columns};
 ghost use Rattle.records.specs.Flow.{lineCount};
 ghost use Rattle.records.specs.Written.{copied, pieceEnd};
 ghost use mathlib.Core.Bool.{false};
 ghost use Rattle.values.specs.declared.Value.the-variants.{Whole};
 ghost use Rattle.canonical.specs.declared.Lines.the-variants.{Are};
-ghost use Rattle.sheets.specs.Sheet.{linesIn};
+ghost use Rattle.sheets.specs.Sheet.{saysOf, linesIn};
 ghost use Rattle.canonical.specs.Counting.{globalColumns, columnsHeld, skipped, withStart, withGlobal, withEntry, withValue, tallySaid, countsIn, totalIn, Under, Few, Short, linesOfSheet};
 
 // The columns of a G line and of a P line that hold values.
@@ -143,6 +148,21 @@ fn tally_said(x: Tally, y: Said) -> Tally
     }
 }
 
+// The line from `at` up to `end` more: a value line is told by its value alone.
+fn tally_at(t: &[u8], at: usize, end: usize, x: Tally) -> Tally
+    requires { ⌜ Under (2 ^ 36) x × (at ≤ end) × (end ≤ length (now t)) ⌝ }
+    ensures { λ r. ⌜ r ≡ tallySaid x (saysOf (columns (now (t .entry)) at end)) ⌝ }
+    ensures { λ r. ⌜ Under (2 ^ 38) r ⌝ }
+{
+    if !is_value(t, at, end) {
+        return tally_said(x, line_at(t, at, end));
+    }
+    match strict_at(t, at + 2, end) {
+        Strict::Is(v) => with_value(x, v),
+        Strict::Not => x,
+    }
+}
+
 fn total_of(x: Tally) -> usize
     requires { ⌜ Under (2 ^ 38) x ⌝ }
     ensures { λ r. ⌜ r ≡ totalIn x ⌝ }
@@ -187,7 +207,7 @@ pub fn count(t: &[u8]) -> Lines
         if e == n {
             return counts_of(x);
         }
-        let y = tally_said(x, line_at(t, at, e));
+        let y = tally_at(t, at, e, x);
         if MOST_LINES < total_of(y) {
             return Lines::TooMany;
         }

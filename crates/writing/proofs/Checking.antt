@@ -30,13 +30,6 @@ use Rattle.writing.proofs.Sheets.{types-are, sheet-pass}
 -- ---- the passes
 
 module _ (list : ℕ) (t : List ℕ) where
-  module _ (x : Pass) (ex : x ≡ referencesPass t) where
-    pub references-refuse : (n : Fault) (l : SheetLine) → x ≡ RefusedPass n l → RefusedPass n l ≡ orElse (referencesPass t) (entitiesPass list t)
-    references-refuse n l e = rw (← ex, e)
-
-    pub entities-decide : (r : Pass) → x ≡ GoodPass → r ≡ entitiesPass list t → r ≡ orElse (referencesPass t) (entitiesPass list t)
-    entities-decide r e er = rw (← ex, e) er
-
   module _ (x : Pass) (ex : x ≡ rulesPass t) where
     pub rules-refuse : (n : Fault) (l : SheetLine) → x ≡ RefusedPass n l → RefusedPass n l ≡ sheetPass list t
     unfolding sheetPass
@@ -46,7 +39,7 @@ module _ (list : ℕ) (t : List ℕ) where
     unfolding sheetPass
     names-decide r e er = rw (← ex, e) er
 
-pub ruleset passing = (references-refuse, entities-decide, rules-refuse, names-decide)
+pub ruleset passing = (rules-refuse, names-decide)
 
 -- ---- all
 

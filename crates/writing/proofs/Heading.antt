@@ -152,6 +152,10 @@ quiet-rule place (Given reference v) q = refl
 quiet-rule place (Last n) q = refl
 quiet-rule place (Nothing b) q = refl
 
+pub rule-said : (place : ℕ) (l : List ℕ) (ls : List Line) (x : Said) → x ≡ saysOf l → saidRule place x ≡ lineCheck globalRule rowRules place (saidBy l) ls
+unfolding saidBy
+rule-said place l ls x ex = ap (saidRule place) ex ∙ said-rule place l ls (saysOf l)
+
 pub rule-line : (place : ℕ) (l : List ℕ) (ls : List Line) (x : Said) (r : Pass) → x ≡ headOf l → r ≡ saidRule place x → r ≡ lineCheck globalRule rowRules place (saidBy l) ls
 unfolding saidBy
 rule-line place l ls x r ex er = er ∙ ap (saidRule place) ex ∙ head-tells (saidRule place) (quiet-rule place) l ∙ said-rule place l ls (saysOf l)
@@ -201,5 +205,3 @@ module _ (list : ℕ) (types : List ℕ) (place : ℕ) (ls : List Line) where
   unfolding saidBy
   entity-line l x r ex er =
       er ∙ ap (saidEntity list types place (valuesFirst ls)) ex ∙ head-tells (saidEntity list types place (valuesFirst ls)) quiet-entity l ∙ said-entity l (saysOf l)
-
-pub ruleset lines = (rule-line, references-line, entity-line)

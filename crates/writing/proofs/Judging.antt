@@ -1,11 +1,9 @@
 -- An entity of a sheet: its values one after the other, its layout's verdict and its marks. Assumes nothing.
-use mathlib.Core.Path.{_≡_, refl, sym, ap, _∙_}
+use mathlib.Core.Path.{_≡_, refl, sym, _∙_}
 use mathlib.Core.Bool.{Bool, true, false, cond, _&&_}
 use mathlib.Core.List.{List, [], _∷_, map}
 use Prim.Native.Nat.{ℕ, _+_, _≤_, _<_}
 use native.Mathlib.Omega.{arith}
-use denote.Enum.Declared.{tagOf}
-use types.Run.{OneOf}
 use lib.ListN.{length, drop}
 use borrow.Author.Tests.{not-true, not-false}
 use Rattle.columns.specs.declared.Fault.the-variants.{Mark, Layout as LayoutFault, LayoutReference as LayoutReferenceFault}
@@ -14,7 +12,10 @@ use Rattle.columns.specs.Columns.{columns}
 use Rattle.columns.specs.Refusal.{accepted, demand, _then_}
 use Rattle.columns.proofs.Tests.{and-assoc}
 use Rattle.values.specs.declared.Value.{Value}
+use Rattle.values.specs.declared.Strict.{Strict}
+use Rattle.values.specs.declared.Strict.the-variants.{Not}
 use Rattle.values.specs.Value.{Item, itemOf}
+use Rattle.values.specs.Strict.{strictOf}
 use Rattle.directory.specs.declared.Fields.{Fields}
 use Rattle.layouts.specs.declared.State.{State}
 use Rattle.layouts.specs.declared.Stepped.{Stepped}
@@ -30,22 +31,23 @@ use Rattle.entities.specs.Marks.{marksBegun}
 use Rattle.entities.proofs.Names.{negative-names, whole-names}
 use Rattle.entities.proofs.Marking.{stepped-go, stepped-bad, marks-begin}
 use Rattle.sheets.specs.declared.Said.{Said}
-use Rattle.sheets.specs.declared.Said.the-variants.{Entry, Value as Given}
+use Rattle.sheets.specs.declared.Said.the-variants.{Entry, Nothing}
 use Rattle.sheets.specs.Line.{run}
-use Rattle.sheets.specs.Sheet.{Line, lineFrom, saysOf, linesIn, row}
+use Rattle.sheets.specs.Sheet.{Line, value, isValue, saysOf, linesIn, row}
 use Rattle.sheets.specs.Order.{sheetLine}
-use Rattle.sheets.proofs.Said.{the-type as saidType}
-use Rattle.sheets.proofs.Walk.{lines-first, line-says}
+use Rattle.sheets.specs.Reading.{NoValue}
+use Rattle.sheets.proofs.Valued.{no-value, value-long, value-not}
 use Rattle.model.specs.Model.{valueIn, markIn, entityOf}
 use Rattle.model.specs.Write.{equal, allEqual, rowEntityRules}
 use Rattle.rows.specs.Rows.{valuesFirst}
 use Rattle.writing.specs.declared.Judged.{Judged}
+use Rattle.writing.specs.declared.Values.{Values}
 use Rattle.writing.specs.declared.Pass.{Pass}
 use Rattle.writing.specs.declared.Pass.the-variants.{Good, Refused}
-use Rattle.writing.specs.Lines.{passOf}
+use Rattle.writing.specs.Lines.{passOf, Skipped}
 use Rattle.writing.specs.Heads.{saidEntity}
-use Rattle.writing.specs.Judging.{rightToo, judged, verdictIf, answerOf}
-use Rattle.writing.proofs.Lines.{lines-piece, lines-none}
+use Rattle.writing.specs.Judging.{rightToo, judgedSo, judged, valuesOf, verdictIf, answerOf}
+use Rattle.writing.proofs.Lines.{lines-piece, lines-none, line-read, skipped-none}
 use Rattle.writing.proofs.Others.{no-values, names-other, entity-other}
 
 -- ---- one value
@@ -60,41 +62,57 @@ pub ruleset values = (negative-names, whole-names, names-other, stepped-go, step
 
 -- ---- all of them: f is the answer
 
-abbrev told : Stepped → Bool → Judged
-told g right = record { state = g; right = right }
-
 feed-stepped : (types t : List ℕ) (g : Stepped) (v : Value) → feed types g (itemOf t v) ≡ stepped types g v
 feed-stepped types t Bad v = refl
 feed-stepped types t (Go s) v = feed-read types t s v
 
 module _ (types t : List ℕ) (at size : ℕ) (g : Stepped) (right : Bool) (f : Judged) (inv : judged types g right (valuesFirst (linesIn (drop at t))) ≡ f) (all : size ≡ length t) where
-  pub judge-end : size ≤ at → told g right ≡ f
+  pub judge-end : size ≤ at → judgedSo g right ≡ f
   unfolding judged valuesFirst
   judge-end h = rw (lines-none t at (omega arith)) at inv
 
   module _ (stop : ℕ) (lt : at < size) (lo : at ≤ stop) (hi : stop ≤ length t) (en : stop ≡ at + run 10 (drop at t)) where
-    pub judge-piece : stop ≡ size → told g right ≡ f
+    pub judge-piece : stop ≡ size → judgedSo g right ≡ f
     unfolding judged valuesFirst
     judge-piece h =
         let q = lines-piece t at (omega arith) (omega arith) in
         rw (q .1) at inv
 
-    module _ (h : stop ≡ size → ⊥) (x : Said) (ex : x ≡ saysOf (columns t at stop)) where
-      line : linesIn (drop at t) ≡ lineFrom (columns t at stop) x ∷ linesIn (drop (stop + 1) t)
-      line = lines-first t at stop lo (omega arith) en ∙ ap (λ (l : Line). l ∷ linesIn (drop (stop + 1) t)) (line-says (columns t at stop) x ex)
-
-      pub judge-other : OneOf (0 ∷ 1 ∷ 2 ∷ 4 ∷ 5 ∷ []) (tagOf saidType x) → told g right ≡ f
+    module _ (h : stop ≡ size → ⊥) (b : Bool) (eb : b ≡ isValue (columns t at stop)) where
+      other : (x : Said) → saysOf (columns t at stop) ≡ x → NoValue x → judgedSo g right ≡ f
       unfolding judged
-      judge-other o = rw (line, no-values (columns t at stop) (linesIn (drop (stop + 1) t)) x o) at inv
+      other x ex o = rw (line-read t at stop lo (omega arith) en x ex, no-values (columns t at stop) (linesIn (drop (stop + 1) t)) x o) at inv
 
-      pub judge-on : (reference : Bool) (v : Value) (b : Bool) (u : Stepped) → x ≡ Given reference v → b ≡ rightToo right reference g → u ≡ stepped types g v
-          → judged types u b (valuesFirst (linesIn (drop (stop + 1) t))) ≡ f
-      unfolding judged valuesFirst
-      judge-on reference v b u e eb eu =
-          let w : valuesFirst (linesIn (drop at t)) ≡ (reference, itemOf (drop 2 (columns t at stop)) v) ∷ valuesFirst (linesIn (drop (stop + 1) t)) = rw (line, e) in
-          rw (eu, eb, ← feed-stepped types (drop 2 (columns t at stop)) g v) (rw w at inv)
+      pub judge-other : b ≡ false → judgedSo g right ≡ f
+      judge-other e = other (saysOf (columns t at stop)) refl (no-value t at stop b eb e)
 
-pub ruleset judging = (judge-end, judge-piece, judge-other, judge-on)
+      pub judge-not : b ≡ true → (y : Strict) → y ≡ strictOf (columns t (at + 2) stop) → y ≡ Not → judgedSo g right ≡ f
+      judge-not e y ey q = other (Nothing true) (value-not t at stop b eb (value-long t at stop b eb lo hi e) e y ey q) tt
+
+-- a value line, and those behind it
+pub judge-on : (ls rest : List Line) (reference : Bool) (s : List ℕ) (v : Value) → ls ≡ value reference (itemOf s v) ∷ rest
+    → (types : List ℕ) (g : Stepped) (right : Bool) (f : Judged) → judged types g right (valuesFirst ls) ≡ f
+    → (m : Bool) (u : Stepped) → m ≡ rightToo right reference g → u ≡ stepped types g v → judged types u m (valuesFirst rest) ≡ f
+unfolding judged valuesFirst
+judge-on ls rest reference s v line types g right f inv m u em eu =
+    let w : valuesFirst ls ≡ (reference, itemOf s v) ∷ valuesFirst rest = rw line in
+    rw (eu, em, ← feed-stepped types s g v) (rw w at inv)
+
+-- what is handed back
+module _ (r : Values) (g : Stepped) (right : Bool) (next lines : ℕ) (e : r ≡ valuesOf g right next lines) where
+  pub told-judged : (f : Judged) → judgedSo g right ≡ f → judgedSo (r .state) (r .right) ≡ f
+  told-judged f h = rw e h
+
+  pub told-skipped : (t : List ℕ) (from : ℕ) → Skipped t from next lines → Skipped t from (r .next) (r .lines)
+  told-skipped t from h = rw e h
+
+  pub told-next : (from : ℕ) → from + lines ≤ next → from + r .lines ≤ r .next
+  told-next from h = rw e h
+
+  pub told-within : (size n : ℕ) → next ≤ size → size ≡ n → r .next ≤ n
+  told-within size n h q = rw (e, ← q) h
+
+pub ruleset judging = (not-true, not-false, judge-end, judge-piece, judge-other, judge-not, skipped-none)
 
 -- ---- what comes of it
 
@@ -174,4 +192,4 @@ module _ (list : ℕ) (types : List ℕ) (place : ℕ) (marked : Bool) (x : Fiel
       → g ≡ marksBegun list (x .entity .size) (x .form .size) → j ≡ judged types g true vs → r ≡ answerOf inside marked j place → r ≡ saidEntity list types place vs s
   entity-told s n inside g j r e ei eg ej er = rw e (er ∙ rw (ei, ej, eg) answer-row)
 
-pub ruleset entities = (entity-told, entity-other)
+pub ruleset entities = (entity-told, entity-other, skipped-none)

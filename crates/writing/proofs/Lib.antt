@@ -4,7 +4,10 @@ pub mod Heading
 pub mod Saying
 pub mod Tables
 pub mod Judging
+pub mod Naming
 pub mod Referring
 pub mod Sheets
 pub mod Checking
+pub mod Walking
+pub mod Ahead
 pub mod Facts

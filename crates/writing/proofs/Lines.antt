@@ -1,25 +1,40 @@
 -- A pass over lines in its rest form: what is left has the answer of the whole.
-use mathlib.Core.Path.{_≡_, refl, _∙_}
-use mathlib.Core.Bool.{Bool}
+use mathlib.Core.Path.{_≡_, refl, sym, ap, _∙_}
+use mathlib.Core.Bool.{Bool, true}
 use mathlib.Core.List.{List, [], _∷_}
 use Prim.Native.Nat.{ℕ, _+_, _-_, _≤_, _<_}
 use native.Mathlib.Omega.{arith}
 use native.Mathlib.Decide.{ℕ-discrete}
-use lib.ListN.{length, drop, length-drop, drop-of-length-le}
-use Rattle.columns.specs.declared.Fault.{Fault}
-use Rattle.columns.specs.declared.SheetLine.{SheetLine}
+use lib.ListN.{length, getD, drop, length-drop, drop-of-length-le}
+use lib.Dec.{eqb}
+use lib.Seq.{getD-drop}
 use Rattle.columns.specs.Columns.{columns}
+use Rattle.values.specs.declared.Value.{Value}
+use Rattle.values.specs.declared.Strict.{Strict}
+use Rattle.values.specs.declared.Strict.the-variants.{Is}
+use Rattle.values.specs.Value.{Item, itemOf}
+use Rattle.values.specs.Strict.{strictOf}
+use Rattle.sheets.specs.declared.Said.{Said}
+use Rattle.sheets.specs.declared.Said.the-variants.{Value as Given}
 use Rattle.sheets.specs.Line.{run}
-use Rattle.sheets.specs.Sheet.{none, isMark, into, piecesOf, lastPiece, saidBy, saidByAll, linesIn}
+use Rattle.sheets.specs.Sheet.{Line, value, none, isMark, isValue, into, piecesOf, lastPiece, saysOf, lineFrom, saidBy, saidByAll, linesIn}
 use Rattle.sheets.proofs.Plains.{run-here, run-on}
 use Rattle.sheets.proofs.Says.{pieces-none, pieces-on, none-of}
-use Rattle.sheets.proofs.Walk.{lines-first}
-use Rattle.model.specs.Write.{globalRule, rowRules, rowReferences, rowEntityRules}
+use Rattle.sheets.proofs.Walk.{lines-first, line-says}
+use Rattle.sheets.proofs.Valued.{value-long, value-given}
 use Rattle.writing.specs.declared.Pass.{Pass}
 use Rattle.writing.specs.declared.Pass.the-variants.{Good, Refused}
-use Rattle.writing.specs.Lines.{OfGlobal, OfRow, orElse, noRule, lineCheck, linesPass}
-use Rattle.writing.specs.Classes.{sheetTypes}
-use Rattle.writing.specs.Answers.{rulesPass, referencesPass, entitiesPass}
+use Rattle.writing.specs.Lines.{OfGlobal, OfRow, orElse, lineCheck, linesPass, Skipped}
+
+-- ---- passes one after another
+
+pub or-good : (p : Pass) → orElse p Good ≡ p
+or-good Good = refl
+or-good (Refused n l) = refl
+
+pub or-assoc : (p q r : Pass) → orElse (orElse p q) r ≡ orElse p (orElse q r)
+or-assoc Good q r = refl
+or-assoc (Refused n l) q r = refl
 
 -- ---- the lines of a text from a place on
 
@@ -33,62 +48,76 @@ pieces-whole (b ∷ bs) h = pick (ℕ-discrete b 10) (pieces-whole bs)
     pick (no e) ih = pieces-on b bs e ∙ rw (ih (omega (arith, run-on 10 b bs e)))
 
 -- what has no LF is a line that says nothing, if anything stands there
-pub lines-piece : (t : List ℕ) (at : ℕ) → at < length t → length t ≡ at + run 10 (drop at t) → (b : Bool) × (linesIn (drop at t) ≡ none b ∷ [])
+pub piece-line : (t : List ℕ) (at : ℕ) → at < length t → length t ≡ at + run 10 (drop at t) → linesIn (drop at t) ≡ none (isMark (getD t at 0)) ∷ []
 unfolding linesIn saidByAll lastPiece
-lines-piece t at lt en = by (drop at t) (length-drop at t) refl
+piece-line t at lt en = by (drop at t) (length-drop at t) refl
   where
-    by : (u : List ℕ) → length u ≡ length t - at → drop at t ≡ u → (b : Bool) × (saidByAll (piecesOf (drop at t)) ≡ none b ∷ [])
+    by : (u : List ℕ) → length u ≡ length t - at → drop at t ≡ u → saidByAll (piecesOf (drop at t)) ≡ none (isMark (getD t at 0)) ∷ []
     by [] l e = absurd (omega arith)
     by (x ∷ xs) l e =
         let d : length (drop at t) ≤ run 10 (drop at t) = omega (arith, length-drop at t) in
         let w : length (x ∷ xs) ≤ run 10 (x ∷ xs) = rw e at d in
-        (isMark x, rw (e, pieces-whole (x ∷ xs) w))
+        let z : at + 0 ≡ at = omega arith in
+        let y : x ≡ getD t at 0 = ap (λ (l : List ℕ). getD l 0 0) (sym e) ∙ getD-drop at t 0 0 ∙ ap (λ (k : ℕ). getD t k 0) z in
+        rw (e, pieces-whole (x ∷ xs) w, y)
+
+pub lines-piece : (t : List ℕ) (at : ℕ) → at < length t → length t ≡ at + run 10 (drop at t) → (b : Bool) × (linesIn (drop at t) ≡ none b ∷ [])
+lines-piece t at lt en = (isMark (getD t at 0), piece-line t at lt en)
 
 pub lines-none : (t : List ℕ) (at : ℕ) → length t ≤ at → linesIn (drop at t) ≡ []
 unfolding linesIn
 lines-none t at h = rw (drop-of-length-le t {i = at} h) none-of
 
--- ---- the pass: r is the answer, and lines stand from `at` on
+-- a line by what is read of it
+pub line-read : (t : List ℕ) (at end : ℕ) → at ≤ end → end < length t → end ≡ at + run 10 (drop at t) → (x : Said) → saysOf (columns t at end) ≡ x
+    → linesIn (drop at t) ≡ lineFrom (columns t at end) x ∷ linesIn (drop (end + 1) t)
+line-read t at end lo hi en x ex = lines-first t at end lo hi en ∙ ap (λ (l : Line). l ∷ linesIn (drop (end + 1) t)) (line-says (columns t at end) x (sym ex))
 
-module _ (g : OfGlobal) (f : OfRow) (r : Pass) (t : List ℕ) (at place : ℕ) (inv : linesPass g f place (linesIn (drop at t)) ≡ r) where
-  pub walk-end : (n : ℕ) → n ≡ length t → n ≤ at → Good ≡ r
+-- a value line
+module _ (t : List ℕ) (at end : ℕ) (b : Bool) (eb : b ≡ isValue (columns t at end)) (e : b ≡ true) (y : Strict) (ey : y ≡ strictOf (columns t (at + 2) end)) (v : Value) (q : y ≡ Is v) where
+  pub said-given : at ≤ end → end ≤ length t → saysOf (columns t at end) ≡ Given (eqb (getD t at 0) 82) v
+  said-given lo hi = value-given t at end b eb (value-long t at end b eb lo hi e) e y ey v q
+
+  pub line-given : at ≤ end → end < length t → end ≡ at + run 10 (drop at t)
+      → linesIn (drop at t) ≡ value (eqb (getD t at 0) 82) (itemOf (drop 2 (columns t at end)) v) ∷ linesIn (drop (end + 1) t)
+  line-given lo hi en = line-read t at end lo hi en (Given (eqb (getD t at 0) 82) v) (said-given lo (omega arith))
+
+-- ---- the pass over them, line by line
+
+module _ (t : List ℕ) (at n : ℕ) (all : n ≡ length t) (g : OfGlobal) (f : OfRow) (place : ℕ) where
+  pub pass-end : n ≤ at → linesPass g f place (linesIn (drop at t)) ≡ Good
   unfolding linesPass
-  walk-end n e h = rw (lines-none t at (omega arith)) at inv
+  pass-end h = rw (lines-none t at (omega arith))
 
-  module _ (n end : ℕ) (all : n ≡ length t) (lt : at < n) (lo : at ≤ end) (hi : end ≤ length t) (en : end ≡ at + run 10 (drop at t)) where
-    pub walk-piece : end ≡ n → Good ≡ r
+  module _ (end : ℕ) (lt : at < n) (lo : at ≤ end) (hi : end ≤ length t) (en : end ≡ at + run 10 (drop at t)) where
+    pub pass-piece : end ≡ n → linesPass g f place (linesIn (drop at t)) ≡ Good
     unfolding linesPass
-    walk-piece h =
+    pass-piece h =
         let q = lines-piece t at (omega arith) (omega arith) in
-        rw (q .1) at inv
+        rw (q .1)
 
-    module _ (x : Pass) (h : end ≡ n → ⊥) (ex : x ≡ lineCheck g f place (saidBy (columns t at end)) (linesIn (drop (end + 1) t))) where
-      next : orElse x (linesPass g f (place + 1) (linesIn (drop (end + 1) t))) ≡ r
-      unfolding linesPass
-      next = rw ex (rw (lines-first t at end lo (omega arith) en) at inv)
-
-      pub walk-on : x ≡ Good → linesPass g f (place + 1) (linesIn (drop (end + 1) t)) ≡ r
-      walk-on e = rw e at next
-
-      pub walk-here : {m : Fault} {l : SheetLine} → x ≡ Refused m l → Refused m l ≡ r
-      walk-here e = rw e at next
+    pub pass-line : (end ≡ n → ⊥) → linesPass g f place (linesIn (drop at t)) ≡ orElse (lineCheck g f place (saidBy (columns t at end)) (linesIn (drop (end + 1) t))) (linesPass g f (place + 1) (linesIn (drop (end + 1) t)))
+    unfolding linesPass
+    pass-line h = rw (lines-first t at end lo (omega arith) en)
 
 -- behind an LF
 pub behind : (t : List ℕ) (n end : ℕ) → n ≡ length t → end ≤ length t → (end ≡ n → ⊥) → end + 1 ≤ length t
 behind t n end e h k = omega arith
 
--- ---- the three passes, from the first line on
+-- ---- value lines are asked nothing
 
-pub rules-start : (t : List ℕ) → linesPass globalRule rowRules 1 (linesIn (drop 0 t)) ≡ rulesPass t
-unfolding rulesPass
-rules-start t = refl
+pub skipped-none : (t : List ℕ) (from : ℕ) → Skipped t from from 0
+skipped-none t from = record {
+  same = λ g f place.
+      let z : place + 0 ≡ place = omega arith in
+      ap (λ (k : ℕ). linesPass g f k (linesIn (drop from t))) z;
+}
 
-pub references-start : (t : List ℕ) → linesPass noRule (rowReferences (sheetTypes t)) 1 (linesIn (drop 0 t)) ≡ referencesPass t
-unfolding referencesPass
-references-start t = refl
-
-pub entities-start : (list : ℕ) (t : List ℕ) → linesPass noRule (rowEntityRules list (sheetTypes t)) 1 (linesIn (drop 0 t)) ≡ entitiesPass list t
-unfolding entitiesPass
-entities-start list t = refl
-
-pub ruleset walks = (walk-end, walk-piece, walk-on, walk-here, behind, rules-start, references-start, entities-start)
+pub skipped-on : (t : List ℕ) (from at lines next : ℕ) → Skipped t from at lines → {reference : Bool} {v : Item} → linesIn (drop at t) ≡ value reference v ∷ linesIn (drop next t)
+    → Skipped t from next (lines + 1)
+unfolding linesPass
+skipped-on t from at lines next s e = record {
+  same = λ g f place.
+      let z : place + (lines + 1) ≡ place + lines + 1 = omega arith in
+      ap (λ (k : ℕ). linesPass g f k (linesIn (drop next t))) z ∙ sym (ap (linesPass g f (place + lines)) e) ∙ s .same g f place;
+}

@@ -13,6 +13,7 @@ use Rattle.layouts.specs.Named.{named}
 use Rattle.sheets.specs.declared.Said.{Said}
 use Rattle.sheets.specs.declared.Said.the-variants.{Start, Global, Entry, Value as Given, Last, Nothing}
 use Rattle.sheets.specs.Sheet.{Line, lineFrom}
+use Rattle.sheets.specs.Reading.{NoValue}
 use Rattle.sheets.proofs.Said.{the-type as saidType}
 use Rattle.rows.specs.Rows.{valuesFirst}
 use Rattle.writing.specs.declared.Pass.the-variants.{Good}
@@ -55,12 +56,12 @@ entity-other list types place vs (Last n) h = refl
 entity-other list types place vs (Nothing b) h = refl
 
 -- no value line
-pub no-values : (l : List ℕ) (ls : List Line) (x : Said) → OneOf (0 ∷ 1 ∷ 2 ∷ 4 ∷ 5 ∷ []) (tagOf saidType x) → valuesFirst (lineFrom l x ∷ ls) ≡ []
+pub no-values : (l : List ℕ) (ls : List Line) (x : Said) → NoValue x → valuesFirst (lineFrom l x ∷ ls) ≡ []
 unfolding valuesFirst
 no-values l ls Start h = refl
 no-values l ls (Global n at v) h = refl
 no-values l ls (Entry known n fields) h = refl
-no-values l ls (Given reference v) h = absurd (miss (0 ∷ 1 ∷ 2 ∷ 4 ∷ 5 ∷ []) 3 tt h)
+no-values l ls (Given reference v) h = absurd h
 no-values l ls (Last n) h = refl
 no-values l ls (Nothing b) h = refl
 

@@ -17,16 +17,9 @@ use Rattle.writing.specs.declared.Pass.the-variants.{Good, Refused}
 use Rattle.writing.specs.Lines.{passOf, orElse, OfGlobal, OfRow, noRule, linesPass}
 use Rattle.writing.specs.Classes.{sheetTypes}
 use Rattle.writing.specs.Answers.{rulesPass, referencesPass, entitiesPass, sheetPass}
+use Rattle.writing.proofs.Lines.{or-assoc}
 
 -- ---- passes one after another
-
-or-good : (p : Pass) → orElse p Good ≡ p
-or-good Good = refl
-or-good (Refused n l) = refl
-
-or-assoc : (p q r : Pass) → orElse (orElse p q) r ≡ orElse p (orElse q r)
-or-assoc Good q r = refl
-or-assoc (Refused n l) q r = refl
 
 pub pass-then : {A B : Type 0} (o : Outcome A) (k : Outcome B) → passOf (o then λ _. k) ≡ orElse (passOf o) (passOf k)
 pass-then (accepted a) k = refl

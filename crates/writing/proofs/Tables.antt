@@ -1,7 +1,7 @@
 -- The table of classes: filled line by line, and what a number names by it.
 use mathlib.Core.Path.{_≡_, refl, sym, ap, _∙_}
 use mathlib.Core.Bool.{Bool}
-use mathlib.Core.List.{List, [], _∷_, map}
+use mathlib.Core.List.{List, [], _∷_, _++_, map}
 use Prim.Native.Nat.{ℕ, zero, suc, _+_, _-_, _/_, _%_, _≤_, _<_}
 use native.Mathlib.Omega.{arith}
 use lib.ListN.{length, getD, drop, set, replicate, length-set, length-replicate, getD-replicate}
@@ -19,7 +19,7 @@ use Rattle.sheets.specs.Sheet.{Line, none, saysOf, lineFrom, saidBy, linesIn}
 use Rattle.sheets.proofs.Walk.{lines-first}
 use Rattle.rows.specs.Rows.{typesIn}
 use Rattle.writing.specs.Heads.{headOf}
-use Rattle.writing.specs.Classes.{sheetTypes, classesIn, saidClass, tableSize, Tabled}
+use Rattle.writing.specs.Classes.{sheetTypes, classesIn, saidClass, withClass, tableSize, Tabled}
 use Rattle.writing.proofs.Lines.{lines-piece, lines-none}
 use Rattle.writing.proofs.Others.{class-other}
 use Rattle.writing.proofs.Heading.{Quiet, head-tells}
@@ -35,14 +35,13 @@ class-line l x r e er = er ∙ ap saidClass e
 
 pub ruleset said = (class-entry, class-other, class-line)
 
--- the classes with those of one line more: none, or one
-abbrev withClass : ℕ → List ℕ → List ℕ
-withClass zero cs = cs
-withClass (suc c) cs = suc c ∷ cs
-
 with-some : (c : ℕ) (cs : List ℕ) → 1 ≤ c → withClass c cs ≡ c ∷ cs
 with-some zero cs h = absurd (omega arith)
 with-some (suc c) cs h = refl
+
+with-line : (c : ℕ) (cs : List ℕ) → withClass c cs ≡ withClass c [] ++ cs
+with-line zero cs = refl
+with-line (suc c) cs = refl
 
 said-class : (l : List ℕ) (ls : List Line) (x : Said) → classesIn (lineFrom l x ∷ ls) ≡ withClass (saidClass x) (classesIn ls)
 unfolding classesIn typesIn
@@ -101,19 +100,26 @@ module _ (t : List ℕ) (at n : ℕ) (all : n ≡ length t) where
             let i : getD (c ∷ classesIn (linesIn (drop (end + 1) t))) k 0 ≡ f = rw (left-entry e) at inv in
             rw q at i
 
-      -- what is still to be laid
-      module _ (o g : List ℕ) (k : ℕ) (inv : laid o k (classesIn (linesIn (drop at t))) ≡ g) where
-        pub fill-other : c ≡ 0 → laid o k (classesIn (linesIn (drop (end + 1) t))) ≡ g
-        fill-other e = rw (left-other e) at inv
+    -- what is still to be laid
+    module _ (o g : List ℕ) (k : ℕ) (inv : laid o k (classesIn (linesIn (drop at t))) ≡ g) where
+      pub fill-on : (end ≡ n → ⊥) → (x : Said) {o′ : List ℕ} {m : ℕ} → x ≡ headOf (columns t at end) → Wrote o k (withClass (saidClass x) []) o′ m
+          → laid o′ m (classesIn (linesIn (drop (end + 1) t))) ≡ g
+      fill-on h x ex w =
+          let rest : List ℕ = classesIn (linesIn (drop (end + 1) t)) in
+          rw (w .bytes, w .next) (laid-laid o k (withClass (saidClass x) []) rest ∙ ap (laid o k) (sym (with-line (saidClass x) rest) ∙ sym (left h (saidClass x) (ap saidClass ex))) ∙ inv)
 
-        pub fill-on : (c ≡ 0 → ⊥) → {o′ : List ℕ} {m : ℕ} → Wrote o k (c ∷ []) o′ m → laid o′ m (classesIn (linesIn (drop (end + 1) t))) ≡ g
-        fill-on e w = rw (w .bytes, w .next) (laid-laid o k (c ∷ []) (classesIn (linesIn (drop (end + 1) t))) ∙ (rw (left-entry e) at inv))
+      -- the same of all that the line says
+      pub fill-said : (end ≡ n → ⊥) → (x : Said) {o′ : List ℕ} {m : ℕ} → x ≡ saysOf (columns t at end) → Wrote o k (withClass (saidClass x) []) o′ m
+          → laid o′ m (classesIn (linesIn (drop (end + 1) t))) ≡ g
+      fill-said h x ex w =
+          let rest : List ℕ = classesIn (linesIn (drop (end + 1) t)) in
+          rw (w .bytes, w .next) (laid-laid o k (withClass (saidClass x) []) rest ∙ ap (laid o k) (sym (with-line (saidClass x) rest) ∙ sym (left h (saidClass x) (ap saidClass ex ∙ sym (head-tells saidClass quiet-class (columns t at end))))) ∙ inv)
+
+      pub fill-piece : end ≡ n → o ≡ g
+      fill-piece h = sym (laid-nil o k) ∙ (rw (left-piece h) at inv)
 
     pub past-piece : (k f : ℕ) → getD (classesIn (linesIn (drop at t))) k 0 ≡ f → end ≡ n → 0 ≡ f
     past-piece k f inv h = rw (left-piece h) at inv
-
-    pub fill-piece : (o g : List ℕ) (k : ℕ) → laid o k (classesIn (linesIn (drop at t))) ≡ g → end ≡ n → o ≡ g
-    fill-piece o g k inv h = sym (laid-nil o k) ∙ (rw (left-piece h) at inv)
 
   pub past-end : (k f : ℕ) → getD (classesIn (linesIn (drop at t))) k 0 ≡ f → n ≤ at → 0 ≡ f
   past-end k f inv h = rw (left-none h) at inv
@@ -121,7 +127,26 @@ module _ (t : List ℕ) (at n : ℕ) (all : n ≡ length t) where
   pub fill-end : (o g : List ℕ) (k : ℕ) → laid o k (classesIn (linesIn (drop at t))) ≡ g → n ≤ at → o ≡ g
   fill-end o g k inv h = sym (laid-nil o k) ∙ (rw (left-none h) at inv)
 
-pub ruleset walking = (past-other, past-here, past-on, past-piece, past-end, fill-other, fill-on, fill-piece, fill-end)
+pub ruleset walking = (past-other, past-here, past-on, past-piece, past-end)
+
+pub fill-start : (o t : List ℕ) → laid o 0 (classesIn (linesIn (drop 0 t))) ≡ laid o 0 (classesIn (linesIn t))
+fill-start o t = refl
+
+pub wrote-length : {o : List ℕ} {at : ℕ} {bs o′ : List ℕ} {r : ℕ} → Wrote o at bs o′ r → (m : ℕ) → length o ≡ m → length o′ ≡ m
+wrote-length {o} {at} {bs} w m e = ap length (w .bytes) ∙ length-laid o at bs ∙ e
+
+pub ruleset laying = (fill-on, fill-piece, fill-end, fill-start, wrote-length)
+
+-- ---- a line's class into the table
+
+module _ (o : List ℕ) (k : ℕ) (x : Said) (c : ℕ) (ec : c ≡ saidClass x) where
+  pub keep-none : c ≡ 0 → Wrote o k (withClass (saidClass x) []) o k
+  keep-none e = rw (← ec, e) (record { bytes = sym (laid-nil o k); next = omega arith })
+
+  pub keep-one : (c ≡ 0 → ⊥) → {o′ : List ℕ} {m : ℕ} → Wrote o k (c ∷ []) o′ m → Wrote o k (withClass (saidClass x) []) o′ m
+  keep-one e w = rw (← ec, with-some c [] (omega arith)) w
+
+pub ruleset keeping = (keep-none, keep-one)
 
 -- ---- what a number names
 

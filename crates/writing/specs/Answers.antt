@@ -1,8 +1,11 @@
 -- The answer of all checks of a sheet.
+use mathlib.Core.Path.{_≡_}
 use mathlib.Core.List.{List}
 use Prim.Native.Nat.{ℕ}
 use lib.ListN.{length}
 use Rattle.columns.specs.Refusal.{Outcome, accepted, refused}
+use Rattle.sheets.specs.declared.Verdict.{Verdict}
+use Rattle.sheets.specs.declared.Verdict.the-variants.{Good as GoodSheet}
 use Rattle.sheets.specs.Sheet.{linesIn}
 use Rattle.sheets.specs.Order.{sheetLine}
 use Rattle.model.specs.Model.{Model}
@@ -37,3 +40,7 @@ entitiesPass list t = linesPass noRule (rowEntityRules list (sheetTypes t)) 1 (l
 -- the passes behind 17
 unfoldable pub sheetPass : ℕ → List ℕ → Pass
 sheetPass list t = orElse (rulesPass t) (orElse (referencesPass t) (entitiesPass list t))
+
+-- what holds where a sheet's lines are good
+pub record IfGood (v : Verdict) (A : Type 0) : Type 0 where
+  pub so : (n : ℕ) → v ≡ GoodSheet n → A

@@ -1,7 +1,7 @@
 -- The classes of a sheet's entries, and the table that keeps them.
 use mathlib.Core.Path.{_≡_}
-use mathlib.Core.List.{List, map}
-use Prim.Native.Nat.{ℕ, _<_}
+use mathlib.Core.List.{List, _∷_, map}
+use Prim.Native.Nat.{ℕ, zero, suc, _<_}
 use lib.ListN.{length, getD}
 use Rattle.references.specs.References.{noEntry, classOf}
 use Rattle.sheets.specs.declared.Said.{Said}
@@ -25,6 +25,11 @@ saidClass (Entry known n x) = classOf (x .entity .size)
 saidClass (Given reference v) = noEntry
 saidClass (Last n) = noEntry
 saidClass (Nothing b) = noEntry
+
+-- the classes with that of one line more: none, or one
+abbrev pub withClass : ℕ → List ℕ → List ℕ
+withClass zero cs = cs
+withClass (suc c) cs = suc c ∷ cs
 
 -- as many entries as a file of 200,000 lines can have: three lines of its own, and three for each entry
 abbrev pub tableSize : ℕ

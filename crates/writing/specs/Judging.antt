@@ -11,6 +11,7 @@ use Rattle.layouts.specs.declared.Verdict.the-variants.{Good as GoodVerdict}
 use Rattle.layouts.specs.Entities.{feed, mark, ended, fault}
 use Rattle.model.specs.Write.{equal}
 use Rattle.writing.specs.declared.Judged.{Judged}
+use Rattle.writing.specs.declared.Values.{Values}
 use Rattle.writing.specs.declared.Pass.{Pass}
 use Rattle.writing.specs.Lines.{passOf}
 
@@ -18,9 +19,16 @@ use Rattle.writing.specs.Lines.{passOf}
 abbrev pub rightToo : Bool → Bool → Stepped → Bool
 rightToo right reference g = right && equal reference (mark g)
 
+abbrev pub judgedSo : Stepped → Bool → Judged
+judgedSo g right = record { state = g; right = right }
+
+-- the same, with the place behind them and how many they are
+abbrev pub valuesOf : Stepped → Bool → ℕ → ℕ → Values
+valuesOf g right next lines = record { state = g; right = right; next = next; lines = lines }
+
 -- behind the last value
 unfoldable pub judged : List ℕ → Stepped → Bool → List (Bool × Item) → Judged
-judged types g right [] = record { state = g; right = right }
+judged types g right [] = judgedSo g right
 judged types g right (v ∷ vs) = judged types (feed types g (v .1)) (rightToo right (v .0) g) vs
 
 -- the verdict, where the list knows the entity

@@ -3,3 +3,4 @@ pub mod Heads
 pub mod Classes
 pub mod Judging
 pub mod Answers
+pub mod Ahead

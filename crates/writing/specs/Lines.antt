@@ -1,9 +1,11 @@
 -- A pass over a sheet's lines in line order: the first refusal of what is asked of G lines and of entry lines.
+use mathlib.Core.Path.{_≡_}
 use mathlib.Core.List.{List, [], _∷_}
 use Prim.Native.Nat.{ℕ, _+_}
+use lib.ListN.{drop}
 use Rattle.columns.specs.Refusal.{Outcome, accepted, refused}
 use Rattle.values.specs.Value.{Item}
-use Rattle.sheets.specs.Sheet.{Line, start, global, entry, value, last, none, Row, row}
+use Rattle.sheets.specs.Sheet.{Line, start, global, entry, value, last, none, Row, row, linesIn}
 use Rattle.sheets.specs.Order.{sheetLine}
 use Rattle.rows.specs.Rows.{valuesFirst}
 use Rattle.writing.specs.declared.Pass.{Pass}
@@ -43,3 +45,7 @@ lineCheck g f place (none b) ls = Good
 unfoldable pub linesPass : OfGlobal → OfRow → ℕ → List Line → Pass
 linesPass g f place [] = Good
 linesPass g f place (l ∷ ls) = orElse (lineCheck g f place l ls) (linesPass g f (place + 1) ls)
+
+-- the lines from `from` on are asked as those from `next` on: the so many between are asked nothing
+pub record Skipped (t : List ℕ) (from next lines : ℕ) : Type 0 where
+  pub same : (g : OfGlobal) (f : OfRow) (place : ℕ) → linesPass g f (place + lines) (linesIn (drop next t)) ≡ linesPass g f place (linesIn (drop from t))

@@ -1,7 +1,11 @@
-// What an entity of a sheet is asked: 14 and 15 by its layout, where the list knows it, then 18 by its marks.
+// What the entities of a sheet are asked: 10, then 14 and 15 by their layouts, where the list knows them, then 18 by their marks.
+use crate::Asked;
 use crate::Judged;
 use crate::Pass;
+use crate::Values;
 use crate::heads::head_at;
+use crate::refer::reference_of;
+use crate::refer::references;
 use crate::table::class_at;
 use columns::Fault;
 use columns::SheetLine;
@@ -14,23 +18,24 @@ use layouts::machine;
 use references::NO_ENTRY;
 use sheets::Said;
 use sheets::reading::end_of;
-use sheets::reading::line_at;
+use sheets::reading::is_value;
+use sheets::reading::strict_at;
+use values::Strict;
 use values::Value;
 ghost use mathlib.Core.Path.{_≡_};
 ghost use mathlib.Core.Bool.{true};
 ghost use Prim.Native.Nat.{_+_, _≤_};
 ghost use lib.ListN.{length, drop};
-ghost use Rattle.columns.specs.Columns.{columns};
 ghost use Rattle.layouts.specs.Named.{named};
 ghost use Rattle.layouts.specs.Stepping.{stepped};
-ghost use Rattle.sheets.specs.Sheet.{saidBy, linesIn};
+ghost use Rattle.sheets.specs.Sheet.{linesIn};
 ghost use Rattle.rows.specs.Rows.{valuesFirst};
-ghost use Rattle.model.specs.Write.{equal, rowEntityRules};
-ghost use Rattle.writing.specs.Lines.{noRule, lineCheck};
+ghost use Rattle.model.specs.Write.{equal, rowReferences};
+ghost use Rattle.writing.specs.Lines.{orElse, noRule, linesPass, Skipped};
 ghost use Rattle.writing.specs.Heads.{saidEntity};
 ghost use Rattle.writing.specs.Classes.{sheetTypes, Tabled};
-ghost use Rattle.writing.specs.Judging.{rightToo, judged, verdictIf, answerOf};
-ghost use Rattle.writing.specs.Answers.{entitiesPass};
+ghost use Rattle.writing.specs.Judging.{rightToo, judgedSo, judged, valuesOf, verdictIf, answerOf};
+ghost use Rattle.writing.specs.Answers.{referencesPass, entitiesPass};
 
 // The class of what a value names: only a whole number without a sign names an entry.
 fn named_at(classes: &[u8], n: usize, t: &[u8], v: Value) -> u8
@@ -83,29 +88,52 @@ fn right_too(right: bool, reference: bool, g: Stepped) -> bool
     false
 }
 
+// What is judged so far, with the place and how many lines.
+fn values_of(state: Stepped, right: bool, next: usize, lines: usize) -> Values
+    ensures { λ r. ⌜ r ≡ valuesOf state right next lines ⌝ }
+{
+    Values {
+        state,
+        right,
+        next,
+        lines,
+    }
+}
+
 // The values of the value lines from `from` on, from this state.
-fn judge(classes: &[u8], n: usize, t: &[u8], from: usize, begun: Stepped) -> Judged
+fn judge(classes: &[u8], n: usize, t: &[u8], from: usize, begun: Stepped) -> Values
     requires { ⌜ Tabled (now classes) n (now t) × (from ≤ length (now t)) ⌝ }
-    ensures { λ r. ⌜ r ≡ judged (sheetTypes (now (t .entry))) begun true (valuesFirst (linesIn (drop from (now (t .entry))))) ⌝ }
+    ensures { λ r. ⌜ judgedSo (r .state) (r .right) ≡ judged (sheetTypes (now (t .entry))) begun true (valuesFirst (linesIn (drop from (now (t .entry))))) ⌝ }
+    ensures { λ r. ⌜ Skipped (now (t .entry)) from (r .next) (r .lines) ⌝ }
+    ensures { λ r. ⌜ (from + r .lines ≤ r .next) × (r .next ≤ length (now (t .entry))) ⌝ }
 {
     let size = t.len();
-    let mut at = from;
+    let mut next = from;
+    let mut lines = 0;
     let mut state = begun;
     let mut right = true;
-    while at < size {
-        let end = end_of(t, at);
+    while next < size {
+        let end = end_of(t, next);
         if end == size {
-            return Judged { state, right };
+            return values_of(state, right, next, lines);
         }
-        let said = line_at(t, at, end);
-        let Said::Value { reference, value } = said else {
-            return Judged { state, right };
-        };
-        right = right_too(right, reference, state);
-        state = step_at(classes, n, t, state, value);
-        at = end + 1;
+        if !is_value(t, next, end) {
+            return values_of(state, right, next, lines);
+        }
+        match strict_at(t, next + 2, end) {
+            Strict::Is(value) => {
+                let reference = t[next] == 82;
+                right = right_too(right, reference, state);
+                state = step_at(classes, n, t, state, value);
+                next = end + 1;
+                lines += 1;
+            }
+            Strict::Not => {
+                return values_of(state, right, next, lines);
+            }
+        }
     }
-    Judged { state, right }
+    values_of(state, right, next, lines)
 }
 
 // The verdict of a layout, where the list knows the entity.
@@ -152,18 +180,20 @@ fn answer_of(inside: bool, marked: bool, j: Judged, place: usize) -> Pass
     }
 }
 
-// What a line says, at its place; its values stand from `next` on.
+// What a line says, at its place; its values stand from `from` on.
 fn entity_of(
     list: u64,
     classes: &[u8],
     n: usize,
     t: &[u8],
-    next: usize,
+    from: usize,
     said: Said,
     place: usize,
-) -> Pass
-    requires { ⌜ Tabled (now classes) n (now t) × (next ≤ length (now t)) ⌝ }
-    ensures { λ r. ⌜ r ≡ saidEntity list (sheetTypes (now (t .entry))) place (valuesFirst (linesIn (drop next (now (t .entry))))) said ⌝ }
+) -> Asked
+    requires { ⌜ Tabled (now classes) n (now t) × (from ≤ length (now t)) ⌝ }
+    ensures { λ r. ⌜ r .found ≡ saidEntity list (sheetTypes (now (t .entry))) place (valuesFirst (linesIn (drop from (now (t .entry))))) said ⌝ }
+    ensures { λ r. ⌜ Skipped (now (t .entry)) from (r .next) (r .lines) ⌝ }
+    ensures { λ r. ⌜ (from + r .lines ≤ r .next) × (r .next ≤ length (now (t .entry))) ⌝ }
 {
     let Said::Entry {
         known: marked,
@@ -171,37 +201,44 @@ fn entity_of(
         fields,
     } = said
     else {
-        return Pass::Good;
+        return Asked {
+            found: Pass::Good,
+            next: from,
+            lines: 0,
+        };
     };
     let typ = fields.entity.size;
     let form = fields.form.size;
     let inside = known(list, typ, form);
     let begun = marks_begun(list, typ, form);
-    let j = judge(classes, n, t, next, begun);
-    answer_of(inside, marked, j, place)
+    let values = judge(classes, n, t, from, begun);
+    let state = values.state;
+    let right = values.right;
+    let judged = Judged { state, right };
+    let found = answer_of(inside, marked, judged, place);
+    Asked {
+        found,
+        next: values.next,
+        lines: values.lines,
+    }
 }
 
-// The line from `at` up to `end`.
-fn entity_at(
-    list: u64,
-    classes: &[u8],
-    n: usize,
-    t: &[u8],
-    at: usize,
-    end: usize,
-    place: usize,
-) -> Pass
-    requires { ⌜ Tabled (now classes) n (now t) × (at ≤ end) × (end + 1 ≤ length (now t)) ⌝ }
-    ensures { λ r. ⌜ r ≡ lineCheck noRule (rowEntityRules list (sheetTypes (now (t .entry)))) place (saidBy (columns (now (t .entry)) at end)) (linesIn (drop (end + 1) (now (t .entry)))) ⌝ }
+// Behind an entity with this refusal: what 10 refuses from `from` on comes first.
+fn refused_later(classes: &[u8], n: usize, t: &[u8], from: usize, place: usize, found: Pass) -> Pass
+    requires { ⌜ Tabled (now classes) n (now t) × (from ≤ length (now t)) × (place ≤ from + 1) ⌝ }
+    ensures { λ r. ⌜ r ≡ orElse (linesPass noRule (rowReferences (sheetTypes (now (t .entry)))) place (linesIn (drop from (now (t .entry))))) found ⌝ }
 {
-    let said = head_at(t, at, end);
-    entity_of(list, classes, n, t, end + 1, said, place)
+    let named = references(classes, n, t, from, place);
+    match named {
+        Pass::Refused { fault, line } => Pass::Refused { fault, line },
+        Pass::Good => found,
+    }
 }
 
-// All entities of a sheet of n.
-pub fn entities(list: u64, classes: &[u8], n: usize, t: &[u8]) -> Pass
+// All 10, then each entity 14, 15, 18, of a sheet of n entries. Behind a refused entity only 10 is left to ask.
+pub fn named_rules(list: u64, classes: &[u8], n: usize, t: &[u8]) -> Pass
     requires { ⌜ Tabled (now classes) n (now t) ⌝ }
-    ensures { λ r. ⌜ r ≡ entitiesPass list (now (t .entry)) ⌝ }
+    ensures { λ r. ⌜ r ≡ orElse (referencesPass (now (t .entry))) (entitiesPass list (now (t .entry))) ⌝ }
 {
     let size = t.len();
     let mut at = 0;
@@ -211,14 +248,25 @@ pub fn entities(list: u64, classes: &[u8], n: usize, t: &[u8]) -> Pass
         if end == size {
             return Pass::Good;
         }
-        let found = entity_at(list, classes, n, t, at, end, place);
-        match found {
+        let said = head_at(t, at, end);
+        let named = reference_of(classes, n, t, said, place);
+        match named {
             Pass::Refused { fault, line } => {
                 return Pass::Refused { fault, line };
             }
             Pass::Good => {
-                at = end + 1;
-                place += 1;
+                let asked = entity_of(list, classes, n, t, end + 1, said, place);
+                let found = asked.found;
+                match found {
+                    Pass::Refused { fault, line } => {
+                        let first = Pass::Refused { fault, line };
+                        return refused_later(classes, n, t, end + 1, place + 1, first);
+                    }
+                    Pass::Good => {
+                        at = asked.next;
+                        place += 1 + asked.lines;
+                    }
+                }
             }
         }
     }

@@ -1,7 +1,11 @@
 // Writing: the checks of a sheet in the paper's order, 1 (list only), 17, 8, each entry 9 and 13, all 10, each entry 14, 15, 18.
-// `heads` reads the lines that are asked, `rules` asks 8, 9 and 13, `table` keeps the class of each entry, `refer` asks 10,
-// `entity` asks 14, 15 and 18.
+// A sheet is walked twice. The first walk asks 17 of each line, and 8, 9 and 13, the first refusal of which is kept, since 17 comes before all
+// of them; on it the class of each entry is put into a table. The second walk asks 10 of each entry, then 14, 15 and 18 with the value
+// lines behind it, and goes on behind these; behind a refused entity only 10 is left to ask.
+// `first` is the first walk, `heads` reads the lines that are asked on the second, `rules` asks 8, 9 and 13, `table` keeps the class of each
+// entry, `refer` asks 10, `entity` asks 14, 15 and 18 and makes the second walk.
 pub mod entity;
+mod first;
 pub mod heads;
 pub mod refer;
 pub mod rules;
@@ -10,12 +14,11 @@ pub mod table;
 use columns::Fault;
 use columns::SheetLine;
 use layouts::Stepped;
+use sheets::State;
 use sheets::Verdict;
 ghost use mathlib.Core.Path.{_≡_};
-ghost use lib.ListN.{length};
-ghost use Rattle.writing.specs.Lines.{orElse};
-ghost use Rattle.writing.specs.Classes.{sheetTypes, Tabled};
-ghost use Rattle.writing.specs.Answers.{ruledOf, referencesPass, entitiesPass, sheetPass};
+ghost use Rattle.writing.specs.Classes.{Tabled};
+ghost use Rattle.writing.specs.Answers.{ruledOf, rulesPass, sheetPass};
 
 // All is good, or the first refusal and its line.
 pub enum Pass {
@@ -29,37 +32,47 @@ pub struct Judged {
     pub right: bool,
 }
 
+// The same of the value lines behind a line, with the place behind them and how many they are.
+pub struct Values {
+    pub state: Stepped,
+    pub right: bool,
+    pub next: usize,
+    pub lines: usize,
+}
+
+// What comes of a line and the value lines behind it, with the place behind them and how many they are.
+pub struct Asked {
+    pub found: Pass,
+    pub next: usize,
+    pub lines: usize,
+}
+
+// Where the first walk stands behind value lines: the state, and the place.
+pub struct Past {
+    pub state: State,
+    pub next: usize,
+}
+
+// What the first walk tells: the verdict on a sheet's lines and, where that is good, whether all is good that lines are asked by themselves.
+pub struct Walked {
+    pub verdict: Verdict,
+    pub pass: Pass,
+}
+
 // The number of entries of a sheet that passes all checks, or its first refusal.
 pub enum Ruled {
     Good(usize),
     Refused { fault: Fault, line: SheetLine },
 }
 
-// All 10, then each entry 14, 15, 18.
-fn named_rules(list: u64, classes: &[u8], n: usize, t: &[u8]) -> Pass
-    requires { ⌜ Tabled (now classes) n (now t) ⌝ }
-    ensures { λ r. ⌜ r ≡ orElse (referencesPass (now (t .entry))) (entitiesPass list (now (t .entry))) ⌝ }
-{
-    let found = refer::references(classes, n, t);
-    match found {
-        Pass::Refused { fault, line } => Pass::Refused { fault, line },
-        Pass::Good => entity::entities(list, classes, n, t),
-    }
-}
-
-// The passes over a sheet of n entries.
-fn passes(list: u64, n: usize, t: &[u8]) -> Pass
-    requires { ⌜ n ≡ length (sheetTypes (now t)) ⌝ }
+// The passes behind 17 over a sheet of n entries, the first of which found this.
+fn passes(list: u64, classes: &[u8], n: usize, t: &[u8], first: Pass) -> Pass
+    requires { ⌜ Tabled (now classes) n (now t) × (first ≡ rulesPass (now t)) ⌝ }
     ensures { λ r. ⌜ r ≡ sheetPass list (now (t .entry)) ⌝ }
 {
-    let found = rules::rules(t);
-    match found {
+    match first {
         Pass::Refused { fault, line } => Pass::Refused { fault, line },
-        Pass::Good => {
-            let mut classes = [0u8; table::TABLE];
-            table::fill(&mut classes, t);
-            named_rules(list, &classes, n, t)
-        }
+        Pass::Good => entity::named_rules(list, classes, n, t),
     }
 }
 
@@ -73,14 +86,17 @@ pub fn check(list: u64, t: &[u8]) -> Ruled
             line: SheetLine(0),
         };
     }
-    let verdict = sheets::reading::read_sheet(t);
+    let mut classes = [0u8; table::TABLE];
+    let walked = first::walk(&mut classes, t);
+    let verdict = walked.verdict;
+    let first = walked.pass;
     match verdict {
         Verdict::Wrong(line) => Ruled::Refused {
             fault: Fault::SheetLine,
             line,
         },
         Verdict::Good(n) => {
-            let found = passes(list, n, t);
+            let found = passes(list, &classes, n, t, first);
             match found {
                 Pass::Refused { fault, line } => Ruled::Refused { fault, line },
                 Pass::Good => Ruled::Good(n),

@@ -11,15 +11,13 @@ use sheets::reading::end_of;
 ghost use mathlib.Core.Path.{_≡_};
 ghost use Prim.Native.Nat.{_+_, _≤_};
 ghost use lib.ListN.{length, drop};
-ghost use Rattle.columns.specs.Columns.{columns};
 ghost use Rattle.directory.specs.Rules.{allFit, references};
 ghost use Rattle.directory.specs.Asking.{asksOk};
-ghost use Rattle.sheets.specs.Sheet.{saidBy, linesIn};
+ghost use Rattle.sheets.specs.Sheet.{linesIn};
 ghost use Rattle.model.specs.Write.{rowReferences};
-ghost use Rattle.writing.specs.Lines.{noRule, lineCheck};
+ghost use Rattle.writing.specs.Lines.{noRule, linesPass};
 ghost use Rattle.writing.specs.Heads.{saidReferences};
 ghost use Rattle.writing.specs.Classes.{sheetTypes, Tabled};
-ghost use Rattle.writing.specs.Answers.{referencesPass};
 
 // How many references an entry may have.
 const REFERENCES: usize = 7;
@@ -53,7 +51,7 @@ fn all_ask_ok(classes: &[u8], n: usize, t: &[u8], e: Entry) -> bool
 }
 
 // What a line says, at its place.
-fn reference_of(classes: &[u8], n: usize, t: &[u8], said: Said, place: usize) -> Pass
+pub fn reference_of(classes: &[u8], n: usize, t: &[u8], said: Said, place: usize) -> Pass
     requires { ⌜ Tabled (now classes) n (now t) ⌝ }
     ensures { λ r. ⌜ r ≡ saidReferences (sheetTypes (now (t .entry))) place said ⌝ }
 {
@@ -75,29 +73,21 @@ fn reference_of(classes: &[u8], n: usize, t: &[u8], said: Said, place: usize) ->
     }
 }
 
-// The line from `at` up to `end`.
-fn reference_at(classes: &[u8], n: usize, t: &[u8], at: usize, end: usize, place: usize) -> Pass
-    requires { ⌜ Tabled (now classes) n (now t) × (at ≤ end) × (end ≤ length (now t)) ⌝ }
-    ensures { λ r. ⌜ r ≡ lineCheck noRule (rowReferences (sheetTypes (now (t .entry)))) place (saidBy (columns (now (t .entry)) at end)) (linesIn (drop (end + 1) (now (t .entry)))) ⌝ }
-{
-    let said = head_at(t, at, end);
-    reference_of(classes, n, t, said, place)
-}
-
-// All entries of a sheet of n.
-pub fn references(classes: &[u8], n: usize, t: &[u8]) -> Pass
-    requires { ⌜ Tabled (now classes) n (now t) ⌝ }
-    ensures { λ r. ⌜ r ≡ referencesPass (now (t .entry)) ⌝ }
+// All entries from `from` on, where the line has this place.
+pub fn references(classes: &[u8], n: usize, t: &[u8], from: usize, first: usize) -> Pass
+    requires { ⌜ Tabled (now classes) n (now t) × (from ≤ length (now t)) × (first ≤ from + 1) ⌝ }
+    ensures { λ r. ⌜ r ≡ linesPass noRule (rowReferences (sheetTypes (now (t .entry)))) first (linesIn (drop from (now (t .entry)))) ⌝ }
 {
     let size = t.len();
-    let mut at = 0;
-    let mut place = 1;
+    let mut at = from;
+    let mut place = first;
     while at < size {
         let end = end_of(t, at);
         if end == size {
             return Pass::Good;
         }
-        let found = reference_at(classes, n, t, at, end, place);
+        let said = head_at(t, at, end);
+        let found = reference_of(classes, n, t, said, place);
         match found {
             Pass::Refused { fault, line } => {
                 return Pass::Refused { fault, line };

@@ -1,19 +1,19 @@
-// What lines are asked by themselves: 8 of a G line, 9 and 13 of an entry line. G lines stand before entries, so this is one walk.
+// What lines are asked by themselves: 8 of a G line, 9 and 13 of an entry line. G lines stand before entries, so this is one walk;
+// on it the class of each entry is put into the table, too.
 use crate::Pass;
 use crate::heads::head_at;
+use crate::table::keep;
 use columns::Fault;
 use columns::SheetLine;
 use directory::Rule;
 use sheets::Said;
 use sheets::reading::end_of;
 ghost use mathlib.Core.Path.{_≡_};
-ghost use Prim.Native.Nat.{_+_, _≤_};
-ghost use lib.ListN.{length, drop};
-ghost use Rattle.columns.specs.Columns.{columns};
-ghost use Rattle.sheets.specs.Sheet.{saidBy, linesIn};
-ghost use Rattle.model.specs.Write.{globalRule, rowRules};
-ghost use Rattle.writing.specs.Lines.{lineCheck};
+ghost use Rattle.columns.specs.Laid.{laid};
+ghost use Rattle.sheets.specs.Sheet.{linesIn};
+ghost use Rattle.writing.specs.Lines.{orElse};
 ghost use Rattle.writing.specs.Heads.{saidRule};
+ghost use Rattle.writing.specs.Classes.{classesIn};
 ghost use Rattle.writing.specs.Answers.{rulesPass};
 
 // What a line says, at its place.
@@ -50,37 +50,12 @@ fn rule_of(said: Said, place: usize) -> Pass
     }
 }
 
-// The line from `at` up to `end`.
-fn rule_at(t: &[u8], at: usize, end: usize, place: usize) -> Pass
-    requires { ⌜ (at ≤ end) × (end ≤ length (now t)) ⌝ }
-    ensures { λ r. ⌜ r ≡ lineCheck globalRule rowRules place (saidBy (columns (now (t .entry)) at end)) (linesIn (drop (end + 1) (now (t .entry)))) ⌝ }
+// The first refusal so far, or that of this line.
+pub fn rule_too(first: Pass, said: Said, place: usize) -> Pass
+    ensures { λ r. ⌜ r ≡ orElse first (saidRule place said) ⌝ }
 {
-    let said = head_at(t, at, end);
-    rule_of(said, place)
-}
-
-// All lines.
-pub fn rules(t: &[u8]) -> Pass
-    ensures { λ r. ⌜ r ≡ rulesPass (now (t .entry)) ⌝ }
-{
-    let n = t.len();
-    let mut at = 0;
-    let mut place = 1;
-    while at < n {
-        let end = end_of(t, at);
-        if end == n {
-            return Pass::Good;
-        }
-        let found = rule_at(t, at, end, place);
-        match found {
-            Pass::Refused { fault, line } => {
-                return Pass::Refused { fault, line };
-            }
-            Pass::Good => {
-                at = end + 1;
-                place += 1;
-            }
-        }
+    match first {
+        Pass::Refused { fault, line } => Pass::Refused { fault, line },
+        Pass::Good => rule_of(said, place),
     }
-    Pass::Good
 }

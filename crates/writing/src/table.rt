@@ -5,14 +5,15 @@ use references::NO_ENTRY;
 use sheets::Said;
 use sheets::reading::end_of;
 ghost use mathlib.Core.Path.{_≡_};
-ghost use Prim.Native.Nat.{_≤_};
+ghost use mathlib.Core.List.{[]};
+ghost use Prim.Native.Nat.{_+_, _^_, _≤_, _<_};
 ghost use lib.ListN.{length, getD};
 ghost use Rattle.columns.specs.Columns.{columns};
-ghost use Rattle.columns.specs.Laid.{laid};
+ghost use Rattle.columns.specs.Laid.{Wrote};
 ghost use Rattle.references.specs.References.{classAt};
 ghost use Rattle.sheets.specs.Sheet.{linesIn};
 ghost use Rattle.writing.specs.Heads.{headOf};
-ghost use Rattle.writing.specs.Classes.{sheetTypes, classesIn, saidClass, Tabled};
+ghost use Rattle.writing.specs.Classes.{sheetTypes, classesIn, saidClass, withClass, Tabled};
 
 // A file of 200,000 lines has three of its own (S, G, T), and three for each entry.
 pub const TABLE: usize = 66665;
@@ -43,25 +44,17 @@ fn class_on(t: &[u8], at: usize, end: usize) -> u8
     class_said(said)
 }
 
-// Lays the classes of all entries over the table.
-pub fn fill(classes: &mut [u8], t: &[u8])
-    ensures { λ r. ⌜ now (classes .exit) ≡ laid (now (classes .entry)) 0 (classesIn (linesIn (now (t .entry)))) ⌝ }
+// Keeps the class of the entry that a line heads, if it heads one, as that of entry k.
+pub fn keep(classes: &mut [u8], k: usize, said: Said) -> usize
+    requires { ⌜ k + 1 < 2 ^ 64 ⌝ }
+    ensures { λ r. ⌜ Wrote (now (classes .entry)) k (withClass (saidClass said) []) (now (classes .exit)) r ⌝ }
+    ensures { λ r. ⌜ (k ≤ r) × (r ≤ k + 1) ⌝ }
 {
-    let n = t.len();
-    let mut at = 0;
-    let mut k = 0;
-    while at < n {
-        let end = end_of(t, at);
-        if end == n {
-            return;
-        }
-        let class = class_on(t, at, end);
-        at = end + 1;
-        if class == NO_ENTRY {
-            continue;
-        }
-        k = emit::put(classes, k, class);
+    let class = class_said(said);
+    if class == NO_ENTRY {
+        return k;
     }
+    emit::put(classes, k, class)
 }
 
 // The class of entry i, read off the sheet.

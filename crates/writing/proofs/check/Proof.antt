@@ -1,6 +1,8 @@
--- The list, the sheet's lines, the passes: the first that refuses decides.
+-- The list, the first walk, the passes behind it: the first that refuses decides.
+use mathlib.Core.Path.{refl}
 use borrow.Author.Needs.{needs}
 use Rattle.writing.proofs.Checking.{checks}
+use Rattle.writing.proofs.Walking.{walked-table, walked-rules, walked}
 use Rattle.writing.proofs.check.Statement.{statement}
 use Rattle.writing.proofs.check.Tie as tie
 
@@ -8,14 +10,16 @@ pub check-spec : {M : Type 1} → statement M
 check-spec =
     tie.close
     (tie.spec
-    (λ c κs. search (needs, checks))
-    (λ c. search (needs, checks))
-    (λ c κs. search (needs, checks))
-    (λ c. search (needs, checks))
-    (λ c. search (needs, checks))
-    (λ c κs. search (needs, checks))
-    (λ c. search (needs, checks))
-    (λ c. search (needs, checks))
-    (λ c. search (needs, checks))
-    (λ c. search (needs, checks))
-    (λ c. search (needs, checks)))
+    (λ c κs. search (needs, checks, walked))
+    (λ c. search (needs, checks, walked))
+    (λ c. search (needs, checks, walked))
+    (λ c κs. search (needs, checks, walked))
+    (λ c. search (needs, checks, walked))
+    (λ c. search (needs, checks, walked))
+    (λ c. search (needs, checks, walked))
+    (λ c κs. (walked-table _ _ (search (needs)) _ _ _ (search (needs)) refl (c .before .before .before .before .before .walk .ensures .1 .1), search (needs, walked-rules)))
+    (λ c. search (needs, checks, walked))
+    (λ c. search (needs, checks, walked))
+    (λ c. search (needs, checks, walked))
+    (λ c. search (needs, checks, walked))
+    (λ c. search (needs, checks, walked)))

@@ -1,4 +1,4 @@
--- A piece with no LF says nothing; a line says what was read of it.
+-- A piece with no LF says nothing; a line that begins as no value line does says no value; any other says what was read behind its tab.
 use borrow.Author.Needs.{needs}
 use Rattle.blocks.proofs.Valued.{valued}
 use Rattle.blocks.proofs.parameters.value_at.Statement.{statement}
@@ -13,13 +13,7 @@ value-at-spec =
     (λ c κs. search (needs, valued))
     (λ c. search (needs, valued))
     (λ c. search (needs, valued))
-    (λ c. search (needs, valued))
-    (λ c. search (needs, valued))
-    (λ c. search (needs, valued))
-    (λ c. search (needs, valued))
-    (λ c. search (needs, valued))
-    (λ c. search (needs, valued))
-    (λ c. search (needs, valued))
+    (λ c κs. search (needs, valued))
     (λ c. search (needs, valued))
     (λ c. search (needs, valued))
     (λ c. search (needs, valued))

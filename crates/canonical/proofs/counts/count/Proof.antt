@@ -28,7 +28,6 @@ count-spec =
     (λ c. search (needs, pass))
     (λ c κs. search (needs, pass))
     (λ c κs. search (needs, pass))
-    (λ c κs. search (needs, pass))
     (λ c. search (needs, pass))
     (λ c. search (needs, pass))
     (λ c. search (needs, pass))

@@ -1,5 +1,6 @@
--- The layout's state behind the values gives 14 and 15, the marks 18.
+-- The layout's state behind the values gives 14 and 15, the marks 18; the value lines are skipped.
 use borrow.Author.Needs.{needs}
+use Rattle.writing.proofs.Lines.{skipped-none}
 use Rattle.writing.proofs.Judging.{entities}
 use Rattle.writing.proofs.entity.entity_of.Statement.{statement}
 use Rattle.writing.proofs.entity.entity_of.Tie as tie
@@ -9,9 +10,9 @@ entity-of-spec =
     tie.close
     (tie.spec
     (λ c. search (needs, entities))
-    (λ c. search (needs, entities))
+    (λ c. (search (needs, entities), (skipped-none _ _, search (needs))))
     (λ c κs. search (needs, entities))
     (λ c κs. search (needs, entities))
     (λ c κs. search (needs, entities))
     (λ c κs. search (needs, entities))
-    (λ c. search (needs, entities)))
+    (λ c. (search (needs, entities), (search (needs, entities), search (needs, entities)))))

@@ -6,18 +6,17 @@ use Rattle.sheets.specs.Sheet.{linesIn}
 use Rattle.writing.specs.Lines.{noRule, linesPass}
 use Rattle.writing.specs.Classes.{sheetTypes}
 use Rattle.model.specs.Write.{rowReferences}
-use Rattle.writing.specs.Answers.{referencesPass}
 use borrow.Author.Needs.{needs}
-use Rattle.writing.proofs.Lines.{walks}
+use Rattle.writing.proofs.Naming.{referring}
 use Rattle.writing.proofs.refer.references.Statement.{statement}
 use Rattle.writing.proofs.refer.references.Tie as tie
 
 abbrev Inv-loop : tie.InvT-loop
-Inv-loop classes n t size at₀ place₀ at place =
-    (place ≤ at + 1) × (at ≤ size) × (size ≡ length t) × (linesPass noRule (rowReferences (sheetTypes t)) place (linesIn (drop at t)) ≡ referencesPass t)
+Inv-loop classes n t from first size at₀ place₀ at place =
+    (place ≤ at + 1) × (at ≤ size) × (size ≡ length t) × (linesPass noRule (rowReferences (sheetTypes t)) place (linesIn (drop at t)) ≡ linesPass noRule (rowReferences (sheetTypes t)) first (linesIn (drop from t)))
 
 abbrev μ-loop : tie.MeasureT-loop
-μ-loop classes n t size at₀ place₀ at place = size - at
+μ-loop classes n t from first size at₀ place₀ at place = size - at
 
 pub references-spec : {M : Type 1} → statement M
 references-spec =
@@ -25,15 +24,16 @@ references-spec =
     (tie.spec
     Inv-loop
     μ-loop
-    (λ c. search (needs, walks))
-    (λ c κs. search (needs, walks))
-    (λ c. search (needs, walks))
-    (λ c κs. search (needs, walks))
-    (λ c. search (needs, walks))
-    (λ c. search (needs, walks))
-    (λ c. search (needs, walks))
-    (λ c. search (needs, walks))
-    (λ c. search (needs, walks))
-    (λ c. search (needs, walks))
-    (λ c. search (needs, walks))
-    (λ c. search (needs, walks)))
+    (λ c. search (needs, referring))
+    (λ c κs. search (needs, referring))
+    (λ c. search (needs, referring))
+    (λ c κs. search (needs, referring))
+    (λ c κs. search (needs, referring))
+    (λ c. search (needs, referring))
+    (λ c. search (needs, referring))
+    (λ c. search (needs, referring))
+    (λ c. search (needs, referring))
+    (λ c. search (needs, referring))
+    (λ c. search (needs, referring))
+    (λ c. search (needs, referring))
+    (λ c. search (needs, referring)))

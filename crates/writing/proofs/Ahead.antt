@@ -1,0 +1,56 @@
+-- Value lines in order are passed over: they are asked nothing and head no entry, and each steps the state. Assumes nothing.
+use mathlib.Core.Path.{_≡_, refl, sym, ap, _∙_}
+use mathlib.Core.Bool.{Bool}
+use mathlib.Core.List.{List, _∷_}
+use Prim.Native.Nat.{ℕ, _+_}
+use Rattle.columns.specs.Laid.{laid}
+use Rattle.values.specs.declared.Value.{Value}
+use Rattle.values.specs.Value.{itemOf}
+use Rattle.sheets.specs.declared.Said.the-variants.{Value as Given}
+use Rattle.sheets.specs.declared.State.{State}
+use Rattle.sheets.specs.declared.Step.{Step}
+use Rattle.sheets.specs.declared.Step.the-variants.{On}
+use Rattle.sheets.specs.declared.Verdict.{Verdict}
+use Rattle.sheets.specs.Sheet.{Line, value, isMissing}
+use Rattle.sheets.specs.Order.{valueStep, stepLine, goLines}
+use Rattle.sheets.proofs.Walk.{step-said}
+use Rattle.rows.specs.Rows.{typesIn}
+use Rattle.writing.specs.declared.Pass.{Pass}
+use Rattle.writing.specs.Lines.{OfGlobal, OfRow, orElse, linesPass}
+use Rattle.writing.specs.Classes.{classesIn}
+use Rattle.writing.specs.Ahead.{Ahead}
+use Rattle.writing.proofs.Walking.{next-place}
+
+pub ahead-none : (st : State) (ls : List Line) → Ahead st ls st ls
+ahead-none st ls = record { verdict = refl; asked = λ g f. refl; classes = refl }
+
+-- one value line more
+module _ (ls rest : List Line) (r : Bool) (s : List ℕ) (v : Value) (line : ls ≡ value r (itemOf s v) ∷ rest) (st y : State) (x : Step) (p : x ≡ valueStep st (isMissing v)) (q : x ≡ On y) where
+  go-value : goLines y rest ≡ goLines st ls
+  unfolding goLines
+  go-value =
+      let h : stepLine st (value r (itemOf s v)) ≡ On y = sym (step-said st (Given r v) (0 ∷ 0 ∷ s)) ∙ sym p ∙ q in
+      let w : goLines st (value r (itemOf s v) ∷ rest) ≡ goLines y rest = rw (goLines, h) in
+      sym (ap (goLines st) line ∙ w)
+
+  pass-value : (g : OfGlobal) (f : OfRow) → linesPass g f (y .line + 1) rest ≡ linesPass g f (st .line + 1) ls
+  unfolding linesPass
+  pass-value g f = ap (λ (k : ℕ). linesPass g f (k + 1) rest) (next-place st y (Given r v) x p q) ∙ sym (ap (linesPass g f (st .line + 1)) line)
+
+  class-value : classesIn rest ≡ classesIn ls
+  unfolding classesIn typesIn
+  class-value = sym (ap classesIn line)
+
+  pub ahead-on : (st₀ : State) (ls₀ : List Line) → Ahead st₀ ls₀ st ls → Ahead st₀ ls₀ y rest
+  ahead-on st₀ ls₀ a = record { verdict = go-value ∙ a .verdict; asked = λ g f. pass-value g f ∙ a .asked g f; classes = class-value ∙ a .classes }
+
+-- what held before them holds behind them
+module _ (st st′ : State) (ls rest : List Line) (a : Ahead st ls st′ rest) where
+  pub ahead-go : (f : Verdict) → goLines st ls ≡ f → goLines st′ rest ≡ f
+  ahead-go f h = a .verdict ∙ h
+
+  pub ahead-asked : (g : OfGlobal) (f : OfRow) (p r : Pass) → orElse p (linesPass g f (st .line + 1) ls) ≡ r → orElse p (linesPass g f (st′ .line + 1) rest) ≡ r
+  ahead-asked g f p r h = ap (orElse p) (a .asked g f) ∙ h
+
+  pub ahead-laid : (o c : List ℕ) (k : ℕ) → laid o k (classesIn ls) ≡ c → laid o k (classesIn rest) ≡ c
+  ahead-laid o c k h = ap (laid o k) (a .classes) ∙ h
