@@ -1,11 +1,9 @@
 -- No second result fits the contract of a public function of crate entities. Assumes nothing.
-use mathlib.Core.Path.{refl}
+use mathlib.Core.Path.{refl, ap₂}
+use Prim.Native.Nat.{ℕ}
+use Rattle.entities.specs.declared.EntityAnswer.{EntityAnswer}
 use Rattle.entities.proofs.entity.entity_pass.Kinds as entity-entity-pass-kinds
 use Rattle.entities.proofs.entity.entity_pass.Reads as entity-entity-pass-reads
-use Rattle.entities.proofs.layout.take_at.Kinds as layout-take-at-kinds
-use Rattle.entities.proofs.layout.take_at.Reads as layout-take-at-reads
-use Rattle.entities.proofs.layout.verdict_of.Kinds as layout-verdict-of-kinds
-use Rattle.entities.proofs.layout.verdict_of.Reads as layout-verdict-of-reads
 use Rattle.entities.proofs.marks.marks_begun.Kinds as marks-marks-begun-kinds
 use Rattle.entities.proofs.marks.marks_begun.Reads as marks-marks-begun-reads
 use Rattle.entities.proofs.marks.mark_of.Kinds as marks-mark-of-kinds
@@ -22,15 +20,7 @@ use Rattle.demands.proofs.Unique.{once}
 -- ---- entities::entity
 
 pub entity-entity-pass : NoSecond entity-entity-pass-kinds.ps entity-entity-pass-kinds.r entity-entity-pass-reads.Post
-entity-entity-pass κs a z z′ left left′ p q = (once p q, refl)
-
--- ---- entities::layout
-
-pub layout-take-at : NoSecond layout-take-at-kinds.ps layout-take-at-kinds.r layout-take-at-reads.Post
-layout-take-at κs a z z′ left left′ p q = (once (p .0) (q .0), refl)
-
-pub layout-verdict-of : NoSecond layout-verdict-of-kinds.ps layout-verdict-of-kinds.r layout-verdict-of-reads.Post
-layout-verdict-of κs a z z′ left left′ p q = (once p q, refl)
+entity-entity-pass κs a z z′ left left′ p q = (ap₂ (λ (answer : EntityAnswer) (length : ℕ). record { answer = answer; length = length }) (once (p .0) (q .0)) (once (p .1 .0) (q .1 .0)), refl)
 
 -- ---- entities::marks
 

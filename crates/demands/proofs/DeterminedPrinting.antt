@@ -20,6 +20,12 @@ use Rattle.printing.proofs.starts.put_starts.Kinds as starts-put-starts-kinds
 use Rattle.printing.proofs.starts.put_starts.Reads as starts-put-starts-reads
 use Rattle.printing.proofs.taking.value_from.Kinds as taking-value-from-kinds
 use Rattle.printing.proofs.taking.value_from.Reads as taking-value-from-reads
+use Rattle.printing.proofs.globals.is_missing.Kinds as globals-is-missing-kinds
+use Rattle.printing.proofs.globals.is_missing.Reads as globals-is-missing-reads
+use Rattle.printing.proofs.rows.put_entry_line.Kinds as rows-put-entry-line-kinds
+use Rattle.printing.proofs.rows.put_entry_line.Reads as rows-put-entry-line-reads
+use Rattle.printing.proofs.taking.met_at.Kinds as taking-met-at-kinds
+use Rattle.printing.proofs.taking.met_at.Reads as taking-met-at-reads
 use Rattle.demands.specs.Unique.{NoSecond}
 use Rattle.demands.proofs.Unique.{once, wrote-first}
 
@@ -38,6 +44,9 @@ characters-put-text κs a z z′ left left′ p q = wrote-first (left .1) (p .0)
 pub globals-put-globals : NoSecond globals-put-globals-kinds.ps globals-put-globals-kinds.r globals-put-globals-reads.Post
 globals-put-globals κs a z z′ left left′ p q = wrote-first (left .1) (p .0) (q .0)
 
+pub globals-is-missing : NoSecond globals-is-missing-kinds.ps globals-is-missing-kinds.r globals-is-missing-reads.Post
+globals-is-missing κs a z z′ left left′ p q = (once p q, refl)
+
 -- ---- printing::lines
 
 pub lines-put-value-line : NoSecond lines-put-value-line-kinds.ps lines-put-value-line-kinds.r lines-put-value-line-reads.Post
@@ -54,6 +63,9 @@ rows-put-entity κs a z z′ left left′ p q = wrote-first (left .1) (p .0) (q 
 pub rows-put-rows : NoSecond rows-put-rows-kinds.ps rows-put-rows-kinds.r rows-put-rows-reads.Post
 rows-put-rows κs a z z′ left left′ p q = wrote-first (left .1) (p .0) (q .0)
 
+pub rows-put-entry-line : NoSecond rows-put-entry-line-kinds.ps rows-put-entry-line-kinds.r rows-put-entry-line-reads.Post
+rows-put-entry-line κs a z z′ left left′ p q = wrote-first (left .1) (p .0) (q .0)
+
 -- ---- printing::sheet
 
 pub sheet-put-sheet : NoSecond sheet-put-sheet-kinds.ps sheet-put-sheet-kinds.r sheet-put-sheet-reads.Post
@@ -68,3 +80,6 @@ starts-put-starts κs a z z′ left left′ p q = wrote-first (left .1) (p .0) (
 
 pub taking-value-from : NoSecond taking-value-from-kinds.ps taking-value-from-kinds.r taking-value-from-reads.Post
 taking-value-from κs a z z′ left left′ p q = (once (p .0) (q .0), refl)
+
+pub taking-met-at : NoSecond taking-met-at-kinds.ps taking-met-at-kinds.r taking-met-at-reads.Post
+taking-met-at κs a z z′ left left′ p q = (once (p .0) (q .0), refl)

@@ -24,6 +24,10 @@ use Rattle.records.proofs.reading.value_at.Kinds as reading-value-at-kinds
 use Rattle.records.proofs.reading.value_at.Reads as reading-value-at-reads
 use Rattle.records.proofs.reading.check_from.Kinds as reading-check-from-kinds
 use Rattle.records.proofs.reading.check_from.Reads as reading-check-from-reads
+use Rattle.records.proofs.position.index_of.Kinds as position-index-of-kinds
+use Rattle.records.proofs.position.index_of.Reads as position-index-of-reads
+use Rattle.records.proofs.position.column_of.Kinds as position-column-of-kinds
+use Rattle.records.proofs.position.column_of.Reads as position-column-of-reads
 use Rattle.demands.specs.Unique.{NoSecond}
 use Rattle.demands.proofs.Unique.{once, put-first}
 
@@ -68,3 +72,11 @@ reading-value-at κs a z z′ left left′ p q = (once (p .0) (q .0), refl)
 
 pub reading-check-from : NoSecond reading-check-from-kinds.ps reading-check-from-kinds.r reading-check-from-reads.Post
 reading-check-from κs a z z′ left left′ p q = (once (p .0) (q .0), refl)
+
+-- ---- records::position
+
+pub position-index-of : NoSecond position-index-of-kinds.ps position-index-of-kinds.r position-index-of-reads.Post
+position-index-of κs a z z′ left left′ p q = (once p q, refl)
+
+pub position-column-of : NoSecond position-column-of-kinds.ps position-column-of-kinds.r position-column-of-reads.Post
+position-column-of κs a z z′ left left′ p q = (once p q, refl)

@@ -1,5 +1,10 @@
 -- No second result fits the contract of a public function of crate sheets. Assumes nothing.
-use mathlib.Core.Path.{refl}
+use mathlib.Core.Path.{_≡_, refl, sym, ap, ap₂, _∙_}
+use Prim.Native.Nat.{ℕ}
+use denote.Ref.{now}
+use Rattle.columns.specs.declared.Signed.{Signed}
+use Rattle.columns.specs.Columns.{columns}
+use Rattle.sheets.specs.Line.{numOf}
 use Rattle.sheets.proofs.order.is_missing.Kinds as order-is-missing-kinds
 use Rattle.sheets.proofs.order.is_missing.Reads as order-is-missing-reads
 use Rattle.sheets.proofs.order.step_line.Kinds as order-step-line-kinds
@@ -42,6 +47,12 @@ use Rattle.sheets.proofs.writing.put_entry.Kinds as writing-put-entry-kinds
 use Rattle.sheets.proofs.writing.put_entry.Reads as writing-put-entry-reads
 use Rattle.sheets.proofs.writing.put_last.Kinds as writing-put-last-kinds
 use Rattle.sheets.proofs.writing.put_last.Reads as writing-put-last-reads
+use Rattle.sheets.proofs.reading.is_mark.Kinds as reading-is-mark-kinds
+use Rattle.sheets.proofs.reading.is_mark.Reads as reading-is-mark-reads
+use Rattle.sheets.proofs.reading.is_value.Kinds as reading-is-value-kinds
+use Rattle.sheets.proofs.reading.is_value.Reads as reading-is-value-reads
+use Rattle.sheets.proofs.plain.tabbed_at.Kinds as plain-tabbed-at-kinds
+use Rattle.sheets.proofs.plain.tabbed_at.Reads as plain-tabbed-at-reads
 use Rattle.demands.specs.Unique.{NoSecond}
 use Rattle.demands.proofs.Unique.{once, wrote-first}
 
@@ -70,6 +81,12 @@ plain-num-at κs a z z′ left left′ p q = (once p q, refl)
 pub plain-find : NoSecond plain-find-kinds.ps plain-find-kinds.r plain-find-reads.Post
 plain-find κs a z z′ left left′ p q = (once (p .0) (q .0), refl)
 
+-- the number by where it ends
+pub plain-tabbed-at : NoSecond plain-tabbed-at-kinds.ps plain-tabbed-at-kinds.r plain-tabbed-at-reads.Post
+plain-tabbed-at κs a z z′ left left′ p q =
+    let e : z .end ≡ z′ .end = once (p .0) (q .0) in
+    (ap₂ (λ (x : Signed) (k : ℕ). record { number = x; end = k }) (p .1 .0 ∙ ap (λ (k : ℕ). numOf (a .1 .0) (columns (now (a .0)) (a .1 .1 .0) k)) e ∙ sym (q .1 .0)) e, refl)
+
 -- ---- sheets::reading
 
 pub reading-end-of : NoSecond reading-end-of-kinds.ps reading-end-of-kinds.r reading-end-of-reads.Post
@@ -92,6 +109,12 @@ reading-line-says κs a z z′ left left′ p q = (once (p .0) (q .0), refl)
 
 pub reading-read-sheet : NoSecond reading-read-sheet-kinds.ps reading-read-sheet-kinds.r reading-read-sheet-reads.Post
 reading-read-sheet κs a z z′ left left′ p q = (once (p .0) (q .0), refl)
+
+pub reading-is-mark : NoSecond reading-is-mark-kinds.ps reading-is-mark-kinds.r reading-is-mark-reads.Post
+reading-is-mark κs a z z′ left left′ p q = (once p q, refl)
+
+pub reading-is-value : NoSecond reading-is-value-kinds.ps reading-is-value-kinds.r reading-is-value-reads.Post
+reading-is-value κs a z z′ left left′ p q = (once p q, refl)
 
 -- ---- sheets::writing
 

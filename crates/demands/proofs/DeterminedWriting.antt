@@ -2,28 +2,30 @@
 use mathlib.Core.Path.{refl}
 use Rattle.writing.proofs.check.Kinds as check-kinds
 use Rattle.writing.proofs.check.Reads as check-reads
-use Rattle.writing.proofs.entity.entities.Kinds as entity-entities-kinds
-use Rattle.writing.proofs.entity.entities.Reads as entity-entities-reads
+use Rattle.writing.proofs.entity.named_rules.Kinds as entity-named-rules-kinds
+use Rattle.writing.proofs.entity.named_rules.Reads as entity-named-rules-reads
 use Rattle.writing.proofs.heads.head_at.Kinds as heads-head-at-kinds
 use Rattle.writing.proofs.heads.head_at.Reads as heads-head-at-reads
+use Rattle.writing.proofs.refer.reference_of.Kinds as refer-reference-of-kinds
+use Rattle.writing.proofs.refer.reference_of.Reads as refer-reference-of-reads
 use Rattle.writing.proofs.refer.references.Kinds as refer-references-kinds
 use Rattle.writing.proofs.refer.references.Reads as refer-references-reads
-use Rattle.writing.proofs.rules.rules.Kinds as rules-rules-kinds
-use Rattle.writing.proofs.rules.rules.Reads as rules-rules-reads
-use Rattle.writing.proofs.table.fill.Kinds as table-fill-kinds
-use Rattle.writing.proofs.table.fill.Reads as table-fill-reads
+use Rattle.writing.proofs.rules.rule_too.Kinds as rules-rule-too-kinds
+use Rattle.writing.proofs.rules.rule_too.Reads as rules-rule-too-reads
+use Rattle.writing.proofs.table.keep.Kinds as table-keep-kinds
+use Rattle.writing.proofs.table.keep.Reads as table-keep-reads
 use Rattle.writing.proofs.table.class_at.Kinds as table-class-at-kinds
 use Rattle.writing.proofs.table.class_at.Reads as table-class-at-reads
 use Rattle.demands.specs.Unique.{NoSecond}
-use Rattle.demands.proofs.Unique.{once, left-first}
+use Rattle.demands.proofs.Unique.{once, wrote-first}
 
 pub check : NoSecond check-kinds.ps check-kinds.r check-reads.Post
 check κs a z z′ left left′ p q = (once p q, refl)
 
 -- ---- writing::entity
 
-pub entity-entities : NoSecond entity-entities-kinds.ps entity-entities-kinds.r entity-entities-reads.Post
-entity-entities κs a z z′ left left′ p q = (once p q, refl)
+pub entity-named-rules : NoSecond entity-named-rules-kinds.ps entity-named-rules-kinds.r entity-named-rules-reads.Post
+entity-named-rules κs a z z′ left left′ p q = (once p q, refl)
 
 -- ---- writing::heads
 
@@ -32,18 +34,21 @@ heads-head-at κs a z z′ left left′ p q = (once p q, refl)
 
 -- ---- writing::refer
 
+pub refer-reference-of : NoSecond refer-reference-of-kinds.ps refer-reference-of-kinds.r refer-reference-of-reads.Post
+refer-reference-of κs a z z′ left left′ p q = (once p q, refl)
+
 pub refer-references : NoSecond refer-references-kinds.ps refer-references-kinds.r refer-references-reads.Post
 refer-references κs a z z′ left left′ p q = (once p q, refl)
 
 -- ---- writing::rules
 
-pub rules-rules : NoSecond rules-rules-kinds.ps rules-rules-kinds.r rules-rules-reads.Post
-rules-rules κs a z z′ left left′ p q = (once p q, refl)
+pub rules-rule-too : NoSecond rules-rule-too-kinds.ps rules-rule-too-kinds.r rules-rule-too-reads.Post
+rules-rule-too κs a z z′ left left′ p q = (once p q, refl)
 
 -- ---- writing::table
 
-pub table-fill : NoSecond table-fill-kinds.ps table-fill-kinds.r table-fill-reads.Post
-table-fill κs a z z′ left left′ p q = (refl, left-first (left .1) p q)
+pub table-keep : NoSecond table-keep-kinds.ps table-keep-kinds.r table-keep-reads.Post
+table-keep κs a z z′ left left′ p q = wrote-first (left .1) (p .0) (q .0)
 
 pub table-class-at : NoSecond table-class-at-kinds.ps table-class-at-kinds.r table-class-at-reads.Post
 table-class-at κs a z z′ left left′ p q = (once p q, refl)

@@ -42,4 +42,3 @@ pub mod DeterminedBlocks
 pub mod NextPlace
 pub mod DeterminedCanonical
 pub mod DeterminedRewrap
-pub mod CarriedAt

@@ -11,12 +11,6 @@ use borrow.Fn.Kinds.{Out, Dens, resT, endedOf}
 use Rattle.columns.specs.Refusal.{Outcome}
 use Rattle.columns.specs.Laid.{Wrote}
 use Rattle.records.specs.Written.{Put}
-use Rattle.columns.specs.Columns.{textOf}
-use Rattle.values.specs.Value.{Item}
-use Rattle.records.specs.Items.{itemsFrom}
-use Rattle.entities.specs.declared.Span.{Span}
-use Rattle.entities.proofs.marks.carried_at.Kinds as carried-at-kinds
-use Rattle.entities.proofs.marks.carried_at.Reads as carried-at-reads
 use Rattle.rewrap.specs.declared.Answer.{Answer}
 use Rattle.rewrap.specs.Answers.{answerOf}
 use Rattle.rewrap.proofs.read.Kinds as read-kinds
@@ -78,26 +72,3 @@ WroteOnce = (o : List ℕ) (at : ℕ) (bs o′ o″ : List ℕ) (r r′ : ℕ) �
 -- text laid into the columns of a file
 abbrev pub PutOnce : Type 0
 PutOnce = (base w : ℕ) (o : List ℕ) (p : ℕ) (bs o′ o″ : List ℕ) (r r′ : ℕ) → Put base w o p bs o′ r → Put base w o p bs o″ r′ → (r ≡ r′) × (o′ ≡ o″)
-
--- ---- an exception (`UniqueBlocks` has the other two): `entities::marks::carried_at` tells where the values stand that an entity carries. Where it carries none any place will do
-
--- the values that stand there
-abbrev pub carriedIn : (κs : Lfts 1) → Dens κs carried-at-kinds.ps → Span → List Item
-carriedIn κs (file, (base, (lines, (c, (d, tt))))) r = itemsFrom 64 c d (textOf (now file) base 64 lines) (r .from) (r .count)
-
--- they are determined
-abbrev pub CarriedDetermined : Type 0
-CarriedDetermined = (κs : Lfts 1) (a : Dens κs carried-at-kinds.ps) (z z′ : Span) (left left′ : Lasts (endedOf 1 carried-at-kinds.ps carried-at-kinds.r) κs a)
-    → carried-at-reads.Post κs a z (atExit (endedOf 1 carried-at-kinds.ps carried-at-kinds.r) κs a left)
-    → carried-at-reads.Post κs a z′ (atExit (endedOf 1 carried-at-kinds.ps carried-at-kinds.r) κs a left′) → carriedIn κs a z ≡ carriedIn κs a z′
-
--- the place is not: arguments as the contract asks for, and two results as it promises
-pub record SecondPlace (κs : Lfts 1) : Type 0 where
-  pub passed : Dens κs carried-at-kinds.ps
-  pub asked : carried-at-reads.Pre κs passed
-  pub left : Lasts (endedOf 1 carried-at-kinds.ps carried-at-kinds.r) κs passed
-  pub one : Span
-  pub other : Span
-  pub one-fits : carried-at-reads.Post κs passed one (atExit (endedOf 1 carried-at-kinds.ps carried-at-kinds.r) κs passed left)
-  pub other-fits : carried-at-reads.Post κs passed other (atExit (endedOf 1 carried-at-kinds.ps carried-at-kinds.r) κs passed left)
-  pub differ : one ≡ other → ⊥
