@@ -338,8 +338,19 @@ pub wrote-right : {o o′ o″ : List ℕ} {at r r′ k : ℕ} (b d width : ℕ)
 unfolding toRight
 wrote-right b d width t e f p q = rw (← e, ← f) (then p q)
 
+-- without a sign it is the number alone
+pub right-plain : {o o′ : List ℕ} {at r : ℕ} (width : ℕ) (x : Signed) → Wrote o at (toRight 32 width (dec (x .size))) o′ r → x .neg ≡ false → Wrote o at (toRight 32 width (signedDec x)) o′ r
+unfolding signedDec
+right-plain width x p e = rw e p
+
+pub right-high : {o o′ : List ℕ} {at r : ℕ} (width n : ℕ) → Wrote o at (toRight 32 width (dec n)) o′ r → n < 2 ^ 32 → r ≤ at + width + 11
+unfolding toRight
+right-high {at = at} width n p k =
+    let e = rw (length-append, length-replicate) at (p .next) in
+    omega (arith, e, length-short n k)
+
 pub wrote-left : {o o′ o″ : List ℕ} {at r r′ k : ℕ} (width : ℕ) (t : List ℕ) → k ≡ width - length t → Wrote o at t o′ r → Wrote o′ r (replicate k 32) o″ r′ → Wrote o at (toLeft width t) o″ r′
 unfolding toLeft
 wrote-left width t f p q = rw (← f) (then p q)
 
-pub ruleset columned = (wrote-minus, wrote-plain, count-minus, count-plain, minus-high, plain-high, count-minus-high, count-plain-high, wrote-right, wrote-left)
+pub ruleset columned = (right-plain, right-high, wrote-minus, wrote-plain, count-minus, count-plain, minus-high, plain-high, count-minus-high, count-plain-high, wrote-right, wrote-left)

@@ -251,10 +251,15 @@ pub fn put_signed_right(out: &mut [u8], at: usize, width: usize, x: Signed) -> u
     ensures { λ r. ⌜ Wrote (now (out .entry)) at (toRight 32 width (signedDec x)) (now (out .exit)) r ⌝ }
     ensures { λ r. ⌜ (at + width ≤ r) × (r ≤ at + width + 11) ⌝ }
 {
-    let count = count_signed(x);
-    let gap = less(width, count);
-    let next = put_run(out, at, 32, gap);
-    put_signed(out, next, x)
+    let neg = x.neg;
+    let size = x.size as u64;
+    if neg {
+        let count = count_signed(x);
+        let gap = less(width, count);
+        let next = put_run(out, at, 32, gap);
+        return put_signed(out, next, x);
+    }
+    put_right(out, at, 32, width, size)
 }
 
 // Writes s to the left of `width` columns, with blanks behind it.

@@ -1,22 +1,21 @@
--- What the code goes by besides its answers: where a slot stands, the two lines slot by slot, how large what was read can be, and what can be read back.
+-- What the code goes by besides its answers: where a slot stands, the two lines one by one, how large what was read can be, and what can be read back.
 use mathlib.Core.Path.{_≡_}
-use mathlib.Core.Bool.{true, false, cond}
-use mathlib.Core.List.{List, [], _∷_, map}
+use mathlib.Core.Bool.{true, false}
+use mathlib.Core.List.{List, [], _∷_, _++_, map}
 use Prim.Native.Nat.{ℕ, _+_, _*_, _/_, _%_, _≤_, _<_}
-use lib.ListN.{length, getD, replicate, take, drop}
-use lib.Dec.{ltb, eqb}
+use lib.ListN.{length, take, drop}
 use Rattle.columns.specs.declared.Signed.{Signed}
 use Rattle.columns.specs.declared.SignedField.the-variants.{Number}
 use Rattle.columns.specs.declared.ParameterLine.{ParameterLine}
 use Rattle.columns.specs.Columns.{columns, lineBytes, lineAt}
 use Rattle.columns.specs.Fixed.{NormalSign}
-use Rattle.columns.specs.Decimal.{dec, signedDec, padded}
+use Rattle.columns.specs.Decimal.{signedDec, padded}
 use Rattle.directory.specs.declared.Fields.{Fields}
 use Rattle.directory.specs.declared.EntryRead.{EntryRead}
 use Rattle.directory.specs.declared.EntryRead.the-variants.{Spelt, Wrong}
-use Rattle.directory.specs.Fields.{typeAt, fieldCount, nought, inOrder}
+use Rattle.directory.specs.Fields.{inOrder}
 use Rattle.directory.specs.Rules.{rangesOk}
-use Rattle.directory.specs.Lines.{Slot, number, again, pointer, lines, reserved, label, slots, slotsALine, slotColumns, numberIn, written, slotOf, joined}
+use Rattle.directory.specs.Lines.{label, slots, slotsALine, slotColumns, numberIn, slotOf, joined}
 
 -- ---- where a slot stands
 
@@ -34,23 +33,9 @@ NumberIs f k n x = numberIn f k n ≡ Number x
 
 -- ---- the lines as they are written
 
--- the slots by numbers: those of an entry's numbers, then the others
-abbrev pub slotOfCode : ℕ → Slot
-slotOfCode c =
-    cond (ltb c fieldCount) (number c) (cond (eqb c 12) again (cond (eqb c 13) pointer (cond (eqb c 14) lines (cond (eqb c 15) reserved label))))
-
--- the numbers of an entry in order, in place of the entry
-abbrev pub slotFrom : List Signed → ℕ → ℕ → List ℕ → Slot → List ℕ
-slotFrom xs from count name (number n) = written n (getD xs n nought)
-slotFrom xs from count name again = written typeAt (getD xs typeAt nought)
-slotFrom xs from count name pointer = padded slotColumns (dec from)
-slotFrom xs from count name lines = padded slotColumns (dec count)
-slotFrom xs from count name reserved = replicate slotColumns 32
-slotFrom xs from count name label = name
-
--- so many slots from slot j on
-unfoldable pub slotsFrom : List Signed → ℕ → ℕ → List ℕ → ℕ → ℕ → List ℕ
-slotsFrom xs from count name j many = joined (map (slotFrom xs from count name) (take many (drop j slots)))
+-- three numbers side by side
+unfoldable pub three : Signed → Signed → Signed → List ℕ
+three x y z = padded slotColumns (signedDec x) ++ (padded slotColumns (signedDec y) ++ padded slotColumns (signedDec z))
 
 -- the two elements of entryLines: neither line has what stands on the other
 unfoldable pub firstLine : Fields → ℕ → List ℕ

@@ -14,9 +14,6 @@ pub const SLOT_COLUMNS: usize = 8;
 
 pub const SLOTS_A_LINE: usize = 9;
 
-// The status among the numbers of an entry, counted in the order of `Fields`.
-pub const STATUS: usize = 8;
-
 // The numbers of an entry as they are spelt, in a file or in a sheet; `entity` is its type, `display` its label display.
 pub struct Fields {
     pub entity: Signed,

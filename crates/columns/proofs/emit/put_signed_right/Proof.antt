@@ -1,3 +1,4 @@
+-- Without a sign it is a number to the right; with one it is counted first.
 use borrow.Author.Needs.{needs}
 use Rattle.columns.proofs.Decimals.{columned}
 use Rattle.columns.proofs.emit.put_signed_right.Statement.{statement}
@@ -7,9 +8,13 @@ pub put-signed-right-spec : {M : Type 1} → statement M
 put-signed-right-spec =
     tie.close
     (tie.spec
-    (λ c κs. search (needs, columned))
-    (λ c κs. search (needs, columned))
-    (λ c κs. search (needs, columned))
-    (λ c κs. search (needs, columned))
+    (λ c. search needs)
+    (λ c κs. search needs)
+    (λ c κs. search needs)
+    (λ c κs. search needs)
+    (λ c κs. search needs)
+    (λ c. search needs)
     (λ c. search (needs, columned))
+    (λ c κs. search needs)
+    (λ c. search needs)
     (λ c. search (needs, columned)))
