@@ -18,8 +18,6 @@ use Rattle.layouts.proofs.places.look.Kinds as places-look-kinds
 use Rattle.layouts.proofs.places.look.Reads as places-look-reads
 use Rattle.layouts.proofs.places.rests_in.Kinds as places-rests-in-kinds
 use Rattle.layouts.proofs.places.rests_in.Reads as places-rests-in-reads
-use Rattle.layouts.proofs.places.refers_in.Kinds as places-refers-in-kinds
-use Rattle.layouts.proofs.places.refers_in.Reads as places-refers-in-reads
 use Rattle.layouts.proofs.take.takes_in.Kinds as take-takes-in-kinds
 use Rattle.layouts.proofs.take.takes_in.Reads as take-takes-in-reads
 use Rattle.layouts.proofs.told.missing_in.Kinds as told-missing-in-kinds
@@ -69,9 +67,6 @@ places-look κs a z z′ left left′ p q = (once p q, refl)
 
 pub places-rests-in : NoSecond places-rests-in-kinds.ps places-rests-in-kinds.r places-rests-in-reads.Post
 places-rests-in κs a z z′ left left′ p q = (once p q, refl)
-
-pub places-refers-in : NoSecond places-refers-in-kinds.ps places-refers-in-kinds.r places-refers-in-reads.Post
-places-refers-in κs a z z′ left left′ p q = (once p q, refl)
 
 -- ---- layouts::take
 

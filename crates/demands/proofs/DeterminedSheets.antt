@@ -23,26 +23,16 @@ use Rattle.sheets.proofs.reading.end_of.Kinds as reading-end-of-kinds
 use Rattle.sheets.proofs.reading.end_of.Reads as reading-end-of-reads
 use Rattle.sheets.proofs.reading.entry_at.Kinds as reading-entry-at-kinds
 use Rattle.sheets.proofs.reading.entry_at.Reads as reading-entry-at-reads
-use Rattle.sheets.proofs.reading.entry_line.Kinds as reading-entry-line-kinds
-use Rattle.sheets.proofs.reading.entry_line.Reads as reading-entry-line-reads
 use Rattle.sheets.proofs.reading.strict_at.Kinds as reading-strict-at-kinds
 use Rattle.sheets.proofs.reading.strict_at.Reads as reading-strict-at-reads
 use Rattle.sheets.proofs.reading.line_at.Kinds as reading-line-at-kinds
 use Rattle.sheets.proofs.reading.line_at.Reads as reading-line-at-reads
-use Rattle.sheets.proofs.reading.line_says.Kinds as reading-line-says-kinds
-use Rattle.sheets.proofs.reading.line_says.Reads as reading-line-says-reads
-use Rattle.sheets.proofs.reading.read_sheet.Kinds as reading-read-sheet-kinds
-use Rattle.sheets.proofs.reading.read_sheet.Reads as reading-read-sheet-reads
 use Rattle.sheets.proofs.writing.put_start.Kinds as writing-put-start-kinds
 use Rattle.sheets.proofs.writing.put_start.Reads as writing-put-start-reads
 use Rattle.sheets.proofs.writing.put_global_head.Kinds as writing-put-global-head-kinds
 use Rattle.sheets.proofs.writing.put_global_head.Reads as writing-put-global-head-reads
-use Rattle.sheets.proofs.writing.put_global.Kinds as writing-put-global-kinds
-use Rattle.sheets.proofs.writing.put_global.Reads as writing-put-global-reads
 use Rattle.sheets.proofs.writing.put_value_head.Kinds as writing-put-value-head-kinds
 use Rattle.sheets.proofs.writing.put_value_head.Reads as writing-put-value-head-reads
-use Rattle.sheets.proofs.writing.put_value.Kinds as writing-put-value-kinds
-use Rattle.sheets.proofs.writing.put_value.Reads as writing-put-value-reads
 use Rattle.sheets.proofs.writing.put_entry.Kinds as writing-put-entry-kinds
 use Rattle.sheets.proofs.writing.put_entry.Reads as writing-put-entry-reads
 use Rattle.sheets.proofs.writing.put_last.Kinds as writing-put-last-kinds
@@ -95,20 +85,11 @@ reading-end-of κs a z z′ left left′ p q = (once (p .0) (q .0), refl)
 pub reading-entry-at : NoSecond reading-entry-at-kinds.ps reading-entry-at-kinds.r reading-entry-at-reads.Post
 reading-entry-at κs a z z′ left left′ p q = (once p q, refl)
 
-pub reading-entry-line : NoSecond reading-entry-line-kinds.ps reading-entry-line-kinds.r reading-entry-line-reads.Post
-reading-entry-line κs a z z′ left left′ p q = (once p q, refl)
-
 pub reading-strict-at : NoSecond reading-strict-at-kinds.ps reading-strict-at-kinds.r reading-strict-at-reads.Post
 reading-strict-at κs a z z′ left left′ p q = (once (p .0) (q .0), refl)
 
 pub reading-line-at : NoSecond reading-line-at-kinds.ps reading-line-at-kinds.r reading-line-at-reads.Post
 reading-line-at κs a z z′ left left′ p q = (once (p .0) (q .0), refl)
-
-pub reading-line-says : NoSecond reading-line-says-kinds.ps reading-line-says-kinds.r reading-line-says-reads.Post
-reading-line-says κs a z z′ left left′ p q = (once (p .0) (q .0), refl)
-
-pub reading-read-sheet : NoSecond reading-read-sheet-kinds.ps reading-read-sheet-kinds.r reading-read-sheet-reads.Post
-reading-read-sheet κs a z z′ left left′ p q = (once (p .0) (q .0), refl)
 
 pub reading-is-mark : NoSecond reading-is-mark-kinds.ps reading-is-mark-kinds.r reading-is-mark-reads.Post
 reading-is-mark κs a z z′ left left′ p q = (once p q, refl)
@@ -124,14 +105,8 @@ writing-put-start κs a z z′ left left′ p q = wrote-first (left .1) (p .0) (
 pub writing-put-global-head : NoSecond writing-put-global-head-kinds.ps writing-put-global-head-kinds.r writing-put-global-head-reads.Post
 writing-put-global-head κs a z z′ left left′ p q = wrote-first (left .1) (p .0) (q .0)
 
-pub writing-put-global : NoSecond writing-put-global-kinds.ps writing-put-global-kinds.r writing-put-global-reads.Post
-writing-put-global κs a z z′ left left′ p q = wrote-first (left .1) (p .0) (q .0)
-
 pub writing-put-value-head : NoSecond writing-put-value-head-kinds.ps writing-put-value-head-kinds.r writing-put-value-head-reads.Post
 writing-put-value-head κs a z z′ left left′ p q = wrote-first (left .1) (p .0) (q .0)
-
-pub writing-put-value : NoSecond writing-put-value-kinds.ps writing-put-value-kinds.r writing-put-value-reads.Post
-writing-put-value κs a z z′ left left′ p q = wrote-first (left .1) (p .0) (q .0)
 
 pub writing-put-entry : NoSecond writing-put-entry-kinds.ps writing-put-entry-kinds.r writing-put-entry-reads.Post
 writing-put-entry κs a z z′ left left′ p q = wrote-first (left .1) (p .0) (q .0)

@@ -2,7 +2,7 @@
 ghost use mathlib.Core.Path.{_≡_};
 ghost use Rattle.layouts.specs.Layout.{_of_, placeAt};
 ghost use Rattle.layouts.specs.Coded.{shapeOf, letterAt};
-ghost use Rattle.layouts.specs.Machine.{rests, refers};
+ghost use Rattle.layouts.specs.Machine.{rests};
 use crate::Kind;
 use crate::Place;
 use crate::Then;
@@ -139,29 +139,5 @@ pub fn rests_in(k: Kind) -> bool
         Kind::Q { want: _ } => false,
         Kind::Bound { want: _ } => false,
         Kind::Rest => true,
-    }
-}
-
-// A reference place: its mark in the sheet is R.
-pub fn refers_in(k: Kind) -> bool
-    ensures { λ r. ⌜ r ≡ refers k ⌝ }
-{
-    match k {
-        Kind::R => false,
-        Kind::Given => false,
-        Kind::Weight => false,
-        Kind::S => false,
-        Kind::I { low: _, high: _ } => false,
-        Kind::Flag => false,
-        Kind::Count => false,
-        Kind::Outer => false,
-        Kind::Upper1 => false,
-        Kind::Upper2 => false,
-        Kind::Degree1 => false,
-        Kind::Degree2 => false,
-        Kind::P { want: _ } => true,
-        Kind::Q { want: _ } => true,
-        Kind::Bound { want: _ } => true,
-        Kind::Rest => false,
     }
 }

@@ -1,17 +1,15 @@
--- Where what a line says stands: within the line. And a verdict's count is at most the sheet's length.
-use mathlib.Core.Path.{_≡_, refl, sym, ap, _∙_}
+-- Where what a line says stands: within the line.
+use mathlib.Core.Path.{_≡_, refl, _∙_}
 use mathlib.Core.Bool.{Bool, true, false, cond, not, _&&_, _||_}
 use mathlib.Core.List.{List, [], _∷_}
-use Prim.Native.Nat.{ℕ, zero, suc, _+_, _-_, _≤_, _<_}
+use Prim.Native.Nat.{ℕ, suc, _+_, _-_, _≤_, _<_}
 use native.Mathlib.Omega.{arith}
-use lib.ListN.{length, getD, take, drop, length-drop, List·getD-eq-default}
+use lib.ListN.{length, getD, take, drop, length-drop}
 use lib.Dec.{ltb, leb, eqb}
 use borrow.Author.Tests.{eqb-true, ltb-true, leb-true}
-use Rattle.columns.specs.declared.Signed.{Signed}
 use Rattle.columns.specs.Columns.{columns, printable}
 use Rattle.columns.proofs.Tests.{cond-cases, both, both-left, both-right}
 use Rattle.columns.proofs.Columns.{length-columns}
-use Rattle.values.specs.declared.Value.{Value}
 use Rattle.values.specs.declared.Value.the-variants.{Text}
 use Rattle.values.specs.declared.Head.{Head}
 use Rattle.values.specs.declared.Head.the-variants.{Count, Plain}
@@ -22,23 +20,16 @@ use Rattle.values.specs.Head.{headOf}
 use Rattle.values.specs.Writing.{Inside, Placed}
 use Rattle.values.specs.Strict.{byHead, strictOf}
 use Rattle.values.proofs.Backs.{placed-numeral}
-use Rattle.directory.specs.declared.Fields.{Fields}
 use Rattle.sheets.specs.declared.EntryLine.{EntryLine}
 use Rattle.sheets.specs.declared.EntryLine.the-variants.{Got, Wrong as WrongEntry}
 use Rattle.sheets.specs.declared.Said.{Said}
-use Rattle.sheets.specs.declared.Said.the-variants.{Start, Global, Entry, Value as Given, Last, Nothing}
-use Rattle.sheets.specs.declared.State.{State}
-use Rattle.sheets.specs.declared.Step.the-variants.{On, Off}
-use Rattle.sheets.specs.declared.Verdict.{Verdict}
-use Rattle.sheets.specs.declared.Verdict.the-variants.{Good, Wrong}
+use Rattle.sheets.specs.declared.Said.the-variants.{Start, Global, Last, Nothing}
 use Rattle.sheets.specs.Plain.{sizeFrom}
 use Rattle.sheets.specs.Line.{run, isLabel, entryOf, labelOf}
 use Rattle.sheets.specs.Sheet.{isMissing, isMark, isStart, startLine, globalOf, globalLine, entryLineOf, valueOf, lastLine, byMark, saysOf}
-use Rattle.sheets.specs.Order.{sheetLine, closed, verdict, finish}
-use Rattle.sheets.specs.Reading.{pieceVerdict, Within, Counted}
+use Rattle.sheets.specs.Reading.{Within}
 use Rattle.sheets.proofs.Machine.{numbered}
 use Rattle.sheets.proofs.Round.{entry-back}
-use Rattle.sheets.proofs.Walk.{none-off}
 
 -- ---- a line
 
@@ -141,31 +132,7 @@ says-within l =
 pub line-within : (s : List ℕ) (at end : ℕ) (r : Said) → r ≡ saysOf (columns s at end) → at ≤ end → end ≤ length s → Within (end - at) r
 line-within s at end r e h k = rw (e, ← length-columns s at end h k) (says-within (columns s at end))
 
-pub whole-within : (l : List ℕ) (r : Said) → r ≡ saysOf l → Within (length l) r
-whole-within l r e = rw e (says-within l)
-
 pub strict-placed : (s : List ℕ) (at end : ℕ) (r : Strict) → at ≤ end → end ≤ length s → r ≡ strictOf (columns s at end) → Placed (end - at) r
 strict-placed s at end r h k e = rw (e, ← length-columns s at end h k) (strict-inside (columns s at end))
 
-pub ruleset within = (line-within, whole-within, strict-placed)
-
--- ---- a verdict
-
-pub finish-counted : (m : ℕ) (st : State) (r : Verdict) → r ≡ finish st → st .entries ≤ m → Counted m r
-unfolding finish closed
-finish-counted m st r e h = rw e (pick (eqb (st .section) 4) (eqb (st .run) 0))
-  where
-    pick : (a b : Bool) → Counted m (cond a (Good (st .entries)) (verdict (cond b (Off (sheetLine (st .line + 1))) (Off (sheetLine (st .run))))))
-    pick true b = h
-    pick false true = tt
-    pick false false = tt
-
-pub piece-counted : (m : ℕ) (st : State) (b : Bool) (r : Verdict) → r ≡ pieceVerdict st b → Counted m r
-piece-counted m st b r e =
-    let o = none-off st b in
-    rw (e, o .1) tt
-
-pub end-counted : (s : List ℕ) (at n : ℕ) (st : State) (r : Verdict) → r ≡ finish st → st .entries ≤ st .line → st .line ≤ at → at ≤ n → n ≡ length s → Counted (length s) r
-end-counted s at n st r e a b c d = finish-counted (length s) st r e (omega arith)
-
-pub ruleset counts = (piece-counted, end-counted)
+pub ruleset within = (line-within, strict-placed)

@@ -1,15 +1,15 @@
 -- What the functions that tell what a line says are asked.
-use mathlib.Core.Path.{_≡_, refl, sym, ap, _∙_}
-use mathlib.Core.Bool.{Bool, true, false, cond, not, _&&_, _||_}
-use mathlib.Core.List.{List, [], _∷_, _++_}
-use Prim.Native.Nat.{ℕ, zero, suc, _+_, _-_, _*_, _≤_, _<_}
+use mathlib.Core.Path.{_≡_, refl, ap, _∙_}
+use mathlib.Core.Bool.{Bool, true, false, _&&_}
+use mathlib.Core.List.{List}
+use Prim.Native.Nat.{ℕ, suc, _+_, _-_, _≤_, _<_}
 use native.Mathlib.Omega.{arith}
 use lib.ListN.{length, getD, take, drop, List·getD-eq-default}
 use lib.Dec.{ltb, leb, eqb}
 use borrow.Author.Tests.{le-leb, lt-leb, lt-ltb, le-ltb, eq-eqb, ne-eqb}
 use Rattle.columns.specs.declared.Signed.{Signed}
 use Rattle.columns.specs.Columns.{columns, printable}
-use Rattle.columns.proofs.Columns.{column, columns-none, columns-all, columns-rest, length-columns, byte-of}
+use Rattle.columns.proofs.Columns.{columns-none, columns-rest, length-columns, byte-of}
 use Rattle.values.specs.declared.Value.{Value}
 use Rattle.values.specs.declared.Value.the-variants.{Default, Whole, Real, Text}
 use Rattle.values.specs.declared.Strict.{Strict}
@@ -236,17 +236,6 @@ module _ (s : List ℕ) (at end : ℕ) (lo : at ≤ end) (le : end ≤ length s)
 
 pub ruleset marks = (mark-empty, mark-short, mark-untabbed, mark-s, mark-g, mark-e, mark-u, mark-reference, mark-value, mark-z, mark-none)
 
--- ---- the whole of a line
-pub whole : {A : Type 0} (f : List ℕ → A) (l : List ℕ) (r : A) → r ≡ f (columns l 0 (length l)) → r ≡ f l
-whole f l r e = e ∙ ap f (columns-all l)
-
+-- ---- a line's end
 pub end-of : (t : List ℕ) (at r : ℕ) → r ≡ at + run 10 (columns t at (length t)) → r ≡ at + run 10 (drop at t)
 end-of t at r e = e ∙ ap (λ (l : List ℕ). at + run 10 l) (columns-rest t at)
-
-pub entry-whole : (l : List ℕ) (r : EntryLine) → r ≡ entryOf (columns l 0 (length l)) → r ≡ entryOf l
-entry-whole l r e = whole entryOf l r e
-
-pub says-whole : (l : List ℕ) (r : Said) → r ≡ saysOf (columns l 0 (length l)) → r ≡ saysOf l
-says-whole l r e = whole saysOf l r e
-
-pub ruleset wholes = (end-of, entry-whole, says-whole)

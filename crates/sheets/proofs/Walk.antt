@@ -1,35 +1,30 @@
 -- What the pass over a sheet's lines is asked.
 use mathlib.Core.Path.{_≡_, refl, sym, ap, _∙_}
-use mathlib.Core.Bool.{Bool, true, false, cond, _&&_, _||_}
-use mathlib.Core.List.{List, [], _∷_, _++_}
-use Prim.Native.Nat.{ℕ, zero, suc, _+_, _-_, _*_, _≤_, _<_}
+use mathlib.Core.Bool.{Bool, true, false, cond}
+use mathlib.Core.List.{List, [], _∷_}
+use Prim.Native.Nat.{ℕ, suc, _+_, _-_, _≤_, _<_}
 use native.Mathlib.Omega.{arith}
 use native.Mathlib.Decide.{ℕ-discrete}
-use lib.ListN.{length, getD, take, drop, length-drop}
+use lib.ListN.{length, take, drop, length-drop}
 use lib.Seq.{drop-drop}
-use lib.Dec.{ltb, leb, eqb}
-use borrow.Author.Tests.{le-leb, lt-leb, lt-ltb, le-ltb, eq-eqb, ne-eqb}
+use lib.Dec.{eqb}
+use borrow.Author.Tests.{eq-eqb, ne-eqb}
 use Rattle.columns.specs.Columns.{columns}
-use Rattle.columns.proofs.Columns.{column, columns-none, columns-all, columns-rest, length-columns}
-use Rattle.columns.specs.declared.Signed.{Signed}
-use Rattle.directory.specs.declared.Fields.{Fields}
 use Rattle.sheets.specs.declared.State.{State}
 use Rattle.sheets.specs.declared.Step.{Step}
 use Rattle.sheets.specs.declared.Step.the-variants.{On, Off}
-use Rattle.sheets.specs.declared.Verdict.{Verdict}
 use Rattle.sheets.specs.declared.Verdict.the-variants.{Good, Wrong}
 use Rattle.sheets.specs.Line.{run}
-use Rattle.values.specs.declared.Value.{Value}
-use Rattle.values.specs.Value.{itemOf, isDefault}
+use Rattle.values.specs.Value.{isDefault}
 use Rattle.columns.specs.declared.SheetLine.{SheetLine}
 use Rattle.sheets.specs.declared.Said.{Said}
 use Rattle.sheets.specs.declared.Said.the-variants.{Start, Global, Entry, Value as Given, Last, Nothing}
-use Rattle.sheets.specs.Sheet.{Line, start, global, entry, value, last, none, lineFrom, into, piecesOf, isMissing, isMark, saysOf, saidBy, lastPiece, saidByAll, linesIn}
-use Rattle.sheets.specs.Order.{sheetLine, begin, closed, valueStep, noneStep, stepLine, verdict, finish, goLines, verdictOf}
+use Rattle.sheets.specs.Sheet.{Line, start, global, entry, value, last, none, lineFrom, into, piecesOf, saysOf, saidBy, saidByAll, linesIn}
+use Rattle.sheets.specs.Order.{sheetLine, closed, valueStep, noneStep, stepLine, finish}
 use Rattle.sheets.specs.Reading.{stepSaid, pieceVerdict}
-use Rattle.sheets.proofs.Plains.{run-here, run-on, columns-take, columns-drop}
+use Rattle.sheets.proofs.Plains.{run-here, run-on}
 use Rattle.sheets.proofs.Spellings.{missing}
-use Rattle.sheets.proofs.Says.{pieces-lf, pieces-on, pieces-none, pieces-some, lines-more, none-of}
+use Rattle.sheets.proofs.Says.{pieces-lf, pieces-on, pieces-none, pieces-some, lines-more}
 use Rattle.sheets.proofs.Takes.{start-inv, global-inv, entry-inv, value-inv, last-inv, none-inv}
 
 -- ---- the end
@@ -66,7 +61,7 @@ pieces-first (b ∷ bs) h = pick (ℕ-discrete b 10) (pieces-first bs)
     pick (yes e) ih = rw (run-here 10 b bs e) (pieces-lf b bs e)
     pick (no e) ih = rw (run-on 10 b bs e) (pieces-on b bs e ∙ rw (ih (omega (arith, run-on 10 b bs e))))
 
-pieces-whole : (t : List ℕ) → length t ≤ run 10 t → piecesOf t ≡ t ∷ []
+pub pieces-whole : (t : List ℕ) → length t ≤ run 10 t → piecesOf t ≡ t ∷ []
 unfolding run into
 pieces-whole [] h = pieces-none
 pieces-whole (b ∷ bs) h = pick (ℕ-discrete b 10) (pieces-whole bs)
@@ -84,16 +79,6 @@ none-off st false = pick (eqb (st .run) 0)
     pick true = (sheetLine (st .line + 1), refl)
     pick false = (sheetLine (st .run), refl)
 
-go-piece : (st : State) (b : ℕ) (bs : List ℕ) → goLines st (saidByAll ((b ∷ bs) ∷ [])) ≡ pieceVerdict st (isMark b)
-unfolding goLines saidByAll lastPiece
-go-piece st b bs =
-    let o = none-off st (isMark b) in
-    rw (goLines, o .1)
-
-go-step : (st : State) (i : Line) (is : List Line) (x : Step) → x ≡ stepLine st i → goLines st (i ∷ is) ≡ elim x [ On st′ ↦ goLines st′ is | Off w ↦ Wrong w ]
-unfolding goLines
-go-step st i is x e = rw (goLines, ← e)
-
 -- the step of a line by what was read of it
 pub step-said : (st : State) (x : Said) (l : List ℕ) → stepSaid st x ≡ stepLine st (lineFrom l x)
 step-said st Start l = refl
@@ -107,10 +92,6 @@ step-said st (Nothing b) l = refl
 pub line-says : (l : List ℕ) (x : Said) → x ≡ saysOf l → saidBy l ≡ lineFrom l x
 unfolding saidBy
 line-says l x e = ap (lineFrom l) (sym e)
-
-step-line : (st : State) (l : List ℕ) (x : Step) (y : Said) → y ≡ saysOf l → x ≡ stepSaid st y → x ≡ stepLine st (saidBy l)
-unfolding saidBy
-step-line st l x y d p = p ∙ step-said st y l ∙ ap (λ (z : Said). stepLine st (lineFrom l z)) d
 
 cut : (t : List ℕ) (at e : ℕ) → take (e - at) (drop at t) ≡ columns t at e
 unfolding columns
@@ -127,44 +108,6 @@ lines-first t at e lo hi en =
     let c : take (e - at) (drop at t) ≡ columns t at e = cut t at e in
     ap saidByAll (pieces-first (drop at t) w) ∙ rw (r, c, drop-drop (suc (e - at)) at t, k) (lines-more (columns t at e) (piecesOf (drop (e + 1) t)) (pieces-some (drop (e + 1) t)))
 
--- ---- the pass: f is the answer
-module _ (f : Verdict) (s : List ℕ) (st : State) (at n : ℕ) (inv : goLines st (saidByAll (piecesOf (columns s at n))) ≡ f) (all : n ≡ length s) where
-  module _ (e : ℕ) (lt : at < n) (lo : at ≤ e) (hi : e ≤ n) (en : e ≡ at + run 10 (columns s at n)) where
-    at-run : run 10 (columns s at n) ≡ e - at
-    at-run = omega arith
-
-    len : length (columns s at n) ≡ n - at
-    len = length-columns s at n (omega arith) (omega arith)
-
-    pub loop-piece : (r : Verdict) (b : Bool) → e ≡ n → b ≡ isMark (getD s at 0) → r ≡ pieceVerdict st b → r ≡ f
-    loop-piece r b h p q =
-        let w : length (columns s at n) ≤ run 10 (columns s at n) = rw (len, at-run) (omega arith) in
-        q ∙ ap (pieceVerdict st) p ∙ sym (go-piece st (getD s at 0) (columns s (at + 1) n)) ∙ (rw (pieces-whole (columns s at n) w, column s at n lt (omega arith)) at inv)
-
-    module _ (x : Step) (y : Said) (h : e ≡ n → ⊥) (d : y ≡ saysOf (columns s at e)) (p : x ≡ stepSaid st y) where
-      gone : elim x [ On st′ ↦ goLines st′ (saidByAll (piecesOf (columns s (e + 1) n))) | Off w ↦ Wrong w ] ≡ f
-      gone =
-          let w : run 10 (columns s at n) < length (columns s at n) = rw (len, at-run) (omega arith) in
-          let a : at + suc (e - at) ≡ e + 1 = omega arith in
-          let g : piecesOf (columns s at n) ≡ columns s at e ∷ piecesOf (columns s (e + 1) n) = pieces-first (columns s at n) w ∙ rw (at-run, columns-take s at e n lo hi, columns-drop s at (suc (e - at)) n, a) in
-          sym (go-step st (saidBy (columns s at e)) (saidByAll (piecesOf (columns s (e + 1) n))) x (step-line st (columns s at e) x y d p)) ∙ (rw (g, lines-more (columns s at e) (piecesOf (columns s (e + 1) n)) (pieces-some (columns s (e + 1) n))) at inv)
-
-      pub loop-on : (z : State) → x ≡ On z → goLines z (saidByAll (piecesOf (columns s (e + 1) n))) ≡ f
-      loop-on z q = rw q at gone
-
-      pub loop-off : (w : SheetLine) → x ≡ Off w → Wrong w ≡ f
-      loop-off w q = rw q at gone
-
-  pub loop-end : (r : Verdict) → at ≤ n → n ≤ at → r ≡ finish st → r ≡ f
-  unfolding goLines
-  loop-end r lo hi q =
-      let e : at ≡ n = omega arith in
-      q ∙ (rw (e, columns-none, none-of) at inv)
-
-pub loop-start : (s : List ℕ) → goLines begin (saidByAll (piecesOf (columns s 0 (length s)))) ≡ verdictOf s
-unfolding verdictOf linesIn
-loop-start s = rw (columns-all s)
-
 -- one line more, and at most one entry more
 sizes : (st y : State) (i : Line) → stepLine st i ≡ On y → (y .line ≡ st .line + 1) × (y .entries ≤ st .entries + 1)
 sizes st y (start t) e = rw (start-inv st y e .2) (omega arith)
@@ -176,12 +119,3 @@ sizes st y (none b) e = absurd (none-inv st y b e)
 
 pub line-sizes : (st y : State) (d : Said) → stepSaid st d ≡ On y → (y .line ≡ st .line + 1) × (y .entries ≤ st .entries + 1)
 line-sizes st y d e = sizes st y (lineFrom [] d) (sym (step-said st d []) ∙ e)
-
-module _ (st y : State) (d : Said) (x : Step) (p : x ≡ stepSaid st d) (q : x ≡ On y) where
-  pub next-line : (at e : ℕ) → st .line ≤ at → at ≤ e → y .line ≤ e + 1
-  next-line at e h k = omega (arith, line-sizes st y d (sym p ∙ q))
-
-  pub next-entries : st .entries ≤ st .line → y .entries ≤ y .line
-  next-entries h = omega (arith, line-sizes st y d (sym p ∙ q))
-
-pub ruleset pass = (loop-piece, loop-on, loop-off, loop-end, loop-start, next-line, next-entries)

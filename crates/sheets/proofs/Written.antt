@@ -1,27 +1,26 @@
 -- What the functions that write lines are asked.
-use mathlib.Core.Path.{_≡_, refl, sym, ap, _∙_}
-use mathlib.Core.Bool.{Bool, true, false, cond}
+use mathlib.Core.Path.{_≡_, sym, ap, _∙_}
+use mathlib.Core.Bool.{Bool, false, cond}
 use mathlib.Core.List.{List, [], _∷_, _++_, append-assoc}
-use Prim.Native.Nat.{ℕ, zero, suc, _+_, _-_, _≤_, _<_}
+use Prim.Native.Nat.{ℕ, suc, _+_, _-_, _≤_, _<_}
 use native.Mathlib.Numerals.{add-one}
 use native.Mathlib.Omega.{arith}
-use lib.ListN.{length, getD, take, drop, length-drop}
-use lib.Seq.{drop-cons, length-take-le}
+use lib.ListN.{length, getD, drop}
+use lib.Seq.{drop-cons}
 use borrow.Author.Tests.{ne-eqb}
 use Rattle.columns.specs.declared.Signed.{Signed}
 use Rattle.columns.specs.Decimal.{dec, signedDec, toRight}
 use Rattle.columns.specs.Laid.{Wrote, Owes}
-use Rattle.columns.proofs.Writes.{then, wrote-none, wrote-same, owes-all, owes-less, owes-none}
+use Rattle.columns.proofs.Writes.{then, wrote-same, owes-all, owes-less, owes-none}
 use Rattle.values.specs.declared.Value.{Value}
-use Rattle.values.specs.declared.Value.the-variants.{Default, Whole, Real, Text}
-use Rattle.values.specs.Value.{itemOf, spelled}
+use Rattle.values.specs.Value.{itemOf}
 use Rattle.values.specs.Writing.{front, chars, Inside}
 use Rattle.values.proofs.Spells.{front-chars}
 use Rattle.directory.specs.declared.Fields.{Fields}
 use Rattle.directory.specs.Fields.{nought, inOrder}
 use Rattle.sheets.specs.Plain.{sized}
 use Rattle.sheets.specs.Line.{spell, spells, entryLine}
-use Rattle.sheets.specs.Sheet.{Line, start, global, entry, value, last, lineOf}
+use Rattle.sheets.specs.Sheet.{start, global, entry, value, last, lineOf}
 use Rattle.sheets.specs.Writing.{globalHead, valueHead}
 
 pub two : {o o₁ o₂ : List ℕ} {at a b r₁ r₂ : ℕ} → Wrote o at (a ∷ []) o₁ r₁ → Wrote o₁ r₁ (b ∷ []) o₂ r₂ → Wrote o at (a ∷ b ∷ []) o₂ r₂
@@ -38,37 +37,6 @@ put-last n p q r = then p (then q r)
 pub ruleset puts = (then, two, put-start, put-last)
 
 -- ---- a value
-
-module _ {o : List ℕ} {at : ℕ} (src : List ℕ) (v : Value) where
-  pub chars-default : v ≡ Default → Wrote o at (chars src v) o at
-  chars-default e = rw e wrote-none
-
-  pub chars-whole : (neg : Bool) (size : ℕ) → v ≡ Whole neg size → Wrote o at (chars src v) o at
-  chars-whole neg size e = rw e wrote-none
-
-  pub chars-real : (neg : Bool) (m : ℕ) (eneg : Bool) (x : ℕ) (double : Bool) → v ≡ Real neg m eneg x double → Wrote o at (chars src v) o at
-  chars-real neg m eneg x double e = rw e wrote-none
-
-pub chars-text : {o o′ : List ℕ} {at r : ℕ} (src : List ℕ) (v : Value) (from count : ℕ) → v ≡ Text from count → Wrote o at (take count (drop from src)) o′ r → Wrote o at (chars src v) o′ r
-chars-text src v from count e p = rw e p
-
-pub wrote-part : {o o′ : List ℕ} {at r : ℕ} (src : List ℕ) (from count : ℕ) → Wrote o at (take (from + count - from) (drop from src)) o′ r → Wrote o at (take count (drop from src)) o′ r
-wrote-part src from count p =
-    let k : from + count - from ≡ count = omega arith in
-    rw k at p
-
-pub part-next : (src : List ℕ) (at r from count : ℕ) → from + count ≤ length src → r ≡ at + length (take (from + count - from) (drop from src)) → r ≡ at + count
-part-next src at r from count h e =
-    let k : from + count - from ≡ count = omega arith in
-    e ∙ rw (k, length-take-le count (drop from src) (simp length-drop (omega arith)))
-
-pub chars-inside : (src : List ℕ) (v : Value) (from count : ℕ) → v ≡ Text from count → Inside (length src) v → from + count ≤ length src
-chars-inside src v from count e h = rw e at h
-
-pub chars-next : (src : List ℕ) (v : Value) (at r from count : ℕ) → v ≡ Text from count → Inside (length src) v → r ≡ at + count → r ≤ at + length src
-chars-next src v at r from count e h k = omega (arith, chars-inside src v from count e h)
-
-pub ruleset characters = (chars-next, wrote-part, part-next, chars-default, chars-whole, chars-real, chars-text, chars-inside)
 
 -- a line with a value: its head, a string's characters, LF
 pub global-line : (n : ℕ) (t : List ℕ) (v : Value) → Inside (length t) v → globalHead n v ++ (chars t v ++ (10 ∷ [])) ≡ lineOf (global n (itemOf t v)) ++ (10 ∷ [])
@@ -92,14 +60,7 @@ pub put-value-head : {o o₁ o₂ : List ℕ} {at m r₁ r₂ : ℕ} (reference 
 unfolding valueHead
 put-value-head reference v e p q = rw (← e) (then p q)
 
-module _ {o o₁ o₂ o₃ : List ℕ} {at r₁ r₂ r₃ : ℕ} (t : List ℕ) (v : Value) (h : Inside (length t) v) (q : Wrote o₁ r₁ (chars t v) o₂ r₂) (s : Wrote o₂ r₂ (10 ∷ []) o₃ r₃) where
-  pub put-global : (n : ℕ) → Wrote o at (globalHead n v) o₁ r₁ → Wrote o at (lineOf (global n (itemOf t v)) ++ (10 ∷ [])) o₃ r₃
-  put-global n p = wrote-same (then p (then q s)) (global-line n t v h)
-
-  pub put-value : (reference : Bool) → Wrote o at (valueHead reference v) o₁ r₁ → Wrote o at (lineOf (value reference (itemOf t v)) ++ (10 ∷ [])) o₃ r₃
-  put-value reference p = wrote-same (then p (then q s)) (value-line reference t v h)
-
-pub ruleset heads = (put-global-head, put-value-head, put-global, put-value)
+pub ruleset heads = (put-global-head, put-value-head)
 
 -- ---- the numbers of an entry line
 

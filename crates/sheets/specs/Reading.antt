@@ -34,11 +34,6 @@ Within n (Given reference v) = (2 ≤ n) × Inside (n - 2) v
 Within n (Last m) = Unit {0}
 Within n (Nothing b) = Unit {0}
 
--- at most n entries
-abbrev pub Counted : ℕ → Verdict → Type 0
-Counted n (Good m) = m ≤ n
-Counted n (Wrong w) = Unit {0}
-
 -- a line that says no value
 abbrev pub NoValue : Said → Type 0
 NoValue Start = Unit {0}

@@ -1,5 +1,5 @@
 // Sheet lines in and out: what each line says, and the order of lines.
-// `plain` reads the numbers of a sheet, `reading` its lines and whole sheets, `order` is the machine over the lines, `writing` writes lines.
+// `plain` reads the numbers of a sheet, `reading` its lines, `order` is the machine over the lines, `writing` writes lines.
 use columns::SheetLine;
 use columns::Signed;
 use directory::Fields;

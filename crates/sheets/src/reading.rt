@@ -1,9 +1,6 @@
-// Sheets in: what a line says, and the verdict on a whole sheet.
+// Sheets in: where a line ends and what it says.
 use crate::EntryLine;
 use crate::Said;
-use crate::State;
-use crate::Step;
-use crate::Verdict;
 use crate::order;
 use crate::plain;
 use columns::Signed;
@@ -12,17 +9,16 @@ use directory::Fields;
 use values::Strict;
 use values::Value;
 ghost use mathlib.Core.Path.{_≡_};
-ghost use mathlib.Core.Bool.{Bool, true, false, _&&_};
-ghost use mathlib.Core.List.{List, []};
-ghost use Prim.Native.Nat.{ℕ, suc, _+_, _-_, _^_, _≤_, _<_};
-ghost use lib.ListN.{length, getD, drop};
+ghost use mathlib.Core.Bool.{true, false};
+ghost use mathlib.Core.List.{[]};
+ghost use Prim.Native.Nat.{_+_, _-_, _≤_, _<_};
+ghost use lib.ListN.{length, drop};
 ghost use Rattle.columns.specs.Columns.{columns};
 ghost use Rattle.values.specs.Strict.{strictOf};
 ghost use Rattle.values.specs.Writing.{Placed};
 ghost use Rattle.sheets.specs.Line.{run, entryFrom, numbersOf, numberCount, entryOf};
 ghost use Rattle.sheets.specs.Sheet.{isMark, isValue, isStart, startLine, globalOf, globalLine, entryLineOf, valueOf, lastLine, saysOf};
-ghost use Rattle.sheets.specs.Order.{verdictOf};
-ghost use Rattle.sheets.specs.Reading.{Within, Counted};
+ghost use Rattle.sheets.specs.Reading.{Within};
 
 // Where the line that starts at `at` ends: its LF, or the text's end.
 pub fn end_of(t: &[u8], at: usize) -> usize
@@ -109,13 +105,6 @@ pub fn entry_at(s: &[u8], at: usize, end: usize) -> EntryLine
         return numbers(s, at + 2, end, false);
     }
     EntryLine::Wrong
-}
-
-// An entry line.
-pub fn entry_line(l: &[u8]) -> EntryLine
-    ensures { λ r. ⌜ r ≡ entryOf (now (l .entry)) ⌝ }
-{
-    entry_at(l, 0, l.len())
 }
 
 pub fn is_mark(b: u8) -> bool
@@ -294,44 +283,4 @@ pub fn line_at(s: &[u8], at: usize, end: usize) -> Said
     ensures { λ r. ⌜ Within (end - at) r ⌝ }
 {
     by_mark(s, at, end)
-}
-
-// What a line says.
-pub fn line_says(l: &[u8]) -> Said
-    ensures { λ r. ⌜ r ≡ saysOf (now (l .entry)) ⌝ }
-    ensures { λ r. ⌜ Within (length (now (l .entry))) r ⌝ }
-{
-    line_at(l, 0, l.len())
-}
-
-// A sheet: how many entries it has, or its first wrong line.
-pub fn read_sheet(t: &[u8]) -> Verdict
-    ensures { λ r. ⌜ r ≡ verdictOf (now (t .entry)) ⌝ }
-    ensures { λ r. ⌜ Counted (length (now (t .entry))) r ⌝ }
-{
-    let n = t.len();
-    let mut st = State {
-        section: 0,
-        field: 2,
-        entries: 0,
-        run: 0,
-        line: 0,
-    };
-    let mut at = 0;
-    while at < n {
-        let e = plain::find(t, 10, at, n);
-        if e == n {
-            return order::wrong_piece(st, is_mark(t[at]));
-        }
-        match order::step_line(st, line_at(t, at, e)) {
-            Step::On(next) => {
-                st = next;
-                at = e + 1;
-            }
-            Step::Off(w) => {
-                return Verdict::Wrong(w);
-            }
-        }
-    }
-    order::finish_of(st)
 }

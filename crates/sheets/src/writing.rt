@@ -6,16 +6,14 @@ use directory::Fields;
 use values::Value;
 use values::spell;
 ghost use mathlib.Core.Path.{_≡_};
-ghost use mathlib.Core.Bool.{Bool, true, false, cond};
-ghost use mathlib.Core.List.{List, [], _∷_, _++_};
-ghost use Prim.Native.Nat.{ℕ, _+_, _^_, _≤_, _<_};
-ghost use lib.ListN.{length, take, drop};
+ghost use mathlib.Core.Bool.{false, cond};
+ghost use mathlib.Core.List.{[], _∷_, _++_};
+ghost use Prim.Native.Nat.{_+_, _^_, _≤_, _<_};
+ghost use lib.ListN.{length};
 ghost use Rattle.columns.specs.Laid.{Wrote};
-ghost use Rattle.values.specs.Value.{itemOf};
-ghost use Rattle.values.specs.Writing.{front, chars, Inside};
 ghost use Rattle.directory.specs.Fields.{inOrder};
 ghost use Rattle.sheets.specs.Plain.{sized};
-ghost use Rattle.sheets.specs.Line.{numberCount, spell, spells, entryLine};
+ghost use Rattle.sheets.specs.Line.{numberCount, spell, spells};
 ghost use Rattle.sheets.specs.Sheet.{Line, lineOf};
 ghost use Rattle.sheets.specs.Writing.{globalHead, valueHead};
 
@@ -49,29 +47,6 @@ pub fn put_start(out: &mut [u8], at: usize, text: &[u8]) -> usize
     put_tail(out, next, text)
 }
 
-// Writes count bytes of src.
-fn put_part(out: &mut [u8], at: usize, src: &[u8], start: usize, count: usize) -> usize
-    requires { ⌜ (at < 2 ^ 61) × (start + count ≤ length (now src)) ⌝ }
-    ensures { λ r. ⌜ Wrote (now (out .entry)) at (take count (drop start (now (src .entry)))) (now (out .exit)) r ⌝ }
-    ensures { λ r. ⌜ r ≡ at + count ⌝ }
-{
-    emit::put_all(out, at, &src[start..start + count])
-}
-
-// A string's characters, which stand in src.
-fn put_chars(out: &mut [u8], at: usize, v: Value, src: &[u8]) -> usize
-    requires { ⌜ (at < 2 ^ 61) × Inside (length (now src)) v ⌝ }
-    ensures { λ r. ⌜ Wrote (now (out .entry)) at (chars (now (src .entry)) v) (now (out .exit)) r ⌝ }
-    ensures { λ r. ⌜ r ≤ at + length (now (src .entry)) ⌝ }
-{
-    match v {
-        Value::Default => at,
-        Value::Whole { .. } => at,
-        Value::Real { .. } => at,
-        Value::Text { start, count } => put_part(out, at, src, start, count),
-    }
-}
-
 // A G line up to a string's characters.
 pub fn put_global_head(out: &mut [u8], at: usize, n: u32, v: Value) -> usize
     requires { ⌜ at < 2 ^ 59 ⌝ }
@@ -82,17 +57,6 @@ pub fn put_global_head(out: &mut [u8], at: usize, n: u32, v: Value) -> usize
     let b = emit::put_decimal(out, a, n as u64);
     let c = emit::put(out, b, 9);
     spell::put_front(out, c, v)
-}
-
-// A G line whose string, if it is one, stands in src.
-pub fn put_global(out: &mut [u8], at: usize, n: u32, v: Value, src: &[u8]) -> usize
-    requires { ⌜ (at < 2 ^ 59) × Inside (length (now src)) v ⌝ }
-    ensures { λ r. ⌜ Wrote (now (out .entry)) at (lineOf (Line.global n (itemOf (now (src .entry)) v)) ++ (10 ∷ [])) (now (out .exit)) r ⌝ }
-    ensures { λ r. ⌜ r ≤ at + length (now (src .entry)) + 68 ⌝ }
-{
-    let a = put_global_head(out, at, n, v);
-    let b = put_chars(out, a, v, src);
-    emit::put(out, b, 10)
 }
 
 fn value_mark(reference: bool) -> u8
@@ -110,17 +74,6 @@ pub fn put_value_head(out: &mut [u8], at: usize, reference: bool, v: Value) -> u
     let m = value_mark(reference);
     let a = put_mark(out, at, m);
     spell::put_front(out, a, v)
-}
-
-// A value line whose string, if it is one, stands in src.
-pub fn put_value(out: &mut [u8], at: usize, reference: bool, v: Value, src: &[u8]) -> usize
-    requires { ⌜ (at < 2 ^ 59) × Inside (length (now src)) v ⌝ }
-    ensures { λ r. ⌜ Wrote (now (out .entry)) at (lineOf (Line.value reference (itemOf (now (src .entry)) v)) ++ (10 ∷ [])) (now (out .exit)) r ⌝ }
-    ensures { λ r. ⌜ r ≤ at + length (now (src .entry)) + 47 ⌝ }
-{
-    let a = put_value_head(out, at, reference, v);
-    let b = put_chars(out, a, v, src);
-    emit::put(out, b, 10)
 }
 
 // Writes a number of an entry line that `left` others follow: the status has eight digits.

@@ -1,6 +1,6 @@
 -- The rest of the text is its columns up to its length.
 use borrow.Author.Needs.{needs}
-use Rattle.sheets.proofs.Machine.{wholes}
+use Rattle.sheets.proofs.Machine.{end-of}
 use Rattle.sheets.proofs.reading.end_of.Statement.{statement}
 use Rattle.sheets.proofs.reading.end_of.Tie as tie
 
@@ -8,5 +8,5 @@ pub end-of-spec : {M : Type 1} → statement M
 end-of-spec =
     tie.close
     (tie.spec
-    (λ c κs. search (needs, wholes))
-    (λ c. search (needs, wholes)))
+    (λ c κs. search (needs, end-of))
+    (λ c. search (needs, end-of)))
