@@ -177,7 +177,7 @@ fn count_few(n: u64) -> usize
 }
 
 // How many digits n has.
-fn count_digits(n: u64) -> usize
+pub fn count_digits(n: u64) -> usize
     ensures { λ r. ⌜ r ≡ length (dec n) ⌝ }
     ensures { λ r. ⌜ (0 < r) × (r ≤ 20) ⌝ }
 {

@@ -6,6 +6,8 @@ use Rattle.columns.proofs.emit.put_all.Kinds as emit-put-all-kinds
 use Rattle.columns.proofs.emit.put_all.Reads as emit-put-all-reads
 use Rattle.columns.proofs.emit.put_run.Kinds as emit-put-run-kinds
 use Rattle.columns.proofs.emit.put_run.Reads as emit-put-run-reads
+use Rattle.columns.proofs.emit.count_digits.Kinds as emit-count-digits-kinds
+use Rattle.columns.proofs.emit.count_digits.Reads as emit-count-digits-reads
 use Rattle.columns.proofs.emit.put_decimal.Kinds as emit-put-decimal-kinds
 use Rattle.columns.proofs.emit.put_decimal.Reads as emit-put-decimal-reads
 use Rattle.columns.proofs.emit.put_right.Kinds as emit-put-right-kinds
@@ -43,6 +45,9 @@ emit-put-all κs a z z′ left left′ p q = wrote-first (left .1) (p .0) (q .0)
 
 pub emit-put-run : NoSecond emit-put-run-kinds.ps emit-put-run-kinds.r emit-put-run-reads.Post
 emit-put-run κs a z z′ left left′ p q = wrote-first (left .1) (p .0) (q .0)
+
+pub emit-count-digits : NoSecond emit-count-digits-kinds.ps emit-count-digits-kinds.r emit-count-digits-reads.Post
+emit-count-digits κs a z z′ left left′ p q = (once (p .0) (q .0), refl)
 
 pub emit-put-decimal : NoSecond emit-put-decimal-kinds.ps emit-put-decimal-kinds.r emit-put-decimal-reads.Post
 emit-put-decimal κs a z z′ left left′ p q = wrote-first (left .1) (p .0) (q .0)

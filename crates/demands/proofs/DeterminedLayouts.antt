@@ -6,6 +6,10 @@ use Rattle.layouts.proofs.list.known.Kinds as list-known-kinds
 use Rattle.layouts.proofs.list.known.Reads as list-known-reads
 use Rattle.layouts.proofs.list.is_list.Kinds as list-is-list-kinds
 use Rattle.layouts.proofs.list.is_list.Reads as list-is-list-reads
+use Rattle.layouts.proofs.machine.with_left.Kinds as machine-with-left-kinds
+use Rattle.layouts.proofs.machine.with_left.Reads as machine-with-left-reads
+use Rattle.layouts.proofs.machine.runs_on.Kinds as machine-runs-on-kinds
+use Rattle.layouts.proofs.machine.runs_on.Reads as machine-runs-on-reads
 use Rattle.layouts.proofs.machine.step.Kinds as machine-step-kinds
 use Rattle.layouts.proofs.machine.step.Reads as machine-step-reads
 use Rattle.layouts.proofs.machine.end.Kinds as machine-end-kinds
@@ -47,6 +51,12 @@ pub list-is-list : NoSecond list-is-list-kinds.ps list-is-list-kinds.r list-is-l
 list-is-list κs a z z′ left left′ p q = (once p q, refl)
 
 -- ---- layouts::machine
+
+pub machine-with-left : NoSecond machine-with-left-kinds.ps machine-with-left-kinds.r machine-with-left-reads.Post
+machine-with-left κs a z z′ left left′ p q = (once p q, refl)
+
+pub machine-runs-on : NoSecond machine-runs-on-kinds.ps machine-runs-on-kinds.r machine-runs-on-reads.Post
+machine-runs-on κs a z z′ left left′ p q = (once p q, refl)
 
 pub machine-step : NoSecond machine-step-kinds.ps machine-step-kinds.r machine-step-reads.Post
 machine-step κs a z z′ left left′ p q = (once p q, refl)

@@ -16,6 +16,12 @@ use Rattle.values.proofs.spell.put_head.Kinds as spell-put-head-kinds
 use Rattle.values.proofs.spell.put_head.Reads as spell-put-head-reads
 use Rattle.values.proofs.spell.put_front.Kinds as spell-put-front-kinds
 use Rattle.values.proofs.spell.put_front.Reads as spell-put-front-reads
+use Rattle.values.proofs.spell.whole_len.Kinds as spell-whole-len-kinds
+use Rattle.values.proofs.spell.whole_len.Reads as spell-whole-len-reads
+use Rattle.values.proofs.spell.real_len.Kinds as spell-real-len-kinds
+use Rattle.values.proofs.spell.real_len.Reads as spell-real-len-reads
+use Rattle.values.proofs.spell.head_len.Kinds as spell-head-len-kinds
+use Rattle.values.proofs.spell.head_len.Reads as spell-head-len-reads
 use Rattle.values.proofs.spell.front_len.Kinds as spell-front-len-kinds
 use Rattle.values.proofs.spell.front_len.Reads as spell-front-len-reads
 use Rattle.demands.specs.Unique.{NoSecond}
@@ -50,6 +56,15 @@ spell-put-head κs a z z′ left left′ p q = wrote-first (left .1) (p .0) (q .
 
 pub spell-put-front : NoSecond spell-put-front-kinds.ps spell-put-front-kinds.r spell-put-front-reads.Post
 spell-put-front κs a z z′ left left′ p q = wrote-first (left .1) (p .0) (q .0)
+
+pub spell-whole-len : NoSecond spell-whole-len-kinds.ps spell-whole-len-kinds.r spell-whole-len-reads.Post
+spell-whole-len κs a z z′ left left′ p q = (once (p .0) (q .0), refl)
+
+pub spell-real-len : NoSecond spell-real-len-kinds.ps spell-real-len-kinds.r spell-real-len-reads.Post
+spell-real-len κs a z z′ left left′ p q = (once (p .0) (q .0), refl)
+
+pub spell-head-len : NoSecond spell-head-len-kinds.ps spell-head-len-kinds.r spell-head-len-reads.Post
+spell-head-len κs a z z′ left left′ p q = (once (p .0) (q .0), refl)
 
 pub spell-front-len : NoSecond spell-front-len-kinds.ps spell-front-len-kinds.r spell-front-len-reads.Post
 spell-front-len κs a z z′ left left′ p q = (once (p .0) (q .0), refl)

@@ -10,8 +10,8 @@ use Rattle.columns.specs.declared.Fault.{Fault}
 use Rattle.columns.specs.Columns.{textOf}
 use Rattle.values.specs.declared.Value.{Value}
 use Rattle.values.specs.declared.Value.the-variants.{Default, Whole, Real, Text}
-use Rattle.values.specs.Value.{Item, default, itemOf, isDefault, head, spelled}
-use Rattle.values.specs.Writing.{front, chars}
+use Rattle.values.specs.Value.{Item, default, whole, real, itemOf, isDefault, head, spelled}
+use Rattle.values.specs.Writing.{front}
 use Rattle.records.specs.declared.Got.{Got}
 use Rattle.records.specs.declared.Got.the-variants.{Found, Refused}
 use Rattle.records.specs.Record.{Values, values, wrong, more, valueAt, valuesAt, trim, trimmed}
@@ -19,35 +19,23 @@ use Rattle.records.specs.Reading.{Stands, Writable, Sane}
 use Rattle.records.specs.Written.{copied}
 use Rattle.records.proofs.Texts.{length-text, small}
 use Rattle.records.proofs.Bounds.{next-more, next-in, next-less, can-write}
-use Rattle.records.proofs.Puts.{copied-none, copied-whole, copied-real, copied-text, copied-few}
+use Rattle.records.proofs.Puts.{copied-text, copied-few}
 use Rattle.records.proofs.Steps.{at-last, at-more, at-wrong}
+use Rattle.layouts.specs.declared.State.{State}
 use Rattle.layouts.specs.declared.Stepped.{Stepped}
 use Rattle.layouts.specs.declared.Stepped.the-variants.{Go, Bad}
-use Rattle.layouts.specs.Machine.{missing}
+use Rattle.layouts.specs.Named.{named}
+use Rattle.layouts.specs.Machine.{missing, stand, runsOn}
 use Rattle.layouts.specs.Stepping.{stepped}
-use Rattle.layouts.specs.Entities.{feed, run}
-use Rattle.layouts.proofs.Runs.{run-append}
+use Rattle.layouts.specs.Entities.{run}
+use Rattle.layouts.proofs.Steps.{runs-left, step-runs}
+use Rattle.layouts.proofs.Runs.{run-bad, run-append}
 use Rattle.entities.specs.declared.Walked.{Walked}
 use Rattle.entities.specs.declared.Walked.the-variants.{Done, Wrong}
 use Rattle.entities.proofs.Marking.{feed-stepped}
-use Rattle.entities.specs.Walking.{carriedLength, owing, stateAfter, lengthAfter, owedAfter, walkedFrom, Light}
+use Rattle.entities.specs.Walking.{carriedLength, owing, stateAfter, lengthAfter, owedAfter, walkedFrom}
 
 -- ---- a value by itself
-
-module _ {v : Value} where
-  pub missing-default : v ≡ Default → true ≡ missing v
-  missing-default e = rw e
-
-  pub given-whole : {neg : Bool} {size : ℕ} → v ≡ Whole neg size → false ≡ missing v
-  given-whole e = rw e
-
-  pub given-real : {neg : Bool} {m : ℕ} {eneg : Bool} {e : ℕ} {double : Bool} → v ≡ Real neg m eneg e double → false ≡ missing v
-  given-real e = rw e
-
-  pub given-text : {start count : ℕ} → v ≡ Text start count → false ≡ missing v
-  given-text e = rw e
-
-pub ruleset kinds = (missing-default, given-whole, given-real, given-text, copied-none, copied-whole, copied-real, copied-text)
 
 -- its spelling, measured
 spelling-length : (t : List ℕ) (v : Value) → Writable (length t) v → length (spelled (itemOf t v)) ≡ length (front v) + copied v
@@ -81,27 +69,53 @@ pub ruleset defaults = (defaults-none, defaults-more)
 
 -- ---- behind a value
 
-module _ (types : List ℕ) (g : Stepped) (owed : ℕ) (v : Value) (b : Bool) (eb : b ≡ missing v) where
+module _ (types : List ℕ) {g : Stepped} (owed : ℕ) (v : Value) (b : Bool) (eb : b ≡ missing v) where
   pub state-same : b ≡ true → g ≡ stateAfter types g owed v
   state-same e = rw (← eb, e)
 
-  pub state-given : (h u : Stepped) → b ≡ false → h ≡ run types g (replicate owed default) → u ≡ stepped types h v → u ≡ stateAfter types g owed v
-  state-given h u e eh eu = rw (← eb, e, ← eh) eu
+  module _ (e : b ≡ false) where
+    pub state-bad : g ≡ Bad → Bad ≡ stateAfter types g owed v
+    state-bad eg = rw (← eb, e, eg, run-bad types (replicate owed default))
 
-module _ (size owed : ℕ) (v : Value) (b : Bool) (eb : b ≡ missing v) where
-  pub length-same : b ≡ true → size ≡ lengthAfter size owed v
-  length-same e = rw (← eb, e)
+    module _ (s : State) (eg : g ≡ Go s) (t : State) where
+      -- none is owed, and more of its kind follow
+      pub state-runs : (y : Bool) → owed ≡ 0 → y ≡ runsOn s v → y ≡ true → t ≡ stand s (s .at) (s .left - 1) → Go t ≡ stateAfter types g owed v
+      unfolding run
+      state-runs y z ey h et = rw (← eb, e, eg, z) (step-runs s t v (named types v) y ey h et)
 
-  pub length-given : (n k : ℕ) → b ≡ false → n ≡ length (front v) → k ≡ copied v → size + 3 * owed + 3 + n + k ≡ lengthAfter size owed v
-  length-given n k e en ek = rw (← eb, e, ← en, ← ek)
+      pub state-given : (h u : Stepped) → t ≡ stand s (s .at) (s .left) → h ≡ run types (Go t) (replicate owed default) → u ≡ stepped types h v → u ≡ stateAfter types g owed v
+      state-given h u et eh eu = rw (← eb, e, eg) (eu ∙ ap (λ (x : Stepped). stepped types x v) (eh ∙ ap (λ (x : State). run types (Go x) (replicate owed default)) et))
 
+pub ruleset states = (state-same, state-bad, state-runs, state-given, runs-left)
+
+module _ (size owed : ℕ) {v : Value} where
+  pub measured-whole : {neg : Bool} {n r : ℕ} → v ≡ Whole neg n → r ≡ length (spelled (whole neg n)) → size + 3 * owed + 3 + r ≡ lengthAfter size owed v
+  measured-whole e q = rw (e, q) (omega arith)
+
+  pub measured-real : {neg : Bool} {m : ℕ} {eneg : Bool} {x : ℕ} {double : Bool} {r : ℕ} → v ≡ Real neg m eneg x double → r ≡ length (spelled (real neg m eneg x double)) → size + 3 * owed + 3 + r ≡ lengthAfter size owed v
+  measured-real e q = rw (e, q) (omega arith)
+
+  pub measured-text : {start count r : ℕ} → v ≡ Text start count → r ≡ length (head count) → size + 3 * owed + 3 + r + count ≡ lengthAfter size owed v
+  measured-text e q = rw (e, q)
+
+  -- a string is short
+  module _ {start count : ℕ} (r : ℕ) (e : v ≡ Text start count) (few : copied v ≤ 999) (h : r ≤ 44) where
+    pub text-light : size + 3 * owed + 3 + r + count ≤ size + 3 * owed + 1046
+    text-light = omega (arith, copied-text e)
+
+    pub text-fits : size < 2 ^ 60 → owed < 2 ^ 60 → size + 3 * owed + 3 + r + count < 2 ^ 64
+    text-fits p q = omega (arith, copied-text e)
+
+pub ruleset measures = (measured-whole, measured-real, measured-text, text-light, text-fits)
+
+module _ (owed : ℕ) (v : Value) (b : Bool) (eb : b ≡ missing v) where
   pub owed-more : b ≡ true → owed + 1 ≡ owedAfter owed v
   owed-more e = rw (← eb, e)
 
   pub owed-none : b ≡ false → 0 ≡ owedAfter owed v
   owed-none e = rw (← eb, e)
 
-pub ruleset afters = (state-same, state-given, length-same, length-given, owed-more, owed-none)
+pub ruleset owes = (owed-more, owed-none)
 
 -- ---- defaults that are owed
 

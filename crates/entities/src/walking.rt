@@ -4,16 +4,19 @@ use crate::COLUMNS;
 use crate::Walked;
 use crate::marks::mark_step;
 use layouts::Stepped;
+use layouts::machine::runs_on;
+use layouts::machine::with_left;
 use records::Got;
 use records::reading::value_at;
 use values::Value;
-use values::spell::front_len;
+use values::spell::head_len;
+use values::spell::real_len;
+use values::spell::whole_len;
 ghost use mathlib.Core.Path.{_≡_};
 ghost use Prim.Native.Nat.{_+_, _*_, _^_, _≤_, _<_};
 ghost use lib.ListN.{length, replicate};
 ghost use Rattle.columns.specs.Columns.{textOf};
 ghost use Rattle.values.specs.Value.{default};
-ghost use Rattle.values.specs.Writing.{front};
 ghost use Rattle.records.specs.Record.{valuesAt};
 ghost use Rattle.records.specs.Reading.{Stands};
 ghost use Rattle.records.specs.Written.{copied};
@@ -42,23 +45,6 @@ fn is_missing(v: Value) -> bool
     }
 }
 
-fn copied_of(v: Value) -> usize
-    ensures { λ r. ⌜ r ≡ copied v ⌝ }
-{
-    match v {
-        Value::Default => 0,
-        Value::Whole { neg: _, size: _ } => 0,
-        Value::Real {
-            neg: _,
-            m: _,
-            eneg: _,
-            e: _,
-            double: _,
-        } => 0,
-        Value::Text { start: _, count } => count,
-    }
-}
-
 // The layout behind so many defaults.
 fn behind_defaults(file: &[u8], first: usize, n: usize, g: Stepped, owed: usize) -> Stepped
     requires { ⌜ 81 * (first + 2 * n) ≤ length (now file) ⌝ }
@@ -73,7 +59,8 @@ fn behind_defaults(file: &[u8], first: usize, n: usize, g: Stepped, owed: usize)
     state
 }
 
-// The layout behind this value and the defaults owed before it; a default is owed.
+// The layout behind this value and the defaults owed before it; a default is owed. Most values are reals where more of their kind follow:
+// they are answered here, for a state or a value that is passed on is copied through memory.
 fn state_after(file: &[u8], first: usize, n: usize, g: Stepped, owed: usize, v: Value) -> Stepped
     requires { ⌜ 81 * (first + 2 * n) ≤ length (now file) ⌝ }
     ensures { λ r. ⌜ r ≡ stateAfter (typesAt (now (file .entry)) first n) g owed v ⌝ }
@@ -81,24 +68,45 @@ fn state_after(file: &[u8], first: usize, n: usize, g: Stepped, owed: usize, v: 
     if is_missing(v) {
         return g;
     }
-    let h = behind_defaults(file, first, n, g, owed);
-    mark_step(file, first, n, h, v)
+    match g {
+        Stepped::Bad => Stepped::Bad,
+        Stepped::Go(s) => {
+            if owed == 0 {
+                if runs_on(s, v) {
+                    return Stepped::Go(with_left(s, s.left - 1));
+                }
+            }
+            let h = behind_defaults(file, first, n, Stepped::Go(with_left(s, s.left)), owed);
+            mark_step(file, first, n, h, v)
+        }
+    }
 }
 
-// The bytes of the value lines up to this value, and how many defaults are owed behind it.
+// The bytes of the value lines up to this value; its fields are passed, not the value.
 fn length_after(length: usize, owed: usize, v: Value) -> usize
     requires { ⌜ (length < 2 ^ 60) × (owed < 2 ^ 60) × (copied v ≤ 999) ⌝ }
     ensures { λ r. ⌜ r ≡ lengthAfter length owed v ⌝ }
     ensures { λ r. ⌜ r ≤ length + 3 * owed + 1046 ⌝ }
 {
-    if is_missing(v) {
-        return length;
+    match v {
+        Value::Default => length,
+        Value::Whole { neg, size } => length + AROUND * owed + AROUND + whole_len(neg, size),
+        Value::Real {
+            neg,
+            m,
+            eneg,
+            e,
+            double,
+        } => length + AROUND * owed + AROUND + real_len(neg, m, eneg, e, double),
+        Value::Text { start: _, count } => length
+            + AROUND * owed
+            + AROUND
+            + head_len(count)
+            + count,
     }
-    let n = front_len(v);
-    let k = copied_of(v);
-    length + AROUND * owed + AROUND + n + k
 }
 
+// How many defaults are owed behind it.
 fn owed_after(owed: usize, v: Value) -> usize
     requires { ⌜ owed < 2 ^ 60 ⌝ }
     ensures { λ r. ⌜ r ≡ owedAfter owed v ⌝ }

@@ -94,7 +94,7 @@ fn onward_of(s: State) -> State
 }
 
 // The state with so many left, made field by field: so its fields are kept apart, and a step needs no copy of the whole.
-fn with_left(s: State, left: u64) -> State
+pub fn with_left(s: State, left: u64) -> State
     ensures { λ r. ⌜ r ≡ stand s (s .at) left ⌝ }
 {
     State {
@@ -163,7 +163,7 @@ fn reals_at(at: usize) -> bool
 }
 
 // Whether a real stands where more of its kind follow: most values do.
-fn runs_on(s: State, v: Value) -> bool
+pub fn runs_on(s: State, v: Value) -> bool
     ensures { λ r. ⌜ r ≡ runsOn s v ⌝ }
 {
     if s.left <= 1 {

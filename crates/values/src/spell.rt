@@ -5,7 +5,7 @@ ghost use mathlib.Core.Path.{_≡_};
 ghost use mathlib.Core.List.{[], _∷_};
 ghost use Prim.Native.Nat.{ℕ, _+_, _^_, _≤_, _<_};
 ghost use lib.ListN.{length};
-ghost use Rattle.columns.specs.Decimal.{minus, dec};
+ghost use Rattle.columns.specs.Decimal.{minus};
 ghost use Rattle.columns.specs.Laid.{Wrote};
 ghost use Rattle.values.specs.Value.{whole, real, letter, tenTo, exponent, head, spelled};
 ghost use Rattle.values.specs.Writing.{front};
@@ -124,36 +124,6 @@ pub fn put_front(out: &mut [u8], at: usize, v: Value) -> usize
     }
 }
 
-// How many digits n has, which is below ten thousand.
-fn few_digits(n: u64) -> usize
-    requires { ⌜ n < 10000 ⌝ }
-    ensures { λ r. ⌜ r ≡ length (dec n) ⌝ }
-{
-    if n < 10 {
-        return 1;
-    }
-    if n < 100 {
-        return 2;
-    }
-    if n < 1_000 {
-        return 3;
-    }
-    4
-}
-
-// How many digits n has: four by four.
-fn digits_of(n: u64) -> usize
-    ensures { λ r. ⌜ (r ≡ length (dec n)) × (r ≤ 20) ⌝ }
-{
-    let mut m = n;
-    let mut k = 0;
-    while 10_000 <= m {
-        m = m / 10_000;
-        k += 4;
-    }
-    k + few_digits(m)
-}
-
 // How long a sign is.
 fn sign_len(neg: bool) -> usize
     ensures { λ r. ⌜ (r ≡ length (minus neg)) × (r ≤ 1) ⌝ }
@@ -167,28 +137,49 @@ fn exponent_len(eneg: bool, e: u32, double: bool) -> usize
 {
     let s = sign_len(eneg);
     if double {
-        return 1 + s + digits_of(wide(e));
+        return 1 + s + emit::count_digits(wide(e));
     }
     if e == 0 {
         return 0;
     }
-    1 + s + digits_of(wide(e))
+    1 + s + emit::count_digits(wide(e))
 }
 
-// How long that is.
+// How long an integer is.
+pub fn whole_len(neg: bool, size: u32) -> usize
+    ensures { λ r. ⌜ (r ≡ length (spelled (whole neg size))) × (r ≤ 44) ⌝ }
+{
+    sign_len(neg) + emit::count_digits(wide(size))
+}
+
+// How long a real is.
+pub fn real_len(neg: bool, m: u64, eneg: bool, e: u32, double: bool) -> usize
+    ensures { λ r. ⌜ (r ≡ length (spelled (real neg m eneg e double))) × (r ≤ 44) ⌝ }
+{
+    sign_len(neg) + emit::count_digits(m) + 1 + exponent_len(eneg, e, double)
+}
+
+// How long a string's count and its H are.
+pub fn head_len(count: usize) -> usize
+    ensures { λ r. ⌜ (r ≡ length (head count)) × (r ≤ 44) ⌝ }
+{
+    emit::count_digits(count as u64) + 1
+}
+
+// How long a value is but for a string's characters.
 pub fn front_len(v: Value) -> usize
     ensures { λ r. ⌜ (r ≡ length (front v)) × (r ≤ 44) ⌝ }
 {
     match v {
         Value::Default => 0,
-        Value::Whole { neg, size } => sign_len(neg) + digits_of(wide(size)),
+        Value::Whole { neg, size } => whole_len(neg, size),
         Value::Real {
             neg,
             m,
             eneg,
             e,
             double,
-        } => sign_len(neg) + digits_of(m) + 1 + exponent_len(eneg, e, double),
-        Value::Text { start: _, count } => digits_of(count as u64) + 1,
+        } => real_len(neg, m, eneg, e, double),
+        Value::Text { start: _, count } => head_len(count),
     }
 }

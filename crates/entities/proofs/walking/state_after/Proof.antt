@@ -1,6 +1,6 @@
--- A default is owed; a value is stepped behind those owed.
+-- A default is owed; a value is stepped behind those owed, and where it runs on there is one less of its place.
 use borrow.Author.Needs.{needs}
-use Rattle.entities.proofs.Walks.{afters}
+use Rattle.entities.proofs.Walks.{states}
 use Rattle.entities.proofs.walking.state_after.Statement.{statement}
 use Rattle.entities.proofs.walking.state_after.Tie as tie
 
@@ -8,8 +8,16 @@ pub state-after-spec : {M : Type 1} → statement M
 state-after-spec =
     tie.close
     (tie.spec
-    (λ c κs. search (needs, afters))
-    (λ c. search (needs, afters))
-    (λ c κs. search (needs, afters))
-    (λ c κs. search (needs, afters))
-    (λ c. search (needs, afters)))
+    (λ c κs. search needs)
+    (λ c. search (needs, states))
+    (λ c. search needs)
+    (λ c. search needs)
+    (λ c κs. search needs)
+    (λ c. search (needs, states))
+    (λ c κs. search needs)
+    (λ c. search (needs, states))
+    (λ c κs. search needs)
+    (λ c κs. search needs)
+    (λ c κs. search needs)
+    (λ c. search (needs, states))
+    (λ c. search (needs, states)))

@@ -1,4 +1,4 @@
--- `values::spell::front_len`: by what the value is, part by part.
+-- `values::spell::front_len`: by what the value is.
 use borrow.Author.Needs.{needs}
 use Rattle.values.proofs.Lengths.{lengths}
 use Rattle.values.proofs.spell.front_len.Statement.{statement}
@@ -8,22 +8,13 @@ pub front-len-spec : {M : Type 1} → statement M
 front-len-spec =
     tie.close
     (tie.spec
-    (λ c. search (needs, lengths))
-    (λ c. search (needs, lengths))
-    (λ c κs. search (needs, lengths))
-    (λ c κs. search (needs, lengths))
-    (λ c κs. search (needs, lengths))
-    (λ c. search (needs, lengths))
-    (λ c. search (needs, lengths))
-    (λ c κs. search (needs, lengths))
-    (λ c κs. search (needs, lengths))
-    (λ c. search (needs, lengths))
-    (λ c. search (needs, lengths))
-    (λ c κs. search (needs, lengths))
-    (λ c. search (needs, lengths))
-    (λ c. search (needs, lengths))
-    (λ c κs. search (needs, lengths))
-    (λ c. search (needs, lengths))
+    (λ c. search needs)
+    (λ c. search needs)
+    (λ c κs. search needs)
+    (λ c. search needs)
+    (λ c κs. search needs)
+    (λ c. search needs)
+    (λ c κs. search needs)
     (λ c. search (needs, lengths))
     (λ c. search (needs, lengths))
     (λ c. search (needs, lengths))
