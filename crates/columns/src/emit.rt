@@ -236,7 +236,7 @@ pub fn put_signed(out: &mut [u8], at: usize, x: Signed) -> usize
 }
 
 // How many bytes x takes.
-fn count_signed(x: Signed) -> usize
+pub fn count_signed(x: Signed) -> usize
     ensures { λ r. ⌜ r ≡ length (signedDec x) ⌝ }
     ensures { λ r. ⌜ (0 < r) × (r ≤ 11) ⌝ }
 {

@@ -14,6 +14,8 @@ use Rattle.columns.proofs.emit.put_right.Kinds as emit-put-right-kinds
 use Rattle.columns.proofs.emit.put_right.Reads as emit-put-right-reads
 use Rattle.columns.proofs.emit.put_signed.Kinds as emit-put-signed-kinds
 use Rattle.columns.proofs.emit.put_signed.Reads as emit-put-signed-reads
+use Rattle.columns.proofs.emit.count_signed.Kinds as emit-count-signed-kinds
+use Rattle.columns.proofs.emit.count_signed.Reads as emit-count-signed-reads
 use Rattle.columns.proofs.emit.put_signed_right.Kinds as emit-put-signed-right-kinds
 use Rattle.columns.proofs.emit.put_signed_right.Reads as emit-put-signed-right-reads
 use Rattle.columns.proofs.emit.put_left.Kinds as emit-put-left-kinds
@@ -57,6 +59,9 @@ emit-put-right κs a z z′ left left′ p q = wrote-first (left .1) (p .0) (q .
 
 pub emit-put-signed : NoSecond emit-put-signed-kinds.ps emit-put-signed-kinds.r emit-put-signed-reads.Post
 emit-put-signed κs a z z′ left left′ p q = wrote-first (left .1) (p .0) (q .0)
+
+pub emit-count-signed : NoSecond emit-count-signed-kinds.ps emit-count-signed-kinds.r emit-count-signed-reads.Post
+emit-count-signed κs a z z′ left left′ p q = (once (p .0) (q .0), refl)
 
 pub emit-put-signed-right : NoSecond emit-put-signed-right-kinds.ps emit-put-signed-right-kinds.r emit-put-signed-right-reads.Post
 emit-put-signed-right κs a z z′ left left′ p q = wrote-first (left .1) (p .0) (q .0)

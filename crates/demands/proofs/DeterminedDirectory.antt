@@ -10,6 +10,8 @@ use Rattle.directory.proofs.lines.lines_at.Kinds as lines-lines-at-kinds
 use Rattle.directory.proofs.lines.lines_at.Reads as lines-lines-at-reads
 use Rattle.directory.proofs.lines.label_at.Kinds as lines-label-at-kinds
 use Rattle.directory.proofs.lines.label_at.Reads as lines-label-at-reads
+use Rattle.directory.proofs.naming.class_at.Kinds as naming-class-at-kinds
+use Rattle.directory.proofs.naming.class_at.Reads as naming-class-at-reads
 use Rattle.directory.proofs.rules.number_of.Kinds as rules-number-of-kinds
 use Rattle.directory.proofs.rules.number_of.Reads as rules-number-of-reads
 use Rattle.directory.proofs.rules.entry_of.Kinds as rules-entry-of-kinds
@@ -45,6 +47,11 @@ lines-lines-at κs a z z′ left left′ p q = (once (p .0) (q .0), refl)
 
 pub lines-label-at : NoSecond lines-label-at-kinds.ps lines-label-at-kinds.r lines-label-at-reads.Post
 lines-label-at κs a z z′ left left′ p q = (once p q, refl)
+
+-- ---- directory::naming
+
+pub naming-class-at : NoSecond naming-class-at-kinds.ps naming-class-at-kinds.r naming-class-at-reads.Post
+naming-class-at κs a z z′ left left′ p q = (once p q, refl)
 
 -- ---- directory::rules
 

@@ -10,8 +10,6 @@ use Rattle.entities.proofs.marks.mark_of.Kinds as marks-mark-of-kinds
 use Rattle.entities.proofs.marks.mark_of.Reads as marks-mark-of-reads
 use Rattle.entities.proofs.marks.mark_step.Kinds as marks-mark-step-kinds
 use Rattle.entities.proofs.marks.mark_step.Reads as marks-mark-step-reads
-use Rattle.entities.proofs.naming.class_at.Kinds as naming-class-at-kinds
-use Rattle.entities.proofs.naming.class_at.Reads as naming-class-at-reads
 use Rattle.entities.proofs.naming.named_at.Kinds as naming-named-at-kinds
 use Rattle.entities.proofs.naming.named_at.Reads as naming-named-at-reads
 use Rattle.demands.specs.Unique.{NoSecond}
@@ -34,9 +32,6 @@ pub marks-mark-step : NoSecond marks-mark-step-kinds.ps marks-mark-step-kinds.r 
 marks-mark-step κs a z z′ left left′ p q = (once p q, refl)
 
 -- ---- entities::naming
-
-pub naming-class-at : NoSecond naming-class-at-kinds.ps naming-class-at-kinds.r naming-class-at-reads.Post
-naming-class-at κs a z z′ left left′ p q = (once p q, refl)
 
 pub naming-named-at : NoSecond naming-named-at-kinds.ps naming-named-at-kinds.r naming-named-at-reads.Post
 naming-named-at κs a z z′ left left′ p q = (once p q, refl)

@@ -22,8 +22,6 @@ use Rattle.printing.proofs.taking.value_from.Kinds as taking-value-from-kinds
 use Rattle.printing.proofs.taking.value_from.Reads as taking-value-from-reads
 use Rattle.printing.proofs.globals.is_missing.Kinds as globals-is-missing-kinds
 use Rattle.printing.proofs.globals.is_missing.Reads as globals-is-missing-reads
-use Rattle.printing.proofs.rows.put_entry_line.Kinds as rows-put-entry-line-kinds
-use Rattle.printing.proofs.rows.put_entry_line.Reads as rows-put-entry-line-reads
 use Rattle.printing.proofs.taking.met_at.Kinds as taking-met-at-kinds
 use Rattle.printing.proofs.taking.met_at.Reads as taking-met-at-reads
 use Rattle.demands.specs.Unique.{NoSecond}
@@ -62,9 +60,6 @@ rows-put-entity κs a z z′ left left′ p q = wrote-first (left .1) (p .0) (q 
 
 pub rows-put-rows : NoSecond rows-put-rows-kinds.ps rows-put-rows-kinds.r rows-put-rows-reads.Post
 rows-put-rows κs a z z′ left left′ p q = wrote-first (left .1) (p .0) (q .0)
-
-pub rows-put-entry-line : NoSecond rows-put-entry-line-kinds.ps rows-put-entry-line-kinds.r rows-put-entry-line-reads.Post
-rows-put-entry-line κs a z z′ left left′ p q = wrote-first (left .1) (p .0) (q .0)
 
 -- ---- printing::sheet
 

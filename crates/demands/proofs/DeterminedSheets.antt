@@ -35,6 +35,8 @@ use Rattle.sheets.proofs.writing.put_value_head.Kinds as writing-put-value-head
 use Rattle.sheets.proofs.writing.put_value_head.Reads as writing-put-value-head-reads
 use Rattle.sheets.proofs.writing.put_entry.Kinds as writing-put-entry-kinds
 use Rattle.sheets.proofs.writing.put_entry.Reads as writing-put-entry-reads
+use Rattle.sheets.proofs.writing.entry_len.Kinds as writing-entry-len-kinds
+use Rattle.sheets.proofs.writing.entry_len.Reads as writing-entry-len-reads
 use Rattle.sheets.proofs.writing.put_last.Kinds as writing-put-last-kinds
 use Rattle.sheets.proofs.writing.put_last.Reads as writing-put-last-reads
 use Rattle.sheets.proofs.reading.is_mark.Kinds as reading-is-mark-kinds
@@ -110,6 +112,9 @@ writing-put-value-head κs a z z′ left left′ p q = wrote-first (left .1) (p 
 
 pub writing-put-entry : NoSecond writing-put-entry-kinds.ps writing-put-entry-kinds.r writing-put-entry-reads.Post
 writing-put-entry κs a z z′ left left′ p q = wrote-first (left .1) (p .0) (q .0)
+
+pub writing-entry-len : NoSecond writing-entry-len-kinds.ps writing-entry-len-kinds.r writing-entry-len-reads.Post
+writing-entry-len κs a z z′ left left′ p q = (once (p .0) (q .0), refl)
 
 pub writing-put-last : NoSecond writing-put-last-kinds.ps writing-put-last-kinds.r writing-put-last-reads.Post
 writing-put-last κs a z z′ left left′ p q = wrote-first (left .1) (p .0) (q .0)

@@ -5,3 +5,4 @@ pub mod Ranges
 pub mod Asked
 pub mod Puts
 pub mod Round
+pub mod Names

@@ -5,4 +5,3 @@ pub mod Marking
 pub mod Walks
 pub mod Weighing
 pub mod Entries
-pub mod Types

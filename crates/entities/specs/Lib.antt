@@ -1,4 +1,3 @@
-pub mod Naming
 pub mod Taking
 pub mod Answers
 pub mod Marks

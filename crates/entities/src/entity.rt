@@ -19,7 +19,7 @@ ghost use lib.ListN.{length};
 ghost use Rattle.columns.specs.Columns.{textOf};
 ghost use Rattle.records.specs.Record.{valuesAt};
 ghost use Rattle.records.specs.Reading.{Stands};
-ghost use Rattle.entities.specs.Naming.{typesAt};
+ghost use Rattle.directory.specs.Naming.{typesAt};
 ghost use Rattle.entities.specs.Marks.{carriedIn};
 ghost use Rattle.entities.specs.Walking.{carriedLength};
 ghost use Rattle.entities.specs.Answers.{typeRead, verdictAnswer, passAnswer, entityPassOf};

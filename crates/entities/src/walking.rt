@@ -20,9 +20,9 @@ ghost use Rattle.values.specs.Value.{default};
 ghost use Rattle.records.specs.Record.{valuesAt};
 ghost use Rattle.records.specs.Reading.{Stands};
 ghost use Rattle.records.specs.Written.{copied};
+ghost use Rattle.directory.specs.Naming.{typesAt};
 ghost use Rattle.layouts.specs.Machine.{missing};
 ghost use Rattle.layouts.specs.Entities.{run};
-ghost use Rattle.entities.specs.Naming.{typesAt};
 ghost use Rattle.entities.specs.Walking.{stateAfter, owedAfter, lengthAfter, walkedFrom, Light};
 
 // The mark, the tab and the LF of a value line.

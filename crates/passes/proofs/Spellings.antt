@@ -1,8 +1,8 @@
--- What an entry that passed is: its lines spell it, and its type, pointer and line count are those that stand there.
+-- What an entry that passed is: its lines spell it, and its pointer and line count are those that stand there.
 use mathlib.Core.Path.{_≡_, refl, sym, ap, _∙_}
 use mathlib.Core.Bool.{Bool, true, false, cond, _&&_}
 use mathlib.Core.List.{List, _∷_, map}
-use Prim.Native.Nat.{ℕ, zero, suc, _+_, _*_, _/_, _%_, _≤_, _<_}
+use Prim.Native.Nat.{ℕ, zero, suc, _+_, _*_, _<_}
 use native.Mathlib.Nat.{add-zero, zero-add}
 use native.Mathlib.Omega.{arith}
 use lib.ListN.{length, getD, length-map}
@@ -15,8 +15,6 @@ use Rattle.columns.proofs.First.{length-upFrom}
 use Rattle.columns.proofs.Tests.{both-left, both-right}
 use Rattle.cards.specs.declared.Counts.{Counts}
 use Rattle.cards.specs.Cards.{entries, entryLine}
-use Rattle.references.specs.References.{classOf, classAt}
-use Rattle.references.proofs.Classes.{class-at, class-even, class-past}
 use Rattle.directory.specs.declared.Fields.{Fields}
 use Rattle.directory.specs.declared.EntryRead.{EntryRead}
 use Rattle.directory.specs.declared.EntryRead.the-variants.{Spelt, Wrong}
@@ -25,15 +23,14 @@ use Rattle.directory.specs.Lines.{number, again, pointer, lines, slotIn, number
 use Rattle.model.specs.Read.{byEntry, entryIn, entriesIn, firstEntry, listedType}
 use Rattle.passes.specs.declared.Pass.the-variants.{Good}
 use Rattle.passes.specs.Passes.{passOf}
-use Rattle.passes.specs.Listed.{listedOf, listedAt, entryOf, allEntries, allTypes}
+use Rattle.passes.specs.Listed.{entryOf, allEntries, allTypes}
 use Rattle.passes.specs.Walks.{entryCheck}
 use Rattle.passes.proofs.Walks.{each-good, entries-walk}
 
 -- ---- one entry
 
--- its type, its pointer and its line count, where they stand
-pub record Stood (f : List ℕ) (k : ℕ) (x : Fields) (from count : ℕ) : Type 0 where
-  pub entity : x .entity .size ≡ sizeOf (signedOf (slotIn f k (number typeAt)))
+-- its pointer and its line count, where they stand
+pub record Stood (f : List ℕ) (k from count : ℕ) : Type 0 where
   pub from-is : from ≡ sizeOf (signedOf (slotIn f k pointer))
   pub from-some : positive (signedOf (slotIn f k pointer)) ≡ true
   pub count-is : count ≡ sizeOf (signedOf (slotIn f k lines))
@@ -41,32 +38,30 @@ pub record Stood (f : List ℕ) (k : ℕ) (x : Fields) (from count : ℕ) : Type
 
 module _ (f : List ℕ) (k : ℕ) (x : Fields) (from : ParameterLine) (count : ℕ) (p l a : SignedField)
     (ep : signedOf (slotIn f k pointer) ≡ p) (el : signedOf (slotIn f k lines) ≡ l) where
-  stood-as : (ns : Fields) (b : Bool) → isSame (ns .entity) a && (positive p && positive l) ≡ b → ns .entity .size ≡ sizeOf (signedOf (slotIn f k (number typeAt)))
-      → cond b (Spelt ns (parameterLine (sizeOf p)) (sizeOf l)) Wrong ≡ Spelt x from count → Stood f k x (from .0) count
-  stood-as ns true e t h =
-      let ex : ns ≡ x = cc in
+  stood-as : (ns : Fields) (b : Bool) → isSame (ns .entity) a && (positive p && positive l) ≡ b
+      → cond b (Spelt ns (parameterLine (sizeOf p)) (sizeOf l)) Wrong ≡ Spelt x from count → Stood f k (from .0) count
+  stood-as ns true e h =
       let both = both-right (isSame (ns .entity) a) (positive p && positive l) e in
       let ef : parameterLine (sizeOf p) ≡ from = cc in
       let ec : sizeOf l ≡ count = cc in
       record {
-        entity = ap (λ (y : Fields). y .entity .size) (sym ex) ∙ t;
         from-is = ap (λ (y : ParameterLine). y .0) (sym ef) ∙ ap sizeOf (sym ep);
         from-some = ap positive ep ∙ both-left (positive p) (positive l) both;
         count-is = sym ec ∙ ap sizeOf (sym el);
         count-some = ap positive el ∙ both-right (positive p) (positive l) both;
       }
-  stood-as ns false e t h = let z : _≡_ {A = ℕ} 0 1 = cc in absurd (omega arith)
+  stood-as ns false e h = let z : _≡_ {A = ℕ} 0 1 = cc in absurd (omega arith)
 
-  stood-by : (s : SignedField) → signedOf (slotIn f k (number typeAt)) ≡ s → (ns : Numbers) → spelt (with s ns) a p l ≡ Spelt x from count → Stood f k x (from .0) count
-  stood-by (Number n) e (numbers ns) h = stood-as (fieldsOf (n ∷ ns)) (isSame n a && (positive p && positive l)) refl (sym (ap sizeOf e)) h
-  stood-by (Number n) e misspelt h = let z : _≡_ {A = ℕ} 0 1 = cc in absurd (omega arith)
-  stood-by Bad e ns h = let z : _≡_ {A = ℕ} 0 1 = cc in absurd (omega arith)
+  stood-by : (s : SignedField) (ns : Numbers) → spelt (with s ns) a p l ≡ Spelt x from count → Stood f k (from .0) count
+  stood-by (Number n) (numbers ns) h = stood-as (fieldsOf (n ∷ ns)) (isSame n a && (positive p && positive l)) refl h
+  stood-by (Number n) misspelt h = let z : _≡_ {A = ℕ} 0 1 = cc in absurd (omega arith)
+  stood-by Bad ns h = let z : _≡_ {A = ℕ} 0 1 = cc in absurd (omega arith)
 
-pub stood : (f : List ℕ) (k : ℕ) (x : Fields) (from : ParameterLine) (count : ℕ) → entryAt f k ≡ Spelt x from count → Stood f k x (from .0) count
+pub stood : (f : List ℕ) (k : ℕ) (x : Fields) (from : ParameterLine) (count : ℕ) → entryAt f k ≡ Spelt x from count → Stood f k (from .0) count
 unfolding entryAt numbersFrom numberIn
 stood f k x from count h =
     stood-by f k x from count (signedOf (slotIn f k pointer)) (signedOf (slotIn f k lines)) (signedOf (slotIn f k again)) refl refl
-    (signedOf (slotIn f k (number typeAt))) refl (numbersFrom f k 1 11) h
+    (signedOf (slotIn f k (number typeAt))) (numbersFrom f k 1 11) h
 
 -- what stands at a line spells an entry
 pub record IsSpelt (f : List ℕ) (k : ℕ) : Type 0 where
@@ -86,13 +81,6 @@ module _ (f : List ℕ) (c : Counts) (good : passOf (entriesIn f c) ≡ Good) wh
       by (Spelt x from count) e g = record { fields = x; from = from; count = count; is = e }
       by Wrong e g = let z : _≡_ {A = ℕ} 0 1 = cc in absurd (omega arith)
 
-  -- the type of entry i is the number that stands there
-  pub type-stands : (i : ℕ) → i < entries c → listedType (entryOf f c i) ≡ sizeOf (signedOf (slotIn f (entryLine c i) (number typeAt)))
-  unfolding listedAt
-  type-stands i h =
-      let s = each-spelt i h in
-      ap (λ (r : EntryRead). listedType (listedOf (labelAt f (entryLine c i)) r)) (s .is) ∙ stood f (entryLine c i) (s .fields) (s .from) (s .count) (s .is) .entity
-
 -- one of numbers one after another, taken twice
 pub getD-up : {A : Type 0} (g : A → ℕ) (h : ℕ → A) (n i j : ℕ) → j < n → getD (map g (map h (upFrom i n))) j 0 ≡ g (h (i + j))
 unfolding upFrom
@@ -107,21 +95,3 @@ types-length f c = length-map (allEntries f c) listedType ∙ length-map (upFrom
 
 pub types-at : (f : List ℕ) (c : Counts) (i : ℕ) → i < entries c → getD (allTypes f c) i 0 ≡ listedType (entryOf f c i)
 types-at f c i h = getD-up listedType (entryOf f c) (entries c) 0 i h ∙ ap (λ (m : ℕ). listedType (entryOf f c m)) (zero-add i)
-
--- ---- what a directory number names
-
-module _ (f : List ℕ) (c : Counts) (n : ℕ) where
-  pub names-even : (n % 2 ≡ 1 → ⊥) → 0 ≡ classAt (allTypes f c) n
-  names-even h = class-even (allTypes f c) n h
-
-  pub names-past : c .d / 2 ≤ n / 2 → 0 ≡ classAt (allTypes f c) n
-  names-past h = class-past (allTypes f c) n (omega (arith, types-length f c))
-
-  pub names-class : passOf (entriesIn f c) ≡ Good → n % 2 ≡ 1 → n / 2 < c .d / 2 → (k i t r : ℕ) → k ≡ entryLine c i → i ≡ n / 2
-      → t ≡ sizeOf (signedOf (slotIn f k (number typeAt))) → r ≡ classOf t → r ≡ classAt (allTypes f c) n
-  names-class good odd h k i t r ek ei et er =
-      let e : getD (allTypes f c) (n / 2) 0 ≡ t = types-at f c (n / 2) h ∙ type-stands f c good (n / 2) h
-      ∙ ap (λ (m : ℕ). sizeOf (signedOf (slotIn f (entryLine c m) (number typeAt)))) (sym ei) ∙ rw (← ek) (sym et) in
-      er ∙ ap classOf (sym e) ∙ class-at (allTypes f c) n odd (omega (arith, types-length f c))
-
-pub ruleset naming = (names-even, names-past, names-class)

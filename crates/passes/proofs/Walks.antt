@@ -1,5 +1,5 @@
 -- The first refusal of a row of checks: a loop that looks for it, and the row of an outcome's steps.
-use mathlib.Core.Path.{_≡_, refl, sym, _∙_}
+use mathlib.Core.Path.{_≡_, refl, sym, ap, _∙_}
 use mathlib.Core.List.{List, _∷_, map}
 use Prim.Native.Nat.{ℕ, zero, suc, _+_, _-_, _*_, _/_, _≤_, _<_}
 use native.Mathlib.Nat.{sub-zero}
@@ -25,7 +25,9 @@ use Rattle.model.specs.Read.{Listed, two, byEntry, entryIn, entryLineIn, entrie
 use Rattle.passes.specs.declared.Pass.{Pass}
 use Rattle.passes.specs.declared.Pass.the-variants.{Good, Refused}
 use Rattle.passes.specs.Passes.{passOf, fileLine}
-use Rattle.passes.specs.Walks.{orElse, firstOf, entryCheck}
+use Rattle.passes.specs.declared.Turn.{Turn}
+use Rattle.passes.specs.declared.Turn.the-variants.{Kept, Refused as RefusedTurn}
+use Rattle.passes.specs.Walks.{orElse, firstOf, turnOf, entryCheck}
 
 -- ---- a loop from i up to e: r is the answer
 
@@ -51,6 +53,55 @@ module _ (check : ℕ → Pass) (i e : ℕ) (r : Pass) (inv : firstOf check i (e
 
 pub walk-start : (check : ℕ → Pass) (d n : ℕ) → d ≡ n → firstOf check 0 (d / 2 - 0) ≡ firstOf check 0 (n / 2)
 walk-start check d n e = rw (sub-zero, e)
+
+-- ---- two rows in one loop: r is the answer, the refusals of the second kept behind those of the first
+
+pub or-good : (p : Pass) → orElse p Good ≡ p
+or-good Good = refl
+or-good (Refused n l) = refl
+
+or-both : (p q r : Pass) → orElse (orElse p q) r ≡ orElse p (orElse q r)
+or-both Good q r = refl
+or-both (Refused n l) q r = refl
+
+module _ (a b : ℕ → Pass) (i e : ℕ) (kept r : Pass) (inv : orElse (firstOf a i (e - i)) (orElse kept (firstOf b i (e - i))) ≡ r) where
+  module _ (y : Turn) (h : i < e) (ey : y ≡ turnOf (a i) (orElse kept (b i))) where
+    abbrev rest-a : Pass
+    rest-a = firstOf a (i + 1) (e - (i + 1))
+
+    abbrev rest-b : Pass
+    rest-b = firstOf b (i + 1) (e - (i + 1))
+
+    both-next : orElse (orElse (a i) rest-a) (orElse (orElse kept (b i)) rest-b) ≡ r
+    unfolding firstOf
+    both-next =
+        let l : e - i ≡ suc (e - (i + 1)) = omega arith in
+        rw (or-both kept (b i) rest-b) (rw l at inv)
+
+    pub both-on : {next : Pass} → y ≡ Kept next → orElse (firstOf a (i + 1) (e - (i + 1))) (orElse next (firstOf b (i + 1) (e - (i + 1)))) ≡ r
+    both-on {next} g = by (a i) (sym ey ∙ g) both-next
+      where
+        by : (x : Pass) → turnOf x (orElse kept (b i)) ≡ Kept next → orElse (orElse x rest-a) (orElse (orElse kept (b i)) rest-b) ≡ r → orElse rest-a (orElse next rest-b) ≡ r
+        by Good t n =
+            let q : orElse kept (b i) ≡ next = cc in
+            rw q at n
+        by (Refused m l) t n = let z : _≡_ {A = ℕ} 0 1 = cc in absurd (omega arith)
+
+    pub both-here : {m : Fault} {l : FileLine} → y ≡ RefusedTurn m l → Refused m l ≡ r
+    both-here {m} {l} g = by (a i) (sym ey ∙ g) both-next
+      where
+        by : (x : Pass) → turnOf x (orElse kept (b i)) ≡ RefusedTurn m l → orElse (orElse x rest-a) (orElse (orElse kept (b i)) rest-b) ≡ r → Refused m l ≡ r
+        by Good t n = let z : _≡_ {A = ℕ} 0 1 = cc in absurd (omega arith)
+        by (Refused m′ l′) t n =
+            let em : m ≡ m′ = cc in
+            let el : l ≡ l′ = cc in
+            rw (em, el) n
+
+  pub both-end : e ≤ i → kept ≡ r
+  unfolding firstOf
+  both-end h =
+      let z : e - i ≡ 0 = omega arith in
+      sym (or-good kept) ∙ (rw z at inv)
 
 -- where all passes, each does
 pub each-good : (check : ℕ → Pass) (n i j : ℕ) → firstOf check i n ≡ Good → i ≤ j → j < i + n → check j ≡ Good
@@ -80,9 +131,6 @@ pub entries-walk : (f : List ℕ) (c : Counts) → passOf (entriesIn f c) ≡ fi
 unfolding entriesIn entryCheck
 entries-walk f c = row-walk (entryIn f) (entryLineIn c) (firstEntry c) (entries c) 0 (firstEntry c) (omega arith)
 
-pub entries-start : (f : List ℕ) (c : Counts) (d : ℕ) → d ≡ c .d → firstOf (entryCheck f c) 0 (d / 2 - 0) ≡ passOf (entriesIn f c)
-entries-start f c d e = walk-start (entryCheck f c) d (c .d) e ∙ sym (entries-walk f c)
-
 -- ---- one entry
 
 module _ (f : List ℕ) (c : Counts) (i k : ℕ) (r : EntryRead) (ek : k ≡ entryLine c i) (er : r ≡ entryAt f k) where
@@ -93,8 +141,8 @@ module _ (f : List ℕ) (c : Counts) (i k : ℕ) (r : EntryRead) (ek : k ≡ ent
   unfolding entryCheck entryIn
   one = rw (place, er, ek)
 
-  pub entry-wrong : r ≡ Wrong → Refused Directory (fileLine (k + 1)) ≡ entryCheck f c i
-  entry-wrong e = sym (one ∙ rw e)
+  pub turn-wrong : (kept : Pass) → r ≡ Wrong → RefusedTurn Directory (fileLine (k + 1)) ≡ turnOf (entryCheck f c i) kept
+  turn-wrong kept e = sym (ap (λ (p : Pass). turnOf p kept) one ∙ rw e)
 
   module _ (x : Fields) (from : ParameterLine) (count : ℕ) (e : r ≡ Spelt x from count) (rule : Rule) (eq : rule ≡ ruleOf x) where
     ruled : entryCheck f c i ≡ passOf (outcomeOf rule (k + 1))
@@ -104,10 +152,8 @@ module _ (f : List ℕ) (c : Counts) (i k : ℕ) (r : EntryRead) (ek : k ≡ ent
         by GoodRule = refl
         by (RefusedRule n) = refl
 
-    pub entry-good : rule ≡ GoodRule → Good ≡ entryCheck f c i
-    entry-good g = sym (ruled ∙ rw g)
+    pub turn-good : (kept : Pass) → rule ≡ GoodRule → Kept kept ≡ turnOf (entryCheck f c i) kept
+    turn-good kept g = sym (ap (λ (p : Pass). turnOf p kept) ruled ∙ rw g)
 
-    pub entry-refused : (n : Fault) → rule ≡ RefusedRule n → Refused n (fileLine (k + 1)) ≡ entryCheck f c i
-    entry-refused n g = sym (ruled ∙ rw g)
-
-pub ruleset walks = (walk-on, walk-here, walk-end, entries-start, entry-wrong, entry-good, entry-refused)
+    pub turn-refused : (kept : Pass) (n : Fault) → rule ≡ RefusedRule n → RefusedTurn n (fileLine (k + 1)) ≡ turnOf (entryCheck f c i) kept
+    turn-refused kept n g = sym (ap (λ (p : Pass). turnOf p kept) ruled ∙ rw g)

@@ -26,7 +26,7 @@ use Rattle.passes.specs.declared.BeforeAnswer.{BeforeAnswer}
 use Rattle.passes.specs.declared.BeforeAnswer.the-variants.{Good as BeforeGood, Refused as BeforeRefused}
 use Rattle.passes.specs.Passes.{fileLine, passOf, globalAnswer, beforeAnswer}
 use Rattle.passes.specs.Listed.{allEntries}
-use Rattle.passes.specs.Walks.{directoryOutcome, behindCards}
+use Rattle.passes.specs.Walks.{entriesOutcome, directoryOutcome, behindCards}
 use Rattle.passes.proofs.Listing.{entries-are}
 
 -- ---- 11
@@ -52,9 +52,6 @@ good-entries f c h = by (entriesIn f c) refl h
     by (accepted es) e g = e ∙ ap (λ (x : List Listed). accepted x) (entries-are f c es e)
     by (refused n p) e g = let z : _≡_ {A = ℕ} 0 1 = cc in absurd (omega arith)
 
-pub passed : {A : Type 0} (o : Outcome A) (x : Pass) → x ≡ passOf o → x ≡ Good → passOf o ≡ Good
-passed o x e g = sym e ∙ g
-
 -- what a pass refuses first, all refuse
 refused-first : {A B : Type 0} (o : Outcome A) (k : A → Outcome B) (n : Fault) (l : FileLine) → passOf o ≡ Refused n l → passOf (o then k) ≡ Refused n l
 refused-first (accepted a) k n l h = let z : _≡_ {A = ℕ} 0 1 = cc in absurd (omega arith)
@@ -65,23 +62,22 @@ good-first : {A B : Type 0} (o : Outcome A) (b : Outcome B) → passOf o ≡ Goo
 good-first (accepted a) b h = refl
 good-first (refused m p) b h = let z : _≡_ {A = ℕ} 0 1 = cc in absurd (omega arith)
 
-module _ (f : List ℕ) (c : Counts) (x : Pass) (ex : x ≡ passOf (entriesIn f c)) where
+module _ (f : List ℕ) (c : Counts) (x : Pass) (ex : x ≡ passOf (entriesOutcome f c)) where
+  then-owners : directoryOutcome f c ≡ (entriesOutcome f c then λ _. outcome c (ownersIn f c))
+  unfolding directoryOutcome entriesOutcome
+  then-owners = by (entriesIn f c)
+    where
+      by : (o : Outcome (List Listed)) → (o then λ es. referencesIn c es then λ _. outcome c (ownersIn f c)) ≡ ((o then λ es. referencesIn c es) then λ _. outcome c (ownersIn f c))
+      by (accepted es) = refl
+      by (refused n p) = refl
+
   pub entries-refuse : (n : Fault) (l : FileLine) → x ≡ Refused n l → Refused n l ≡ passOf (directoryOutcome f c)
-  unfolding directoryOutcome
-  entries-refuse n l e = sym (refused-first (entriesIn f c) (λ es. referencesIn c es then λ _. outcome c (ownersIn f c)) n l (sym ex ∙ e))
+  entries-refuse n l e = sym (ap passOf then-owners ∙ refused-first (entriesOutcome f c) (λ _. outcome c (ownersIn f c)) n l (sym ex ∙ e))
 
-  module _ (gx : x ≡ Good) (y : Pass) (ey : y ≡ passOf (referencesIn c (allEntries f c))) where
-    behind-entries : passOf (directoryOutcome f c) ≡ passOf (referencesIn c (allEntries f c) then λ _. outcome c (ownersIn f c))
-    unfolding directoryOutcome
-    behind-entries = rw (good-entries f c (sym ex ∙ gx))
+  pub owners-decide : (r : Pass) → x ≡ Good → r ≡ passOf (outcome c (ownersIn f c)) → r ≡ passOf (directoryOutcome f c)
+  owners-decide r e er = er ∙ sym (ap passOf then-owners ∙ good-first (entriesOutcome f c) (outcome c (ownersIn f c)) (sym ex ∙ e))
 
-    pub references-refuse : (n : Fault) (l : FileLine) → y ≡ Refused n l → Refused n l ≡ passOf (directoryOutcome f c)
-    references-refuse n l e = sym (behind-entries ∙ refused-first (referencesIn c (allEntries f c)) (λ _. outcome c (ownersIn f c)) n l (sym ey ∙ e))
-
-    pub owners-decide : (r : Pass) → y ≡ Good → r ≡ passOf (outcome c (ownersIn f c)) → r ≡ passOf (directoryOutcome f c)
-    owners-decide r e er = er ∙ sym (behind-entries ∙ good-first (referencesIn c (allEntries f c)) (outcome c (ownersIn f c)) (sym ey ∙ e))
-
-pub ruleset directories = (owned-all, owned-entry, owned-line, passed, entries-refuse, references-refuse, owners-decide)
+pub ruleset directories = (owned-all, owned-entry, owned-line, entries-refuse, owners-decide)
 
 -- ---- all
 

@@ -7,8 +7,9 @@ use Rattle.columns.specs.declared.Fault.the-variants.{Global}
 use Rattle.columns.specs.First.{firstNot}
 use Rattle.columns.specs.Refusal.{Outcome, accepted, demand, _then_}
 use Rattle.cards.specs.declared.Counts.{Counts}
-use Rattle.cards.specs.Cards.{entryLine}
+use Rattle.cards.specs.Cards.{firstD, entries, entryLine}
 use Rattle.directory.specs.Rules.{referenceRule}
+use Rattle.directory.specs.Naming.{typesAt}
 use Rattle.values.specs.declared.Value.{Value}
 use Rattle.values.specs.declared.Value.the-variants.{Default}
 use Rattle.values.specs.Value.{seen}
@@ -21,8 +22,10 @@ use Rattle.owners.specs.InFile.{ownersIn, outcome as ownershipOutcome}
 use Rattle.model.specs.Read.{GlobalRead, Before, entryIn, firstEntry, globalLine, byValues, globalIn, entriesIn, referencesIn}
 use Rattle.passes.specs.declared.Pass.{Pass}
 use Rattle.passes.specs.declared.Pass.the-variants.{Good, Refused}
+use Rattle.passes.specs.declared.Turn.{Turn}
+use Rattle.passes.specs.declared.Turn.the-variants.{Kept, Refused as RefusedTurn}
 use Rattle.passes.specs.Passes.{passOf}
-use Rattle.passes.specs.Listed.{entryOf, allTypes}
+use Rattle.passes.specs.Listed.{entryOf}
 
 -- the first refusal of two checks
 abbrev pub orElse : Pass → Pass → Pass
@@ -38,9 +41,14 @@ firstOf check i (suc n) = orElse (check i) (firstOf check (i + 1) n)
 unfoldable pub entryCheck : List ℕ → Counts → ℕ → Pass
 entryCheck f c i = passOf (entryIn f (firstEntry c + 2 * i) (entryLine c i))
 
--- rule 10 of entry i
+-- rule 10 of entry i, by the types that stand on the D lines: they are those of the entries, if all pass
 unfoldable pub referenceCheck : List ℕ → Counts → ℕ → Pass
-referenceCheck f c i = passOf (referenceRule (allTypes f c) (entryOf f c i .fields) (firstEntry c + 2 * i))
+referenceCheck f c i = passOf (referenceRule (typesAt f (firstD c) (entries c)) (entryOf f c i .fields) (firstEntry c + 2 * i))
+
+-- an entry passes 9 and 13, with what is kept of 10; or it is refused
+abbrev pub turnOf : Pass → Pass → Turn
+turnOf Good kept = Kept kept
+turnOf (Refused n l) kept = RefusedTurn n l
 
 -- the value that was read; a refused one stands for nothing
 abbrev pub gotValue : Got → Value
@@ -58,6 +66,10 @@ fieldsFit c p d t from n = let k = firstNot (valueFits p d t from) 0 n in demand
 -- the record behind the opening
 unfoldable pub valuesOutcome : Counts → List ℕ → ℕ → ℕ → ℕ → Outcome GlobalRead
 valuesOutcome c t p d from = byValues c t p d from (valuesAt 72 p d t from)
+
+-- each entry 9, 13; all 10
+unfoldable pub entriesOutcome : List ℕ → Counts → Outcome (List (Unit {0}))
+entriesOutcome f c = entriesIn f c then λ es. referencesIn c es
 
 -- each entry 9, 13; all 10; then 11
 unfoldable pub directoryOutcome : List ℕ → Counts → Outcome (Unit {0})

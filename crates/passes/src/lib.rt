@@ -1,8 +1,8 @@
 // Reading: the passes over a file in the paper's order, each of which answers the first refusal.
-// `globals` looks at G, `entries` asks rules 9 and 13 of each entry, `refer` rule 10.
+// `globals` looks at G, `entries` asks rules 9 and 13 of each entry and, by `refer`, rule 10.
 pub mod entries;
 pub mod globals;
-pub mod refer;
+mod refer;
 
 use cards::CardsRead;
 use cards::Counts;
@@ -20,6 +20,12 @@ ghost use Rattle.passes.specs.Walks.{directoryOutcome, behindCards};
 // All is good, or the first refusal and its line.
 pub enum Pass {
     Good,
+    Refused { fault: Fault, line: FileLine },
+}
+
+// An entry passes 9 and 13, with what is kept of 10; or it is refused.
+enum Turn {
+    Kept(Pass),
     Refused { fault: Fault, line: FileLine },
 }
 
@@ -76,13 +82,7 @@ fn directory_pass(file: &[u8], c: Counts) -> Pass
     let entries = entries::entries(file, c);
     match entries {
         Pass::Refused { fault, line } => Pass::Refused { fault, line },
-        Pass::Good => {
-            let references = refer::references(file, c);
-            match references {
-                Pass::Refused { fault, line } => Pass::Refused { fault, line },
-                Pass::Good => owners_pass(file, c),
-            }
-        }
+        Pass::Good => owners_pass(file, c),
     }
 }
 

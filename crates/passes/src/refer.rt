@@ -1,67 +1,43 @@
-// What an entry names: an entry of the file, of the type wanted (10).
+// What an entry names: an entry of the file, of the type wanted (10). Entry i has its first D line at line first + 2 * i.
 use crate::Pass;
-use crate::wide;
-use cards::Counts;
 use columns::Fault;
 use columns::FileLine;
 use directory::Entry;
-use directory::EntryRead;
+use directory::Fields;
 use directory::Wanted;
 ghost use mathlib.Core.Path.{_≡_};
-ghost use Prim.Native.Nat.{_<_, _≤_};
-ghost use Rattle.cards.specs.Cards.{entries};
-ghost use Rattle.cards.specs.Rules.{Holds};
-ghost use Rattle.references.specs.References.{entry142, classAt};
-ghost use Rattle.directory.specs.Rules.{allFit, references};
+ghost use Prim.Native.Nat.{_+_, _*_, _≤_};
+ghost use lib.ListN.{length};
+ghost use Rattle.directory.specs.Rules.{allFit, references, referenceRule};
 ghost use Rattle.directory.specs.Asking.{asksOk};
-ghost use Rattle.model.specs.Read.{entriesIn, referencesIn};
+ghost use Rattle.directory.specs.Naming.{typesAt};
 ghost use Rattle.passes.specs.Passes.{passOf};
-ghost use Rattle.passes.specs.Listed.{allEntries, allTypes};
-ghost use Rattle.passes.specs.Walks.{referenceCheck};
+ghost use Rattle.passes.specs.Walks.{orElse};
 
 // How many references an entry may have.
 const REFERENCES: usize = 7;
 
-// The class of the entry with this directory number, in a file whose entries pass.
-pub fn class_at(file: &[u8], c: Counts, number: u32) -> u8
-    requires { ⌜ Holds (now file) c × (passOf (entriesIn (now file) c) ≡ Pass.Good) ⌝ }
-    ensures { λ r. ⌜ r ≡ classAt (allTypes (now (file .entry)) c) number ⌝ }
-    ensures { λ r. ⌜ r ≤ entry142 ⌝ }
-{
-    if number % 2 != 1 {
-        return references::NO_ENTRY;
-    }
-    let n = c.d / 2;
-    let i = number / 2;
-    if n <= i {
-        return references::NO_ENTRY;
-    }
-    let k = cards::entry_line(c, wide(i));
-    let typ = directory::lines::type_at(file, k);
-    references::class_of(typ)
-}
-
 // Whether what is asked, if it is, names such an entry.
-fn asks_ok(file: &[u8], c: Counts, w: Wanted) -> bool
-    requires { ⌜ Holds (now file) c × (passOf (entriesIn (now file) c) ≡ Pass.Good) ⌝ }
-    ensures { λ r. ⌜ r ≡ asksOk (allTypes (now (file .entry)) c) w ⌝ }
+fn asks_ok(file: &[u8], first: usize, n: usize, w: Wanted) -> bool
+    requires { ⌜ 81 * (first + 2 * n) ≤ length (now file) ⌝ }
+    ensures { λ r. ⌜ r ≡ asksOk (typesAt (now (file .entry)) first n) w ⌝ }
 {
     if !w.asked {
         return true;
     }
-    let class = class_at(file, c, w.number);
+    let class = directory::naming::class_at(file, first, n, w.number);
     references::fits(w.want, class)
 }
 
 // Whether all references of an entry do.
-fn all_ask_ok(file: &[u8], c: Counts, e: Entry) -> bool
-    requires { ⌜ Holds (now file) c × (passOf (entriesIn (now file) c) ≡ Pass.Good) ⌝ }
-    ensures { λ r. ⌜ r ≡ allFit (allTypes (now (file .entry)) c) (references e) ⌝ }
+fn all_ask_ok(file: &[u8], first: usize, n: usize, e: Entry) -> bool
+    requires { ⌜ 81 * (first + 2 * n) ≤ length (now file) ⌝ }
+    ensures { λ r. ⌜ r ≡ allFit (typesAt (now (file .entry)) first n) (references e) ⌝ }
 {
     let mut j = 0;
     while j < REFERENCES {
         let w = directory::rules::wanted(e, j);
-        if !asks_ok(file, c, w) {
+        if !asks_ok(file, first, n, w) {
             return false;
         }
         j += 1;
@@ -69,49 +45,27 @@ fn all_ask_ok(file: &[u8], c: Counts, e: Entry) -> bool
     true
 }
 
-// Entry i, whose first D line is its place.
-fn reference_check(file: &[u8], c: Counts, i: usize) -> Pass
-    requires { ⌜ Holds (now file) c × (passOf (entriesIn (now file) c) ≡ Pass.Good) × (i < entries c) ⌝ }
-    ensures { λ r. ⌜ r ≡ referenceCheck (now (file .entry)) c i ⌝ }
+// The refusal that is kept; if there is none, that of the entry at this line.
+pub fn reference_check(
+    file: &[u8],
+    first: usize,
+    n: usize,
+    fields: Fields,
+    line: FileLine,
+    kept: Pass,
+) -> Pass
+    requires { ⌜ 81 * (first + 2 * n) ≤ length (now file) ⌝ }
+    ensures { λ r. ⌜ r ≡ orElse kept (passOf (referenceRule (typesAt (now (file .entry)) first n) fields (line .0))) ⌝ }
 {
-    let k = cards::entry_line(c, i);
-    let line = FileLine(k + 1);
-    let read = directory::lines::entry_at(file, k);
-    let EntryRead::Spelt {
-        fields,
-        pointer: _,
-        lines: _,
-    } = read
-    else {
-        return Pass::Good;
+    let Pass::Good = kept else {
+        return kept;
     };
     let e = directory::rules::entry_of(fields);
-    if all_ask_ok(file, c, e) {
+    if all_ask_ok(file, first, n, e) {
         return Pass::Good;
     }
     Pass::Refused {
         fault: Fault::Reference,
         line,
     }
-}
-
-// All entries, which pass by themselves.
-pub fn references(file: &[u8], c: Counts) -> Pass
-    requires { ⌜ Holds (now file) c × (passOf (entriesIn (now file) c) ≡ Pass.Good) ⌝ }
-    ensures { λ r. ⌜ r ≡ passOf (referencesIn c (allEntries (now (file .entry)) c)) ⌝ }
-{
-    let n = wide(c.d) / 2;
-    let mut i = 0;
-    while i < n {
-        let found = reference_check(file, c, i);
-        match found {
-            Pass::Refused { fault, line } => {
-                return Pass::Refused { fault, line };
-            }
-            Pass::Good => {
-                i += 1;
-            }
-        }
-    }
-    Pass::Good
 }

@@ -11,12 +11,12 @@ use Rattle.columns.proofs.Outcomes.{Both, then-accepted}
 use Rattle.cards.specs.declared.Counts.{Counts}
 use Rattle.cards.specs.Cards.{firstD, firstP, entries}
 use Rattle.records.specs.Record.{valuesAt}
+use Rattle.directory.specs.Naming.{typesAt, typeOfEntry}
 use Rattle.sheets.specs.Sheet.{last, lineOf, sheetText}
 use Rattle.model.specs.Model.{Carried, typesOf, sheetOf}
 use Rattle.model.specs.Read.{GlobalRead, Listed, startsIn, globalText, two, carried, parametersOf, entityIn, entriesIn, firstEntry, listedType, lastPass, modelWith}
-use Rattle.entities.specs.Naming.{typesAt, typeOfEntry}
+use Rattle.model.proofs.Types.{types-listed}
 use Rattle.entities.specs.Marks.{carriedIn}
-use Rattle.entities.proofs.Types.{types-listed}
 use Rattle.printing.specs.Bytes.{startBytes, globalBytes}
 use Rattle.printing.specs.Rows.{rowsBytes}
 use Rattle.printing.specs.Whole.{fieldBytes, wholeBytes, entriesBytes}

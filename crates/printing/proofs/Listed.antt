@@ -15,6 +15,7 @@ use Rattle.directory.specs.declared.EntryRead.{EntryRead}
 use Rattle.directory.specs.declared.EntryRead.the-variants.{Spelt, Wrong}
 use Rattle.directory.specs.Lines.{entryAt, labelAt}
 use Rattle.directory.specs.Rules.{entryRules}
+use Rattle.directory.specs.Naming.{typesAt}
 use Rattle.model.specs.Read.{GlobalRead, Listed, byEntry, entryIn, two, carried, parametersOf, entityIn}
 use Rattle.model.specs.Model.{Carried, typeOf}
 use Rattle.cards.specs.declared.Counts.{Counts}
@@ -22,7 +23,6 @@ use Rattle.entities.specs.declared.EntityAnswer.{EntityAnswer}
 use Rattle.entities.specs.declared.EntityAnswer.the-variants.{Good}
 use Rattle.entities.specs.Answers.{entityAnswer, entityPassOf}
 use Rattle.entities.proofs.Entries.{entity-answer, entity-good}
-use Rattle.entities.specs.Naming.{typesAt}
 use Rattle.entities.specs.Marks.{carriedIn}
 use Rattle.printing.specs.Bytes.{entityBytes}
 use Rattle.printing.specs.Rows.{speltBytes, readBytes, rowBytes, rowsBytes}

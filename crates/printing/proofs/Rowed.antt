@@ -19,13 +19,13 @@ use Rattle.directory.specs.declared.EntryRead.{EntryRead}
 use Rattle.directory.specs.declared.EntryRead.the-variants.{Spelt, Wrong}
 use Rattle.columns.specs.declared.ParameterLine.{ParameterLine}
 use Rattle.directory.specs.Lines.{entryAt, labelAt}
+use Rattle.directory.specs.Naming.{typesAt}
 use Rattle.directory.proofs.Slots.{label-columns}
 use Rattle.layouts.specs.Known.{known}
 use Rattle.layouts.specs.Entities.{marks}
 use Rattle.model.specs.Model.{marked}
 use Rattle.sheets.specs.Plain.{sized}
 use Rattle.sheets.specs.Sheet.{Line, entry, last, lineOf}
-use Rattle.entities.specs.Naming.{typesAt}
 use Rattle.entities.specs.Taking.{entityWith}
 use Rattle.entities.specs.Marks.{carriedIn}
 use Rattle.printing.specs.Bytes.{valueBytes, entityBytes}

@@ -11,7 +11,7 @@ use Rattle.directory.specs.declared.Fields.{Fields}
 use Rattle.directory.specs.declared.EntryRead.{EntryRead}
 use Rattle.directory.specs.declared.EntryRead.the-variants.{Spelt, Wrong}
 use Rattle.directory.specs.Lines.{entryAt, labelAt}
-use Rattle.entities.specs.Naming.{typesAt}
+use Rattle.directory.specs.Naming.{typesAt}
 use Rattle.entities.specs.Marks.{carriedIn}
 use Rattle.printing.specs.Bytes.{entityBytes}
 use Rattle.printing.specs.Taking.{Unrefused}

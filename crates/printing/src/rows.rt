@@ -19,10 +19,10 @@ ghost use Rattle.columns.specs.Laid.{Wrote};
 ghost use Rattle.records.specs.Record.{valuesAt};
 ghost use Rattle.records.specs.Reading.{Stands};
 ghost use Rattle.directory.specs.Lines.{labelAt};
+ghost use Rattle.directory.specs.Naming.{typesAt};
 ghost use Rattle.layouts.specs.Known.{known};
 ghost use Rattle.sheets.specs.Plain.{sized};
 ghost use Rattle.sheets.specs.Sheet.{Line, lineOf};
-ghost use Rattle.entities.specs.Naming.{typesAt};
 ghost use Rattle.entities.specs.Marks.{carriedIn};
 ghost use Rattle.printing.specs.Bytes.{entityBytes};
 ghost use Rattle.printing.specs.Taking.{Unrefused};
@@ -32,7 +32,7 @@ ghost use Rattle.printing.specs.Rows.{speltBytes, rowBytes, rowsBytes, S
 const LABEL: usize = 8;
 
 // The entry line of the entry whose first D line is line k: its label stands in the file.
-pub fn put_entry_line(
+fn put_entry_line(
     out: &mut [u8],
     at: usize,
     list: u64,

@@ -15,22 +15,21 @@ use Rattle.directory.specs.declared.Fields.{Fields}
 use Rattle.directory.specs.declared.EntryRead.{EntryRead}
 use Rattle.directory.specs.declared.EntryRead.the-variants.{Spelt, Wrong}
 use Rattle.directory.specs.Lines.{entryAt}
+use Rattle.directory.specs.Naming.{typesAt}
 use Rattle.model.specs.Model.{typeOf}
 use Rattle.model.specs.Read.{firstEntry, parametersOf}
 use Rattle.passes.specs.declared.Pass.the-variants.{Good, Refused}
 use Rattle.passes.specs.Passes.{fileLine, passOf}
-use Rattle.passes.specs.Listed.{entryOf, allEntries, allTypes}
+use Rattle.passes.specs.Listed.{entryOf, allTypes}
 use Rattle.passes.specs.Ready.{Ready}
-use Rattle.passes.proofs.Whole.{good-entries}
+use Rattle.passes.proofs.Referring.{types-stand}
 use Rattle.passes.proofs.After.{never-wrong, listed-fields, listed-pointer, listed-lines}
 use Rattle.entities.specs.declared.EntityAnswer.{EntityAnswer}
 use Rattle.entities.specs.declared.EntityAnswer.the-variants.{Good as GoodEntity, Refused as RefusedEntity}
-use Rattle.entities.specs.Naming.{typesAt}
 use Rattle.entities.specs.Answers.{entityPassOf}
 use Rattle.entities.specs.Marks.{carriedIn}
 use Rattle.entities.specs.Walking.{carriedLength}
 use Rattle.entities.proofs.Entries.{entity-good, entity-refused}
-use Rattle.entities.proofs.Types.{types-listed}
 use Rattle.reading.specs.Checks.{delimited, recordAnswer, entityAt}
 use Rattle.reading.specs.Weights.{recordCarried}
 
@@ -42,7 +41,7 @@ module _ (f : List ℕ) (c : Counts) (rd : Ready f c) where
 
   -- the types read off the D lines are those of the entries
   pub types-ready : allTypes f c ≡ typesAt f (firstD c) (entries c)
-  types-ready = types-listed f c (allEntries f c) (good-entries f c (rd .spelt))
+  types-ready = types-stand f c (rd .spelt)
 
   types-are : (first b : ℕ) → first ≡ entryLine c 0 → b ≡ c .d → typesAt f first (b / 2) ≡ allTypes f c
   types-are first b e eb =

@@ -3,14 +3,13 @@ use mathlib.Core.Path.{_≡_, refl, sym, ap, _∙_}
 use mathlib.Core.Bool.{Bool, false}
 use mathlib.Core.List.{List, [], _∷_, _++_}
 use Prim.Native.Nat.{ℕ, suc, _+_, _-_, _*_, _^_, _≤_, _<_}
-use native.Mathlib.Nat.{zero-add}
 use native.Mathlib.Omega.{arith}
 use lib.ListN.{length, length-append}
 use borrow.Author.Tests.{le-leb}
 use Rattle.columns.specs.declared.Fault.{Fault}
 use Rattle.columns.specs.declared.FileLine.{FileLine}
 use Rattle.columns.specs.declared.ParameterLine.{ParameterLine}
-use Rattle.columns.specs.Laid.{Wrote}
+use Rattle.columns.proofs.Columns.{length-columns}
 use Rattle.cards.specs.declared.Counts.{Counts}
 use Rattle.cards.specs.Cards.{firstD, firstP, entries, entryLine}
 use Rattle.values.specs.Value.{Item}
@@ -18,18 +17,21 @@ use Rattle.directory.specs.declared.Fields.{Fields}
 use Rattle.directory.specs.declared.EntryRead.{EntryRead}
 use Rattle.directory.specs.declared.EntryRead.the-variants.{Spelt, Wrong}
 use Rattle.directory.specs.Lines.{entryAt, labelAt}
+use Rattle.directory.specs.Naming.{typesAt}
+use Rattle.directory.proofs.Slots.{label-columns}
 use Rattle.layouts.specs.Known.{known}
 use Rattle.layouts.specs.Entities.{marks}
 use Rattle.layouts.proofs.Runs.{marks-length}
 use Rattle.sheets.specs.Plain.{sized}
-use Rattle.sheets.specs.Sheet.{Line, entry, lineOf}
+use Rattle.sheets.specs.Sheet.{entry, lineOf}
+use Rattle.sheets.specs.Writing.{entryLength}
+use Rattle.sheets.proofs.Measured.{entry-length}
 use Rattle.model.specs.Model.{entityOf, marked}
 use Rattle.passes.specs.Passes.{fileLine}
 use Rattle.passes.specs.Ready.{Ready}
 use Rattle.passes.proofs.After.{never-wrong, pointer-some, pointer-stays}
 use Rattle.entities.specs.declared.EntityAnswer.{EntityAnswer}
 use Rattle.entities.specs.declared.EntityAnswer.the-variants.{Good as GoodEntity, Refused as RefusedEntity}
-use Rattle.entities.specs.Naming.{typesAt}
 use Rattle.entities.specs.Walking.{carriedLength}
 use Rattle.printing.specs.Bytes.{valueBytes, entityBytes}
 use Rattle.printing.specs.Rows.{speltBytes, readBytes, rowBytes}
@@ -56,12 +58,17 @@ entity-length list types n x label vs =
     ∙ ap (λ (k : ℕ). length (lineOf (entry (known list (x .entity .size) (x .form .size)) (sized false n) x label) ++ (10 ∷ [])) + k)
     (values-length (marks list types (entityOf x vs)) vs (marks-length types list (entityOf x vs)))
 
--- an entry line that was written is measured
-pub head-measured : {o o′ : List ℕ} (b : Bool) (n i : ℕ) (x : Fields) (label : List ℕ) {r : ℕ} → n ≡ 2 * i + 1 → Wrote o 0 (lineOf (entry b (sized false n) x label) ++ (10 ∷ [])) o′ r
-    → r ≡ length (lineOf (entry b (sized false (2 * i + 1)) x label) ++ (10 ∷ []))
-head-measured b n i x label e w = w .next ∙ zero-add _ ∙ ap (λ (k : ℕ). length (lineOf (entry b (sized false k) x label) ++ (10 ∷ []))) e
+-- the directory number of entry i
+pub head-numbered : (n i : ℕ) (x : Fields) {r : ℕ} → n ≡ 2 * i + 1 → r ≡ entryLength n x 8 → r ≡ entryLength (2 * i + 1) x 8
+head-numbered n i x e er = rw (← e) er
 
-pub ruleset heads = (head-measured)
+pub ruleset heads = (head-numbered)
+
+label-length : (f : List ℕ) (k : ℕ) → 81 * k + 162 ≤ length f → length (labelAt f k) ≡ 8
+label-length f k h = ap length (label-columns f k) ∙ length-columns f (81 * (k + 1) + 56) (81 * (k + 1) + 64) (omega arith) (omega arith) ∙ omega arith
+
+head-length : (b : Bool) (f : List ℕ) (k n : ℕ) (x : Fields) → 81 * k + 162 ≤ length f → entryLength n x 8 ≡ length (lineOf (entry b (sized false n) x (labelAt f k)) ++ (10 ∷ []))
+head-length b f k n x h = sym (entry-length b n x (labelAt f k) ∙ ap (entryLength n x) (label-length f k h))
 
 -- ---- the answer
 
@@ -96,13 +103,14 @@ module _ (f : List ℕ) (c : Counts) (rd : Ready f c) where
 
 -- its answer and its bytes
 pub row-parts : (list : ℕ) (f : List ℕ) (c : Counts) (p d i k : ℕ) (x : Fields) (from count head size : ℕ) (y : EntityAnswer) {z : Rows}
-    → y ≡ recordAnswer list f c p d (x .entity .size) (x .form .size) from count
-    → head ≡ length (lineOf (entry (known list (x .entity .size) (x .form .size)) (sized false (2 * i + 1)) x (labelAt f k)) ++ (10 ∷ []))
+    → Ready f c → i < entries c → k ≡ entryLine c i → y ≡ recordAnswer list f c p d (x .entity .size) (x .form .size) from count → head ≡ entryLength (2 * i + 1) x 8
     → size ≡ carriedLength (recordCarried f c p d from count) → z ≡ answerRows y (head + size) (fileLine (k + 1)) → z ≡ speltRows list f c p d i k x from count
 unfolding speltRows
-row-parts list f c p d i k x from count head size y ey eh es ez = rw (← ey, ← eh, ← es) ez
+row-parts list f c p d i k x from count head size y rd h ek ey eh es ez =
+    let l = head-length (known list (x .entity .size) (x .form .size)) f k (2 * i + 1) x (entry-inside f c rd i k h ek) in
+    rw (← ey, ← l, ← eh, ← es) ez
 
-pub ruleset parts = (entry-inside, entry-few, row-fits, row-light, row-parts)
+pub ruleset parts = (entry-few, row-fits, row-light, row-parts)
 
 module _ (list : ℕ) (f : List ℕ) (c : Counts) (p d : ℕ) (rd : Ready f c) (i : ℕ) (h : i < entries c) (k : ℕ) (r : EntryRead) (ek : k ≡ entryLine c i) (er : r ≡ entryAt f k) where
   -- every entry is spelt

@@ -8,20 +8,17 @@ use columns::FileLine;
 use columns::ParameterLine;
 use directory::EntryRead;
 use directory::Fields;
+use directory::SLOT_COLUMNS;
 use entities::EntityAnswer;
 use entities::Weighed;
 use passes::BeforeAnswer;
+use sheets::writing::entry_len;
 use sheets::writing::put_last;
 ghost use mathlib.Core.Path.{_≡_};
-ghost use mathlib.Core.Bool.{false};
-ghost use mathlib.Core.List.{[], _∷_, _++_};
 ghost use Prim.Native.Nat.{_+_, _*_, _^_, _<_, _≤_};
-ghost use lib.ListN.{length};
 ghost use Rattle.cards.specs.Cards.{entries, entryLine};
-ghost use Rattle.directory.specs.Lines.{labelAt};
-ghost use Rattle.layouts.specs.Known.{known};
-ghost use Rattle.sheets.specs.Plain.{sized};
-ghost use Rattle.sheets.specs.Sheet.{Line, lineOf};
+ghost use Rattle.directory.specs.Lines.{slotColumns};
+ghost use Rattle.sheets.specs.Writing.{entryLength};
 ghost use Rattle.entities.specs.Walking.{carriedLength};
 ghost use Rattle.model.specs.Read.{lastPass};
 ghost use Rattle.passes.specs.Passes.{passOf};
@@ -113,15 +110,14 @@ fn number_of(i: usize) -> DirectoryNumber
     DirectoryNumber(2 * n + 1)
 }
 
-// The bytes of the entry line of entry i, whose first D line is line k: written where there is no room for it, it is measured.
-fn head_len(list: u64, file: &[u8], k: usize, i: usize, x: Fields) -> usize
-    requires { ⌜ (81 * k + 162 ≤ length (now file)) × (i < 2 ^ 30) ⌝ }
-    ensures { λ r. ⌜ r ≡ length (lineOf (Line.entry (known list (x .entity .size) (x .form .size)) (sized false (2 * i + 1)) x (labelAt (now (file .entry)) k)) ++ (10 ∷ [])) ⌝ }
+// The bytes of the entry line of entry i: its label fills a slot of the directory.
+fn head_len(i: usize, x: Fields) -> usize
+    requires { ⌜ i < 2 ^ 30 ⌝ }
+    ensures { λ r. ⌜ r ≡ entryLength (2 * i + 1) x slotColumns ⌝ }
     ensures { λ r. ⌜ r ≤ 388 ⌝ }
 {
-    let mut none = [0u8; 1];
     let number = number_of(i);
-    printing::rows::put_entry_line(&mut none, 0, list, file, k, number, x)
+    entry_len(number, x, SLOT_COLUMNS)
 }
 
 // So many bytes, if the entity passes.
@@ -151,7 +147,7 @@ fn row_at(
     ensures { λ r. ⌜ r ≡ speltRows list (now (file .entry)) c parameter closing i k fields (pointer .0) lines ⌝ }
     ensures { λ r. ⌜ Few 15000000000 r ⌝ }
 {
-    let head = head_len(list, file, k, i, fields);
+    let head = head_len(i, fields);
     let typ = fields.entity.size;
     let form = fields.form.size;
     let weighed = record_answer(list, file, c, parameter, closing, typ, form, pointer, lines);

@@ -11,5 +11,6 @@ pub mod Takes
 pub mod Walk
 pub mod Sheets
 pub mod Written
+pub mod Measured
 pub mod Bounds
 pub mod Valued

@@ -15,7 +15,7 @@ ghost use Rattle.directory.specs.Fields.{inOrder};
 ghost use Rattle.sheets.specs.Plain.{sized};
 ghost use Rattle.sheets.specs.Line.{numberCount, spell, spells};
 ghost use Rattle.sheets.specs.Sheet.{Line, lineOf};
-ghost use Rattle.sheets.specs.Writing.{globalHead, valueHead};
+ghost use Rattle.sheets.specs.Writing.{globalHead, valueHead, entryLength};
 
 // Writes a mark and a tab.
 fn put_mark(out: &mut [u8], at: usize, m: u8) -> usize
@@ -168,6 +168,47 @@ pub fn put_entry(
     let a = put_mark(out, at, m);
     let b = put_numbers(out, a, xs);
     put_tail(out, b, label)
+}
+
+// How many bytes a number of an entry line takes that `left` others follow: the status has eight digits.
+fn num_len(left: usize, x: Signed) -> usize
+    ensures { λ r. ⌜ r ≡ length (spell left x) ⌝ }
+    ensures { λ r. ⌜ r ≤ 20 ⌝ }
+{
+    if left != 3 {
+        return emit::count_signed(x);
+    }
+    let count = emit::count_digits(x.size as u64);
+    if count < 8 { 8 } else { count }
+}
+
+// How many bytes the numbers take, a tab behind each.
+fn numbers_len(xs: [Signed; 13]) -> usize
+    ensures { λ r. ⌜ r ≡ length (spells numberCount xs) ⌝ }
+    ensures { λ r. ⌜ r ≤ 273 ⌝ }
+{
+    let mut left = 13;
+    let mut k = 0;
+    let mut size = 0;
+    while 0 < left {
+        left -= 1;
+        let x = xs[k];
+        let n = num_len(left, x);
+        size += n + 1;
+        k += 1;
+    }
+    size
+}
+
+// How many bytes an entry line takes whose label has so many.
+pub fn entry_len(number: DirectoryNumber, fields: Fields, label: usize) -> usize
+    requires { ⌜ label < 2 ^ 60 ⌝ }
+    ensures { λ r. ⌜ r ≡ entryLength (number .0) fields label ⌝ }
+    ensures { λ r. ⌜ r ≤ label + 276 ⌝ }
+{
+    let xs = in_order(number, fields);
+    let n = numbers_len(xs);
+    n + label + 3
 }
 
 // The Z line.

@@ -1,4 +1,4 @@
--- Entries that pass are those at their places; the first pass that refuses decides.
+-- The first pass that refuses decides.
 use borrow.Author.Needs.{needs}
 use Rattle.passes.proofs.Whole.{directories}
 use Rattle.passes.proofs.directory_pass.Statement.{statement}
@@ -12,9 +12,5 @@ directory-pass-spec =
     (λ c. search (needs, directories))
     (λ c. search (needs, directories))
     (λ c κs. search (needs, directories))
-    (λ c. search (needs, directories))
-    (λ c. search (needs, directories))
-    (λ c κs. search (needs, directories))
-    (λ c. search (needs, directories))
     (λ c. search (needs, directories))
     (λ c. search (needs, directories)))

@@ -1,4 +1,4 @@
--- Where there is no room for the line, the place behind it is its length.
+-- Measured by its directory number, its numbers and a label of eight.
 use borrow.Author.Needs.{needs}
 use Rattle.reading.proofs.Weighing.{heads}
 use Rattle.reading.proofs.head_len.Statement.{statement}
@@ -9,6 +9,5 @@ head-len-spec =
     tie.close
     (tie.spec
     (λ c κs. search (needs, heads))
-    (λ c. search (needs, heads))
     (λ c κs. search (needs, heads))
     (λ c. search (needs, heads)))

@@ -2,8 +2,8 @@
 use mathlib.Core.Path.{_≡_}
 use lib.ListN.{replicate}
 use Rattle.values.specs.Value.{default}
+use Rattle.directory.specs.Naming.{typesAt}
 use Rattle.layouts.specs.Entities.{run}
-use Rattle.entities.specs.Naming.{typesAt}
 use borrow.Author.Needs.{needs}
 use Rattle.entities.proofs.Walks.{defaults}
 use Rattle.entities.proofs.walking.behind_defaults.Statement.{statement}

@@ -3,7 +3,7 @@ use mathlib.Core.Path.{_≡_}
 use Prim.Native.Nat.{_+_, _-_, _*_, _≤_}
 use Rattle.columns.specs.Columns.{textOf}
 use Rattle.records.specs.Record.{valuesAt}
-use Rattle.entities.specs.Naming.{typesAt}
+use Rattle.directory.specs.Naming.{typesAt}
 use Rattle.entities.specs.Walking.{walkedFrom}
 use borrow.Author.Needs.{needs}
 use Rattle.entities.proofs.Walks.{walks}

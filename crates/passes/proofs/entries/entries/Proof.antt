@@ -1,19 +1,18 @@
--- What is left of the entries has the answer of all.
+-- What is left of the entries, behind what is kept, has the answer of all.
 use mathlib.Core.Path.{_≡_}
 use Prim.Native.Nat.{_-_, _≤_}
-use Rattle.model.specs.Read.{entriesIn}
 use Rattle.passes.specs.Passes.{passOf}
-use Rattle.passes.specs.Walks.{firstOf, entryCheck}
+use Rattle.passes.specs.Walks.{orElse, firstOf, entryCheck, referenceCheck, entriesOutcome}
 use borrow.Author.Needs.{needs}
-use Rattle.passes.proofs.Walks.{walks}
+use Rattle.passes.proofs.Referring.{turns}
 use Rattle.passes.proofs.entries.entries.Statement.{statement}
 use Rattle.passes.proofs.entries.entries.Tie as tie
 
 abbrev Inv-loop : tie.InvT-loop
-Inv-loop file c n i₀ i = (i ≤ n) × (firstOf (entryCheck file c) i (n - i) ≡ passOf (entriesIn file c))
+Inv-loop file c n i₀ kept₀ i kept = (i ≤ n) × (orElse (firstOf (entryCheck file c) i (n - i)) (orElse kept (firstOf (referenceCheck file c) i (n - i))) ≡ passOf (entriesOutcome file c))
 
 abbrev μ-loop : tie.MeasureT-loop
-μ-loop file c n i₀ i = n - i
+μ-loop file c n i₀ kept₀ i kept = n - i
 
 pub entries-spec : {M : Type 1} → statement M
 entries-spec =
@@ -21,13 +20,13 @@ entries-spec =
     (tie.spec
     Inv-loop
     μ-loop
-    (λ c κs. search (needs, walks))
-    (λ c. search (needs, walks))
-    (λ c κs. search (needs, walks))
-    (λ c. search (needs, walks))
-    (λ c. search (needs, walks))
-    (λ c. search (needs, walks))
-    (λ c. search (needs, walks))
-    (λ c. search (needs, walks))
-    (λ c. search (needs, walks))
-    (λ c. search (needs, walks)))
+    (λ c κs. search (needs, turns))
+    (λ c. search (needs, turns))
+    (λ c κs. search (needs, turns))
+    (λ c. search (needs, turns))
+    (λ c. search (needs, turns))
+    (λ c. search (needs, turns))
+    (λ c. search (needs, turns))
+    (λ c. search (needs, turns))
+    (λ c. search (needs, turns))
+    (λ c. search (needs, turns)))

@@ -1,6 +1,6 @@
--- An entry is refused if a field is wrong or a rule says so, at its first D line.
+-- An entry is refused if a field is wrong or a rule says so, at its first D line; else its references are asked.
 use borrow.Author.Needs.{needs}
-use Rattle.passes.proofs.Walks.{walks}
+use Rattle.passes.proofs.Referring.{turns}
 use Rattle.passes.proofs.entries.entry_check.Statement.{statement}
 use Rattle.passes.proofs.entries.entry_check.Tie as tie
 
@@ -8,14 +8,17 @@ pub entry-check-spec : {M : Type 1} → statement M
 entry-check-spec =
     tie.close
     (tie.spec
-    (λ c κs. search (needs, walks))
-    (λ c. search (needs, walks))
-    (λ c κs. search (needs, walks))
-    (λ c. search (needs, walks))
-    (λ c. search (needs, walks))
-    (λ c. search (needs, walks))
-    (λ c κs. search (needs, walks))
-    (λ c. search (needs, walks))
-    (λ c. search (needs, walks))
-    (λ c. search (needs, walks))
-    (λ c. search (needs, walks)))
+    (λ c κs. search (needs, turns))
+    (λ c κs. search (needs, turns))
+    (λ c κs. search (needs, turns))
+    (λ c. search (needs, turns))
+    (λ c κs. search (needs, turns))
+    (λ c. search (needs, turns))
+    (λ c. search (needs, turns))
+    (λ c. search (needs, turns))
+    (λ c κs. search (needs, turns))
+    (λ c. search (needs, turns))
+    (λ c. search (needs, turns))
+    (λ c κs. search (needs, turns))
+    (λ c. search (needs, turns))
+    (λ c. search (needs, turns)))

@@ -1,4 +1,4 @@
--- The entry that stands there asks by its references.
+-- What is kept stays; else the entry asks by its references.
 use borrow.Author.Needs.{needs}
 use Rattle.passes.proofs.Referring.{refers}
 use Rattle.passes.proofs.refer.reference_check.Statement.{statement}
@@ -8,9 +8,6 @@ pub reference-check-spec : {M : Type 1} → statement M
 reference-check-spec =
     tie.close
     (tie.spec
-    (λ c κs. search (needs, refers))
-    (λ c. search (needs, refers))
-    (λ c κs. search (needs, refers))
     (λ c. search (needs, refers))
     (λ c. search (needs, refers))
     (λ c. search (needs, refers))

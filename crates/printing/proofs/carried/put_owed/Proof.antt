@@ -5,8 +5,8 @@ use lib.ListN.{length}
 use Rattle.columns.specs.Columns.{textOf}
 use Rattle.columns.specs.Laid.{Owes}
 use Rattle.values.specs.Value.{itemOf}
+use Rattle.directory.specs.Naming.{typesAt}
 use Rattle.layouts.specs.Entities.{run}
-use Rattle.entities.specs.Naming.{typesAt}
 use Rattle.entities.specs.Marks.{markedFrom}
 use Rattle.printing.specs.Bytes.{valueBytes}
 use Rattle.printing.specs.Taking.{owedBefore}

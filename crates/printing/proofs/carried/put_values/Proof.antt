@@ -4,9 +4,9 @@ use Prim.Native.Nat.{_+_, _-_, _*_, _≤_}
 use lib.ListN.{length}
 use Rattle.columns.specs.Columns.{textOf}
 use Rattle.records.specs.Record.{valuesAt}
+use Rattle.directory.specs.Naming.{typesAt}
 use Rattle.layouts.specs.Entities.{marks}
 use Rattle.model.specs.Model.{marked}
-use Rattle.entities.specs.Naming.{typesAt}
 use Rattle.entities.specs.Taking.{entityWith}
 use Rattle.entities.specs.Marks.{carriedIn}
 use Rattle.printing.specs.Bytes.{valueBytes}

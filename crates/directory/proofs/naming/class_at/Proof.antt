@@ -1,8 +1,8 @@
 -- An even number and one past the last entry name none; another names the entry whose type stands on its first D line.
 use borrow.Author.Needs.{needs}
-use Rattle.entities.proofs.Names.{names}
-use Rattle.entities.proofs.naming.class_at.Statement.{statement}
-use Rattle.entities.proofs.naming.class_at.Tie as tie
+use Rattle.directory.proofs.Names.{names}
+use Rattle.directory.proofs.naming.class_at.Statement.{statement}
+use Rattle.directory.proofs.naming.class_at.Tie as tie
 
 pub class-at-spec : {M : Type 1} → statement M
 class-at-spec =

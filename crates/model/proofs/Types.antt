@@ -19,9 +19,9 @@ use Rattle.directory.specs.declared.EntryRead.the-variants.{Spelt, Wrong}
 use Rattle.directory.specs.Fields.{typeAt, fieldsOf}
 use Rattle.directory.specs.Lines.{number, again, pointer, lines, slotIn, numberIn, Numbers, numbers, misspelt, with, numbersFrom, isSame, positive, parameterLine, sizeOf, spelt, entryAt, labelAt}
 use Rattle.directory.specs.Rules.{entryRules}
+use Rattle.directory.specs.Naming.{typeOn, typeOfEntry, typesAt}
 use Rattle.model.specs.Model.{typeOf}
 use Rattle.model.specs.Read.{Listed, byEntry, entryIn, two, entryLineIn, firstEntry, entriesIn, listedType}
-use Rattle.entities.specs.Naming.{typeOn, typeOfEntry, typesAt}
 
 -- ---- one entry
 
