@@ -1,5 +1,6 @@
 -- What a sheet's lines give to the canonical file: an entity's values and its P lines, the Global fields, and the lines behind each.
-use mathlib.Core.Bool.{false}
+use mathlib.Core.Path.{_≡_}
+use mathlib.Core.Bool.{Bool, true, false}
 use mathlib.Core.List.{List, [], _∷_, _++_, map}
 use Prim.Native.Nat.{ℕ}
 use Rattle.values.specs.Value.{Item, whole}
@@ -25,6 +26,24 @@ passValue (none b) ls rest = none b ∷ ls
 unfoldable pub behindValues : List Line → List Line
 behindValues [] = []
 behindValues (l ∷ ls) = passValue l ls (behindValues ls)
+
+-- whether a line begins as a value line does
+abbrev pub begins : Line → Bool
+begins (start t) = false
+begins (global n v) = false
+begins (entry known n x label) = false
+begins (value reference v) = true
+begins (last n) = false
+begins (none b) = b
+
+-- whether the first of these lines does
+abbrev pub firstBegins : List Line → Bool
+firstBegins [] = false
+firstBegins (l ∷ ls) = begins l
+
+-- the line behind the value lines that stand first begins otherwise: what begins as a value line does is one
+abbrev pub Unbroken : List Line → Type 0
+Unbroken ls = firstBegins (behindValues ls) ≡ false
 
 -- the values of the value lines that stand first
 abbrev pub itemsFirst : List Line → List Item

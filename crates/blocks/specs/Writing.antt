@@ -8,18 +8,14 @@ use Rattle.columns.specs.Columns.{lineBytes}
 use Rattle.columns.specs.Decimal.{dec, padded}
 use Rattle.columns.specs.Laid.{laid}
 use Rattle.values.specs.declared.Value.{Value}
-use Rattle.values.specs.declared.Strict.the-variants.{Is}
 use Rattle.values.specs.Value.{Item, itemOf}
-use Rattle.values.specs.Strict.{strictOf}
 use Rattle.records.specs.Flow.{piece}
 use Rattle.records.specs.Global.{lastField}
 use Rattle.records.specs.Reading.{Writable}
 use Rattle.sheets.specs.Sheet.{linesIn}
-use Rattle.blocks.specs.declared.ValueLine.{ValueLine}
-use Rattle.blocks.specs.declared.ValueLine.the-variants.{Here, Other}
 use Rattle.blocks.specs.declared.GlobalLine.{GlobalLine}
 use Rattle.blocks.specs.declared.GlobalLine.the-variants.{Field, Otherwise}
-use Rattle.blocks.specs.Blocks.{itemsFirst, behindValues, globalsFirst, behindGlobals, tailOf}
+use Rattle.blocks.specs.Blocks.{globalsFirst, behindGlobals, tailOf}
 
 -- ---- a record before it ends
 
@@ -40,25 +36,6 @@ tailed o q m b n zero = o
 tailed o q m b n (suc k) = tailed (laid o q (m ++ tailOf b n)) (q + lineBytes) m b (n + 1) k
 
 -- ---- the line at a place
-
--- a value line stands at this place: what follows its tab goes from `from` up to `end` and is this value's spelling
-pub record ValueStands (t : List ℕ) (at from end : ℕ) (v : Value) : Type 0 where
-  pub low : at ≤ from
-  pub inside : from ≤ end
-  pub high : end < length t
-  pub strict : strictOf (take (end - from) (drop from t)) ≡ Is v
-  pub values : itemsFirst (linesIn (drop at t)) ≡ itemOf (take (end - from) (drop from t)) v ∷ itemsFirst (linesIn (drop (end + 1) t))
-  pub behind : behindValues (linesIn (drop at t)) ≡ behindValues (linesIn (drop (end + 1) t))
-
--- no value line stands at this place
-pub record ValuesEnd (t : List ℕ) (at : ℕ) : Type 0 where
-  pub values : itemsFirst (linesIn (drop at t)) ≡ []
-  pub behind : behindValues (linesIn (drop at t)) ≡ linesIn (drop at t)
-
--- there is a value line, or the values end
-abbrev pub ValueAt : List ℕ → ℕ → ValueLine → Type 0
-ValueAt t at (Here from end v) = ValueStands t at from end v
-ValueAt t at Other = ValuesEnd t at
 
 -- a G line with this number stands at this place
 pub record FieldStands (t : List ℕ) (at number from end : ℕ) (v : Value) : Type 0 where

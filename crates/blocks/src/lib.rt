@@ -31,16 +31,6 @@ pub struct Flowed {
     pub end: usize,
 }
 
-// A value line: what follows its tab goes from `from` up to `end`. Or the values end.
-pub enum ValueLine {
-    Here {
-        from: usize,
-        end: usize,
-        value: Value,
-    },
-    Other,
-}
-
 // A G line with its number: what follows its second tab goes from `from` up to `end`. Or the G lines end.
 pub enum GlobalLine {
     Field {

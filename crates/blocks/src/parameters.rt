@@ -2,15 +2,14 @@
 use crate::Block;
 use crate::Flowed;
 use crate::PARAMETER;
-use crate::ValueLine;
 use crate::lines;
 use crate::text;
 use cards::LINE_BYTES;
 use columns::emit;
 use records::flow;
 use sheets::reading;
-use values::Strict;
 use values::Value;
+use values::back;
 ghost use mathlib.Core.Path.{_≡_};
 ghost use mathlib.Core.Bool.{false};
 ghost use mathlib.Core.List.{_++_};
@@ -20,13 +19,13 @@ ghost use Rattle.columns.specs.Columns.{joined};
 ghost use Rattle.columns.specs.Laid.{laid, Wrote};
 ghost use Rattle.values.specs.declared.Strict.the-variants.{Is};
 ghost use Rattle.values.specs.Value.{itemOf};
-ghost use Rattle.values.specs.Strict.{strictOf};
+ghost use Rattle.values.specs.Strict.{strictOf, meant};
 ghost use Rattle.records.specs.Flow.{gap, piece, lineCount};
-ghost use Rattle.records.specs.Written.{Put, copied};
+ghost use Rattle.records.specs.Written.{Put};
 ghost use Rattle.cards.specs.Written.{section};
 ghost use Rattle.sheets.specs.Sheet.{linesIn};
-ghost use Rattle.blocks.specs.Blocks.{behindValues, itemsFirst, recordText, blockLines, tailOf};
-ghost use Rattle.blocks.specs.Writing.{parted, ownerOf, tailed, ValueAt};
+ghost use Rattle.blocks.specs.Blocks.{behindValues, Unbroken, itemsFirst, recordText, blockLines, tailOf};
+ghost use Rattle.blocks.specs.Writing.{parted, ownerOf, tailed};
 
 // The columns of a P line that hold values, and those of its directory number.
 const COLUMNS: usize = 64;
@@ -34,44 +33,6 @@ const COLUMNS: usize = 64;
 const NUMBER: usize = 7;
 
 const COMMA: u8 = 44;
-
-// What the line at `at` says, if it is a value line.
-fn value_at(t: &[u8], at: usize) -> ValueLine
-    requires { ⌜ at ≤ length (now t) ⌝ }
-    ensures { λ r. ⌜ ValueAt (now (t .entry)) at r ⌝ }
-{
-    let end = reading::end_of(t, at);
-    if end == t.len() {
-        return ValueLine::Other;
-    }
-    if !reading::is_value(t, at, end) {
-        return ValueLine::Other;
-    }
-    let from = at + 2;
-    match reading::strict_at(t, from, end) {
-        Strict::Is(value) => ValueLine::Here { from, end, value },
-        Strict::Not => ValueLine::Other,
-    }
-}
-
-// How many columns of a value that is spelled in n characters stand on one line, with its delimiter: a string's characters may go on to the next.
-fn firm_of(n: usize, v: Value) -> usize
-    requires { ⌜ (copied v ≤ n) × (n ≤ 2 ^ 36) ⌝ }
-    ensures { λ r. ⌜ (r + copied v ≡ n + 1) × (r ≤ n + 1) ⌝ }
-{
-    match v {
-        Value::Default => n + 1,
-        Value::Whole { neg: _, size: _ } => n + 1,
-        Value::Real {
-            neg: _,
-            m: _,
-            eneg: _,
-            e: _,
-            double: _,
-        } => n + 1,
-        Value::Text { start: _, count } => n - count + 1,
-    }
-}
 
 // The blanks at position p before n characters that have to stand on one line.
 fn gap_of(p: usize, n: usize) -> usize
@@ -82,21 +43,21 @@ fn gap_of(p: usize, n: usize) -> usize
     if j + n <= COLUMNS { 0 } else { COLUMNS - j }
 }
 
-// Writes a value at position p with ',' behind it, as it is spelled on its line: that is its canonical form.
-fn put_spelled(out: &mut [u8], base: usize, p: usize, l: &[u8], v: Value) -> usize
-    requires { ⌜ (base ≤ 2 ^ 40) × (p ≤ 2 ^ 40) × (strictOf (now l) ≡ Is v) ⌝ }
-    ensures { λ r. ⌜ Put base 64 (now (out .entry)) p (piece 64 p (itemOf (now (l .entry)) v) false) (now (out .exit)) r ⌝ }
+// Writes the value that l spells at position p with ',' behind it: its spelling is its canonical form.
+fn put_spelled(out: &mut [u8], base: usize, p: usize, l: &[u8]) -> usize
+    requires { ⌜ (base ≤ 2 ^ 40) × (p ≤ 2 ^ 40) × (strictOf (now l) ≡ Is (meant (now l))) ⌝ }
+    ensures { λ r. ⌜ Put base 64 (now (out .entry)) p (piece 64 p (itemOf (now (l .entry)) (meant (now (l .entry)))) false) (now (out .exit)) r ⌝ }
 {
-    let n = firm_of(l.len(), v);
-    let g = gap_of(p, n);
+    let n = back::front_of(l);
+    let g = gap_of(p, n + 1);
     let q = flow::put_run(out, base, COLUMNS, p, 32, g);
     let e = flow::put_all(out, base, COLUMNS, q, l);
     flow::put_char(out, base, COLUMNS, e, COMMA)
 }
 
-// The values of the value lines from `at` on, from position p of the record on.
+// The values of the value lines from `at` on, from position p of the record on. The sheet is good: what begins as a value line is one, and isn't read again.
 fn put_values(out: &mut [u8], base: usize, t: &[u8], at: usize, p: usize) -> Flowed
-    requires { ⌜ (at ≤ length (now t)) × (base ≤ 2 ^ 40) × (p + length (parted 64 p (itemsFirst (linesIn (drop at (now t))))) ≤ 2 ^ 40) ⌝ }
+    requires { ⌜ (at ≤ length (now t)) × (base ≤ 2 ^ 40) × (p + length (parted 64 p (itemsFirst (linesIn (drop at (now t))))) ≤ 2 ^ 40) × Unbroken (linesIn (drop at (now t))) ⌝ }
     ensures { λ r. ⌜ Put base 64 (now (out .entry)) p (parted 64 p (itemsFirst (linesIn (drop at (now (t .entry)))))) (now (out .exit)) (r .end) ⌝ }
     ensures { λ r. ⌜ linesIn (drop (r .next) (now (t .entry))) ≡ behindValues (linesIn (drop at (now (t .entry)))) ⌝ }
     ensures { λ r. ⌜ (at ≤ r .next) × (r .next ≤ length (now (t .entry))) ⌝ }
@@ -104,19 +65,13 @@ fn put_values(out: &mut [u8], base: usize, t: &[u8], at: usize, p: usize) -> Flo
     let mut next = at;
     let mut end = p;
     loop {
-        match value_at(t, next) {
-            ValueLine::Other => {
-                return Flowed { next, end };
-            }
-            ValueLine::Here {
-                from,
-                end: stop,
-                value,
-            } => {
-                end = put_spelled(out, base, end, &t[from..stop], value);
-                next = stop + 1;
-            }
+        let stop = reading::end_of(t, next);
+        if !reading::is_value(t, next, stop) {
+            return Flowed { next, end };
         }
+        let from = next + 2;
+        end = put_spelled(out, base, end, &t[from..stop]);
+        next = stop + 1;
     }
 }
 
@@ -157,6 +112,7 @@ pub fn put_block(
 ) -> Block
     requires { ⌜ (at ≤ length (now t)) × (base ≤ 2 ^ 36) × (typ ≤ 2147483647) × (length (recordText typ (itemsFirst (linesIn (drop at (now t))))) ≤ 2 ^ 36) ⌝ }
     requires { ⌜ (number ≤ 9999999) × (from + lineCount 64 (length (recordText typ (itemsFirst (linesIn (drop at (now t)))))) ≤ 9999999) ⌝ }
+    requires { ⌜ Unbroken (linesIn (drop at (now t))) ⌝ }
     ensures { λ r. ⌜ now (out .exit) ≡ laid (now (out .entry)) base (joined (section 80 from (blockLines number typ (itemsFirst (linesIn (drop at (now (t .entry)))))))) ⌝ }
     ensures { λ r. ⌜ r .lines ≡ lineCount 64 (length (recordText typ (itemsFirst (linesIn (drop at (now (t .entry))))))) ⌝ }
     ensures { λ r. ⌜ linesIn (drop (r .next) (now (t .entry))) ≡ behindValues (linesIn (drop at (now (t .entry)))) ⌝ }

@@ -21,13 +21,13 @@ use Rattle.sheets.specs.Line.{run, entryOf}
 use Rattle.sheets.specs.Sheet.{linesIn}
 use Rattle.model.specs.Model.{Carried}
 use Rattle.model.specs.Canonical.{parameterText, blockOf, parameterLines}
-use Rattle.blocks.specs.Blocks.{behindValues, recordText, blockLines}
+use Rattle.blocks.specs.Blocks.{behindValues, firstBegins, recordText, blockLines}
 use Rattle.canonical.specs.declared.Place.{Place}
 use Rattle.canonical.specs.Laying.{carried, entriesIn, entriesAt, numberOf, directoryBytes, parameterBytes, Owing, OwingAt, bothLaid, Turn, Turned, valuesBehind, blockCount, labelBefore, EntryFits, EntryLaid}
 use Rattle.canonical.proofs.Totals.{block-lines}
 use Rattle.canonical.proofs.Laying.{owing-less, owing-none}
 use Rattle.canonical.proofs.Sections.{directory-first, parameter-first, parameter-lines, directory-none, parameter-none, block-length}
-use Rattle.canonical.proofs.Turns.{EntryStands, entry-stands, entry-never}
+use Rattle.canonical.proofs.Turns.{rows-begin, EntryStands, entry-stands, entry-never}
 
 -- ---- a block
 
@@ -85,6 +85,7 @@ module _ (t : List ℕ) (x : Place) (k e : ℕ) (f : Fields) (u : Turn t x k) (s
     p = omega (arith, u .room);
     few = row-few;
     room = block-room (x .from) (recordText (f .entity .size) (valuesBehind t e)) row-few;
+    unbroken = ap firstBegins (s .behind) ∙ rows-begin (k + 1) (s .rest);
     number = omega (arith, u .numbers, ap length (s .entries));
   }
 

@@ -25,7 +25,7 @@ use Rattle.sheets.proofs.Round.{Fits, eight, plain, AllFit, cons, Spelt, entry-
 use Rattle.sheets.proofs.Walk.{lines-first, line-says}
 use Rattle.model.specs.Model.{valueIn, carriedOf}
 use Rattle.rows.proofs.Rows.{values-first}
-use Rattle.blocks.specs.Blocks.{behindValues, itemsFirst}
+use Rattle.blocks.specs.Blocks.{behindValues, firstBegins, itemsFirst}
 use Rattle.blocks.proofs.Said.{line-part, lines-whole}
 use Rattle.canonical.specs.Laying.{carried, entriesIn, entriesAt, valuesBehind, labelBefore}
 use Rattle.canonical.proofs.Said.{Can, says-can}
@@ -48,6 +48,12 @@ unfolding behindValues valueLines rowLines
 behind-values [] k [] = refl
 behind-values [] k (r ∷ rs) = refl
 behind-values (v ∷ vs) k rs = behind-values vs k rs
+
+-- no entry and no Z line begins as a value line does
+pub rows-begin : (k : ℕ) (rs : List Row) → firstBegins (rowLines k rs) ≡ false
+unfolding rowLines
+rows-begin k [] = refl
+rows-begin k (r ∷ rs) = refl
 
 -- ---- an entry line
 

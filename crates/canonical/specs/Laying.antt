@@ -18,7 +18,7 @@ use Rattle.directory.specs.Rules.{rangesOk}
 use Rattle.sheets.specs.Sheet.{Line, start, global, entry, value, last, none, Row, rowLines, linesIn}
 use Rattle.model.specs.Model.{Carried}
 use Rattle.model.specs.Canonical.{startColumns, globalText, directoryLines, parameterLines}
-use Rattle.blocks.specs.Blocks.{behindValues, itemsFirst, globalsFirst, behindGlobals, recordText, blockLines}
+use Rattle.blocks.specs.Blocks.{behindValues, Unbroken, itemsFirst, globalsFirst, behindGlobals, recordText, blockLines}
 use Rattle.canonical.specs.declared.Place.{Place}
 
 -- ---- S
@@ -154,6 +154,7 @@ pub record EntryFits (t : List ℕ) (x : Place) (k end typ : ℕ) : Type 0 where
   pub p : x .p ≤ 2 ^ 36
   pub few : x .from + blockCount t end typ ≤ 9999999
   pub room : length (recordText typ (valuesBehind t end)) ≤ 2 ^ 36
+  pub unbroken : Unbroken (linesIn (drop (end + 1) t))
   pub number : 2 * k + 2 ≤ 9999999
 
 pub record EntryLaid (o t : List ℕ) (x : Place) (k end : ℕ) (f : Fields) (o′ : List ℕ) (y : Place) : Type 0 where

@@ -2,6 +2,8 @@
 use mathlib.Core.Path.{refl}
 use Rattle.values.proofs.back.strict.Kinds as back-strict-kinds
 use Rattle.values.proofs.back.strict.Reads as back-strict-reads
+use Rattle.values.proofs.back.front_of.Kinds as back-front-of-kinds
+use Rattle.values.proofs.back.front_of.Reads as back-front-of-reads
 use Rattle.values.proofs.numbers.scan_at.Kinds as numbers-scan-at-kinds
 use Rattle.values.proofs.numbers.scan_at.Reads as numbers-scan-at-reads
 use Rattle.values.proofs.numbers.read.Kinds as numbers-read-kinds
@@ -31,6 +33,9 @@ use Rattle.demands.proofs.Unique.{once, wrote-first}
 
 pub back-strict : NoSecond back-strict-kinds.ps back-strict-kinds.r back-strict-reads.Post
 back-strict κs a z z′ left left′ p q = (once (p .0) (q .0), refl)
+
+pub back-front-of : NoSecond back-front-of-kinds.ps back-front-of-kinds.r back-front-of-reads.Post
+back-front-of κs a z z′ left left′ p q = (once (p .0) (q .0), refl)
 
 -- ---- values::numbers
 

@@ -13,7 +13,7 @@ use Rattle.sheets.specs.Sheet.{isMark, into, piecesOf, lastPiece, saidByAll, li
 use Rattle.model.specs.Canonical.{globalText}
 use Rattle.rows.specs.Rows.{valuesFirst}
 use Rattle.blocks.specs.declared.Block.{Block}
-use Rattle.blocks.specs.Blocks.{globalsFirst, behindGlobals, behindValues, itemsFirst, recordText}
+use Rattle.blocks.specs.Blocks.{globalsFirst, behindGlobals, behindValues, Unbroken, itemsFirst, recordText}
 use Rattle.demands.specs.UniqueBlocks.{GlobalsDetermined, BlockDetermined, SecondGlobals, SecondBlock}
 use Rattle.demands.proofs.Unique.{once, left-first}
 
@@ -46,6 +46,11 @@ values-same : (behindValues (linesIn twoBytes) ≡ linesIn twoBytes) × (behindV
 unfolding behindValues linesIn saidByAll piecesOf into lastPiece isMark
 values-same = (refl, refl)
 
+-- it begins as no value line does
+values-unbroken : Unbroken (linesIn twoBytes)
+unfolding behindValues linesIn saidByAll piecesOf into lastPiece isMark
+values-unbroken = refl
+
 -- the record of type 1 is "1;"
 record-short : (length (recordText 1 (itemsFirst (linesIn twoBytes))) ≡ 2) × (lineCount 64 (length (recordText 1 (itemsFirst (linesIn twoBytes)))) ≡ 1)
 unfolding dec lastDigits flow piece gap firm spelled valuesFirst linesIn saidByAll piecesOf into lastPiece isMark lineCount
@@ -72,7 +77,7 @@ second-globals κs = record {
 pub second-block : SecondBlock
 second-block κs = record {
   passed = (record { ptr = (0, 0); name = 0; now = [] }, (0, (record { ptr = (0, 0); name = 0; now = twoBytes }, (0, (1, (1, (1, tt)))))));
-  asked = ((omega arith, omega arith, omega arith, omega (arith, record-short .0)), (omega arith, omega (arith, record-short .1)));
+  asked = ((omega arith, omega arith, omega arith, omega (arith, record-short .0)), ((omega arith, omega (arith, record-short .1)), values-unbroken));
   left = ([], (tt, (tt, (tt, (tt, (tt, (tt, tt)))))));
   one = blockAt 0;
   other = blockAt 1;

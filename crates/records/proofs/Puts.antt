@@ -227,7 +227,7 @@ inside m (Real neg k eneg e double) h = tt
 inside m (Text start count) h = h .0
 
 -- what stands on one line is the front and one character more
-firm-front : (t : List ℕ) (v : Value) → Inside (length t) v → firm (itemOf t v) ≡ length (front v) + 1
+pub firm-front : (t : List ℕ) (v : Value) → Inside (length t) v → firm (itemOf t v) ≡ length (front v) + 1
 unfolding firm spelled
 firm-front t Default h = refl
 firm-front t (Whole neg size) h = refl

@@ -11,4 +11,5 @@ pub mod OneSpelling
 pub mod Decimals
 pub mod Direct
 pub mod Backs
+pub mod Fronts
 pub mod Steps

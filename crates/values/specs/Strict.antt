@@ -40,3 +40,12 @@ byHead l (Plain k) = numeral l (k .number)
 unfoldable pub strictOf : List ℕ → Strict
 strictOf [] = Is Default
 strictOf (b ∷ bs) = byHead (b ∷ bs) (headOf (b ∷ bs))
+
+-- the value that was read back; a default where none was
+abbrev pub givenBy : Strict → Value
+givenBy (Is v) = v
+givenBy Not = Default
+
+-- the value that a text spells
+unfoldable pub meant : List ℕ → Value
+meant l = givenBy (strictOf l)

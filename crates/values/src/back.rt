@@ -9,8 +9,9 @@ ghost use Prim.Native.Nat.{ℕ, _+_, _≤_, _<_, min};
 ghost use lib.ListN.{length, drop};
 ghost use lib.Dec.{ltb, eqb};
 ghost use Rattle.columns.specs.Decimal.{minus};
-ghost use Rattle.values.specs.Strict.{strictOf};
-ghost use Rattle.values.specs.Writing.{Placed};
+ghost use Rattle.values.specs.declared.Strict.the-variants.{Is};
+ghost use Rattle.values.specs.Strict.{strictOf, meant};
+ghost use Rattle.values.specs.Writing.{front, Placed};
 ghost use Rattle.values.specs.Direct.{decimal, isWhole, isNought, isNormal, asWhole, asReal, behindLetter, behindPoint, behindCount};
 
 fn wide(x: u8) -> u64
@@ -247,4 +248,30 @@ pub fn strict(l: &[u8]) -> Strict
         return behind_count(l, neg, x.value, i + 1);
     }
     Strict::Not
+}
+
+// How much of a value's spelling stands before a string's characters; of any other value all. An H ends a string's count, of one to three digits, and no
+// other spelling has one.
+pub fn front_of(l: &[u8]) -> usize
+    requires { ⌜ strictOf (now l) ≡ Is (meant (now l)) ⌝ }
+    ensures { λ r. ⌜ r ≡ length (front (meant (now (l .entry)))) ⌝ }
+    ensures { λ r. ⌜ r ≤ length (now (l .entry)) ⌝ }
+{
+    let n = l.len();
+    if n < 3 {
+        return n;
+    }
+    if l[1] == 72 {
+        return 2;
+    }
+    if l[2] == 72 {
+        return 3;
+    }
+    if n < 4 {
+        return n;
+    }
+    if l[3] == 72 {
+        return 4;
+    }
+    n
 }

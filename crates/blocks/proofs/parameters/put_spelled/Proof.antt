@@ -9,6 +9,7 @@ put-spelled-spec =
     tie.close
     (tie.spec
     (λ c κs. search (needs, spelling))
+    (λ c. search (needs, spelling))
     (λ c κs. search (needs, spelling))
     (λ c κs. search (needs, spelling))
     (λ c κs. search (needs, spelling))

@@ -4,15 +4,16 @@ use Prim.Native.Nat.{_-_, _≤_}
 use lib.ListN.{length, drop}
 use Rattle.records.proofs.Puts.{Owed}
 use Rattle.sheets.specs.Sheet.{linesIn}
-use Rattle.blocks.specs.Blocks.{itemsFirst, behindValues}
+use Rattle.blocks.specs.Blocks.{itemsFirst, behindValues, Unbroken}
 use Rattle.blocks.specs.Writing.{parted}
 use borrow.Author.Needs.{needs}
-use Rattle.blocks.proofs.Valued.{looping, value-behind, value-more}
+use borrow.Author.Tests.{not-false}
+use Rattle.blocks.proofs.Valued.{looping, value-behind, value-unbroken, value-more}
 use Rattle.blocks.proofs.parameters.put_values.Statement.{statement}
 use Rattle.blocks.proofs.parameters.put_values.Tie as tie
 
 abbrev Inv-loop : tie.InvT-loop
-Inv-loop out₀ base t at p next₀ end₀ out next end = (at ≤ next) × (next ≤ length t) × (length out ≡ length out₀) × (behindValues (linesIn (drop next t)) ≡ behindValues (linesIn (drop at t))) × Owed base 64 out₀ p (parted 64 p (itemsFirst (linesIn (drop at t)))) out end (parted 64 end (itemsFirst (linesIn (drop next t))))
+Inv-loop out₀ base t at p next₀ end₀ out next end = (at ≤ next) × (next ≤ length t) × (length out ≡ length out₀) × (behindValues (linesIn (drop next t)) ≡ behindValues (linesIn (drop at t))) × Unbroken (linesIn (drop next t)) × Owed base 64 out₀ p (parted 64 p (itemsFirst (linesIn (drop at t)))) out end (parted 64 end (itemsFirst (linesIn (drop next t))))
 
 abbrev μ-loop : tie.MeasureT-loop
 μ-loop out₀ base t at p next₀ end₀ out next end = length t - next
@@ -25,7 +26,7 @@ put-values-spec =
     μ-loop
     (λ c. search (needs, looping))
     (λ c κs. search (needs, looping))
-    (λ c. search (needs, looping))
+    (λ c κs. search (needs, looping))
     (λ c. search (needs, looping))
     (λ c. search (needs, looping))
     (λ c. search (needs, looping))
@@ -35,4 +36,4 @@ put-values-spec =
     (λ c κs. search (needs, looping))
     (λ c. search (needs, looping))
     (λ c. search (needs, looping))
-    (λ c. (search (needs, looping), search (needs, looping), search (needs, looping), search (needs, value-behind), search (needs, value-more))))
+    (λ c. (search (needs, looping), search (needs, looping), search (needs, looping), search (needs, not-false, value-behind), search (needs, not-false, value-unbroken), search (needs, not-false, value-more))))

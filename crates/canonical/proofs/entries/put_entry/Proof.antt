@@ -12,7 +12,7 @@ put-entry-spec =
     (λ c. search (needs, entering))
     (λ c. search (needs, entering))
     (λ c. search (needs, entering))
-    (λ c κs. search (needs, entering))
+    (λ c κs. (search (needs, entering), (search (needs, entering), search needs)))
     (λ c. search (needs, entering))
     (λ c. search (needs, entering))
     (λ c. search (needs, entering))
