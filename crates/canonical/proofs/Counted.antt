@@ -1,79 +1,87 @@
--- What the pass that counts is asked: the count of the lines from a place on, from the tally so far, is the count of all.
+-- A count goes no further than a file does, and tells the same lines. Assumes nothing.
 use mathlib.Core.Path.{_≡_, refl, sym, _∙_}
+use mathlib.Core.Bool.{Bool, true, false, cond}
 use mathlib.Core.List.{List, [], _∷_}
 use Prim.Native.Nat.{ℕ, _+_, _-_, _≤_, _<_}
 use native.Mathlib.Omega.{arith}
-use lib.ListN.{length, drop, drop-of-length-le}
-use borrow.Author.Tests.{le-leb, lt-leb}
-use Rattle.columns.specs.Columns.{columns}
+use lib.Dec.{leb}
+use borrow.Author.Tests.{le-leb, lt-leb, leb-false}
+use Rattle.values.specs.Value.{Item}
 use Rattle.records.specs.Flow.{lineCount}
+use Rattle.records.proofs.Lines.{lines-hold}
 use Rattle.cards.specs.Cards.{mostLines}
-use Rattle.sheets.specs.Line.{run}
-use Rattle.sheets.specs.Sheet.{Line, none, isMark, lastPiece, saysOf, saidBy, linesIn}
-use Rattle.sheets.proofs.Says.{none-of}
-use Rattle.sheets.proofs.Walk.{lines-first}
-use Rattle.blocks.proofs.Said.{lines-whole}
+use Rattle.sheets.specs.Sheet.{Line, start, global, entry, value, last, none}
 use Rattle.canonical.specs.declared.Tally.{Tally}
-use Rattle.canonical.specs.declared.Lines.{Lines}
 use Rattle.canonical.specs.declared.Lines.the-variants.{Are, TooMany}
-use Rattle.canonical.specs.Counting.{begun, tallyLine, tallySaid, countsIn, totalIn, countedFrom, linesOfSheet}
-use Rattle.canonical.proofs.Tallies.{tally-line, tally-under, tally-few}
+use Rattle.canonical.specs.Counting.{columnsHeld, behind, skipped, withValue, tallyLine, countsIn, totalIn, tallied, within, mostColumns, behindValue, full, capped}
 
--- behind the end there are no lines
-lines-none : (t : List ℕ) (at : ℕ) → length t ≤ at → linesIn (drop at t) ≡ []
-unfolding linesIn
-lines-none t at h = rw (drop-of-length-le t h) none-of
+-- ---- what a tally tells
 
--- ---- a line of a count
-pub counted-on : (x : Tally) (l : Line) (ls : List Line) → totalIn (tallyLine x l) ≤ mostLines → countedFrom x (l ∷ ls) ≡ countedFrom (tallyLine x l) ls
-unfolding countedFrom
-counted-on x l ls h = simp (le-leb (totalIn (tallyLine x l)) mostLines h)
+module _ (x : Tally) {m : ℕ} (e : totalIn x ≡ m) where
+  pub within-few : m ≤ mostLines → within x ≡ Are (countsIn x)
+  unfolding within
+  within-few h = simp (le-leb (totalIn x) mostLines (omega arith))
 
-pub counted-off : (x : Tally) (l : Line) (ls : List Line) → mostLines < totalIn (tallyLine x l) → countedFrom x (l ∷ ls) ≡ TooMany
-unfolding countedFrom
-counted-off x l ls h = simp (lt-leb (totalIn (tallyLine x l)) mostLines h)
+  pub within-many : mostLines < m → within x ≡ TooMany
+  unfolding within
+  within-many h = simp (lt-leb (totalIn x) mostLines (omega arith))
 
-pub counted-none : (x : Tally) → countedFrom x [] ≡ Are (countsIn x)
-unfolding countedFrom
-counted-none x = refl
+-- ---- lines take none away
 
--- the last piece says nothing
-counted-piece : (x : Tally) (s : List ℕ) → totalIn x ≤ mostLines → countedFrom x (lastPiece s) ≡ Are (countsIn x)
-unfolding lastPiece
-counted-piece x [] h = counted-none x
-counted-piece x (b ∷ bs) h = counted-on x (none (isMark b)) [] h ∙ counted-none x
+further : (w p : ℕ) (v : Item) → p ≤ behind w p v
+unfolding behind
+further w p v = omega arith
 
--- ---- the pass: f is the answer
-module _ (f : Lines) (t : List ℕ) (x : Tally) (at : ℕ) (inv : countedFrom x (linesIn (drop at t)) ≡ f) where
-  pub pass-end : {n : ℕ} {r : Lines} → n ≡ length t → n ≤ at → r ≡ Are (countsIn x) → r ≡ f
-  pass-end a h q = q ∙ sym (counted-none x) ∙ (rw (lines-none t at (omega arith)) at inv)
+count-grows : (m n : ℕ) → m ≤ n → (lineCount 72 m ≤ lineCount 72 n) × (lineCount 64 m ≤ lineCount 64 n)
+unfolding lineCount
+count-grows m n h = (omega arith, omega arith)
 
-  module _ {n e : ℕ} (all : n ≡ length t) (lt : at < n) (en : e ≡ at + run 10 (drop at t)) (lo : at ≤ e) (hi : e ≤ length t) where
-    pub pass-piece : {r : Lines} → e ≡ n → totalIn x ≤ mostLines → r ≡ Are (countsIn x) → r ≡ f
-    pass-piece h k q = q ∙ sym (counted-piece x (drop at t) k) ∙ (rw (lines-whole t at e en (omega arith)) at inv)
+line-grows : (x : Tally) (l : Line) → totalIn x ≤ totalIn (tallyLine x l)
+unfolding totalIn countsIn
+line-grows x (start t) = omega arith
+line-grows x (global n v) =
+    let f = further 72 (x .global + skipped (x .field) n) v in
+    omega (arith, count-grows (x .global) (behind 72 (x .global + skipped (x .field) n) v) (omega arith) .0)
+line-grows x (entry known n f label) = omega arith
+line-grows x (value reference v) = omega (arith, count-grows (x .at) (behind 64 (x .at) v) (further 64 (x .at) v) .1)
+line-grows x (last n) = omega arith
+line-grows x (none b) = omega arith
 
-    module _ {z : Tally} {m : ℕ} (h : e ≡ n → ⊥) (p : z ≡ tallySaid x (saysOf (columns t at e))) (s : m ≡ totalIn z) where
-      here : countedFrom x (saidBy (columns t at e) ∷ linesIn (drop (e + 1) t)) ≡ f
-      here = rw (lines-first t at e lo (omega arith) en) at inv
+lines-grow : (x : Tally) (ls : List Line) → totalIn x ≤ totalIn (tallied x ls)
+lines-grow x [] = omega arith
+lines-grow x (l ∷ ls) = omega (arith, line-grows x l, lines-grow (tallyLine x l) ls)
 
-      line : z ≡ tallyLine x (saidBy (columns t at e))
-      line = p ∙ tally-line x (columns t at e) (saysOf (columns t at e)) refl
+-- too many stay too many
+many-more : (x : Tally) (ls : List Line) → mostLines < totalIn x → within (tallied x ls) ≡ TooMany
+many-more x ls h = within-many (tallied x ls) refl (omega (arith, lines-grow x ls))
 
-      pub pass-many : mostLines < m → TooMany ≡ f
-      pass-many k = sym (counted-off x (saidBy (columns t at e)) (linesIn (drop (e + 1) t)) (rw (← line, ← s) k)) ∙ here
+-- ---- a line too many stands for them
 
-      pub pass-next : m ≤ mostLines → countedFrom z (linesIn (drop (e + 1) t)) ≡ f
-      pass-next k = rw line (sym (counted-on x (saidBy (columns t at e)) (linesIn (drop (e + 1) t)) (rw (← line, ← s) k)) ∙ here)
+full-many : mostLines < totalIn full
+unfolding totalIn countsIn
+full-many = omega arith
 
-pub pass-few : (z : Tally) {m : ℕ} → m ≡ totalIn z → m ≤ mostLines → totalIn z ≤ mostLines
-pass-few z e h = omega arith
+pub capped-same : (x : Tally) (ls : List Line) → within (tallied (capped x) ls) ≡ within (tallied x ls)
+unfolding capped
+capped-same x ls = pick (leb (totalIn x) mostLines) refl
+  where
+    pick : (b : Bool) → leb (totalIn x) mostLines ≡ b → within (tallied (cond b x full) ls) ≡ within (tallied x ls)
+    pick true e = refl
+    pick false e = many-more full ls full-many ∙ sym (many-more x ls (leb-false (totalIn x) mostLines e))
 
-pub pass-start : (t : List ℕ) → countedFrom begun (linesIn (drop 0 t)) ≡ linesOfSheet (linesIn t)
-unfolding linesOfSheet
-pass-start t = refl
+-- ---- a record of too many columns is one of too many lines
 
-pub begun-few : totalIn begun ≤ mostLines
-unfolding totalIn countsIn lineCount
-begun-few = omega arith
+far-many : (x : Tally) (p : ℕ) → mostColumns < p → mostLines < totalIn (withValue x p)
+unfolding totalIn countsIn
+far-many x p h = omega (arith, lines-hold 64 p (omega arith))
 
-pub ruleset pass = (pass-end, pass-piece, pass-many, pass-next, pass-few, pass-start, begun-few, tally-under, tally-few)
+pub value-same : (x : Tally) (p : ℕ) (reference : Bool) (v : Item) (ls : List Line)
+    → within (tallied (withValue x (behindValue p v)) ls) ≡ within (tallied (withValue x p) (value reference v ∷ ls))
+unfolding behindValue
+value-same x p reference v ls = pick (leb p mostColumns) refl
+  where
+    pick : (b : Bool) → leb p mostColumns ≡ b → within (tallied (withValue x (cond b (behind columnsHeld p v) p)) ls) ≡ within (tallied (withValue x (behind columnsHeld p v)) ls)
+    pick true e = refl
+    pick false e =
+        let h : mostColumns < p = leb-false p mostColumns e in
+        many-more (withValue x p) ls (far-many x p h) ∙ sym (many-more (withValue x (behind columnsHeld p v)) ls (far-many x (behind columnsHeld p v) (omega (arith, further columnsHeld p v))))

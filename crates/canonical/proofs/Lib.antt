@@ -1,6 +1,6 @@
 pub mod Said
-pub mod Tallies
 pub mod Counted
+pub mod Tallies
 pub mod Totals
 pub mod Laying
 pub mod Sections

@@ -1,38 +1,39 @@
 -- A line more by what was read of it, what a tally comes to, and its bounds.
 use mathlib.Core.Path.{_≡_, refl, sym, ap, _∙_}
-use mathlib.Core.Bool.{Bool, true, false}
+use mathlib.Core.Bool.{Bool, false}
 use mathlib.Core.List.{List}
-use Prim.Native.Nat.{ℕ, _+_, _-_, _/_, _^_, _≤_}
+use Prim.Native.Nat.{ℕ, _+_, _-_, _/_, _^_, _≤_, _<_}
 use native.Mathlib.Nat.{div-le-self}
 use native.Mathlib.Omega.{arith}
 use lib.ListN.{length, drop}
-use borrow.Author.Tests.{not-true, not-false}
+use borrow.Author.Tests.{le-leb, lt-leb}
 use Rattle.columns.specs.declared.Signed.{Signed}
-use Rattle.columns.specs.Columns.{columns}
 use Rattle.values.specs.declared.Value.{Value}
 use Rattle.values.specs.declared.Value.the-variants.{Whole}
-use Rattle.values.specs.declared.Strict.{Strict}
-use Rattle.values.specs.declared.Strict.the-variants.{Is, Not}
-use Rattle.values.specs.Value.{whole, itemOf}
+use Rattle.values.specs.declared.Strict.the-variants.{Is}
+use Rattle.values.specs.Value.{Item, whole, itemOf}
 use Rattle.values.specs.Strict.{strictOf}
+use Rattle.values.specs.Writing.{front}
+use Rattle.values.proofs.OneSpelling.{sound}
 use Rattle.records.specs.Flow.{firm, lineCount}
 use Rattle.records.specs.Reading.{Writable}
 use Rattle.records.specs.Written.{copied, pieceEnd}
 use Rattle.records.proofs.Lines.{lines-hold}
-use Rattle.records.proofs.Round.{length-piece}
-use Rattle.records.proofs.Puts.{piece-end-is, copied-few}
+use Rattle.records.proofs.Round.{length-piece, spelled-short}
+use Rattle.records.proofs.Puts.{piece-end-is, spelled-length, copied-few}
+use Rattle.cards.specs.declared.Counts.{Counts}
 use Rattle.cards.specs.Cards.{mostLines, counts}
 use Rattle.directory.specs.declared.Fields.{Fields}
 use Rattle.sheets.specs.declared.Said.{Said}
 use Rattle.sheets.specs.declared.Said.the-variants.{Start, Global, Entry, Value as Given, Last, Nothing}
-use Rattle.sheets.specs.Sheet.{lineFrom, isValue, saysOf, saidBy}
+use Rattle.sheets.specs.Sheet.{lineFrom, saysOf, saidBy}
+use Rattle.sheets.proofs.Bounds.{strict-inside}
 use Rattle.sheets.proofs.Walk.{line-says}
-use Rattle.sheets.proofs.Valued.{value-long, value-given, value-not}
-use Rattle.blocks.proofs.Valued.{value-room}
 use Rattle.canonical.specs.declared.Tally.{Tally}
-use Rattle.canonical.specs.declared.Lines.the-variants.{Are}
-use Rattle.canonical.specs.Counting.{globalColumns, columnsHeld, behind, skipped, tally, withStart, withGlobal, withEntry, withValue, tallyLine, tallySaid, countsIn, totalIn, Under, Few, Short}
+use Rattle.canonical.specs.declared.Lines.the-variants.{Are, TooMany}
+use Rattle.canonical.specs.Counting.{globalColumns, columnsHeld, behind, skipped, withStart, withGlobal, withEntry, withValue, tallyLine, tallySaid, countsIn, totalIn, within, mostColumns, behindValue, full, capped, Under, Few, Short}
 use Rattle.canonical.proofs.Said.{Can, says-can, strict-writable}
+use Rattle.canonical.proofs.Counted.{within-few, within-many}
 
 -- ---- by what was read
 
@@ -72,14 +73,14 @@ tally-line x l y e = tally-can x l y (rw e (says-can l)) ∙ ap (tallyLine x) (s
 -- ---- bounds
 
 -- a tally that a file may have
-pub tally-under : (x : Tally) → totalIn x ≤ mostLines → Under (2 ^ 36) x
+tally-under : (x : Tally) → totalIn x ≤ mostLines → Under (2 ^ 36) x
 unfolding totalIn countsIn
 tally-under x h =
     let g = lines-hold 72 (x .global) (omega arith) in
     let a = lines-hold 64 (x .at) (omega arith) in
     record { s = omega arith; global = omega arith; d = omega arith; p = omega arith; at = omega arith }
 
-pub tally-few : (x : Tally) → totalIn x ≤ mostLines → Few x
+tally-few : (x : Tally) → totalIn x ≤ mostLines → Few x
 unfolding totalIn countsIn
 tally-few x h = record { s = omega arith; g = omega arith; d = omega arith; p = omega arith }
 
@@ -109,7 +110,7 @@ module _ (x : Tally) where
   unfolding totalIn countsIn
   total-is e f = rw (e, f)
 
-  pub counts-are : {g p : ℕ} → g ≡ lineCount globalColumns (x .global) → p ≡ lineCount columnsHeld (x .at) → Are (counts (x .s) g (x .d) (x .p + p) 1) ≡ Are (countsIn x)
+  pub counts-are : {g p : ℕ} → g ≡ lineCount globalColumns (x .global) → p ≡ lineCount columnsHeld (x .at) → counts (x .s) g (x .d) (x .p + p) 1 ≡ countsIn x
   unfolding countsIn
   counts-are e f = rw (e, f)
 
@@ -139,23 +140,64 @@ short-global e h = rw e at h
 pub short-value : {y : Said} {reference : Bool} {v : Value} → y ≡ Given reference v → Short y → copied v ≤ 999
 short-value e h = rw e at h
 
--- ---- a line where it stands
-module _ (x : Tally) (t : List ℕ) (at end : ℕ) where
-  pub line-tallied : {y : Said} {r : Tally} → y ≡ saysOf (columns t at end) → r ≡ tallySaid x y → r ≡ tallySaid x (saysOf (columns t at end))
-  line-tallied e q = q ∙ ap (tallySaid x) e
+-- ---- a value line: what it says is its canonical spelling
+module _ (l : List ℕ) {v : Value} (s : strictOf l ≡ Is v) where
+  pub strict-length : length l ≡ length (front v) + copied v
+  strict-length = sym (ap length (sound l s .text)) ∙ spelled-length l v (rw s at (strict-inside l))
 
-  module _ (b : Bool) (eb : b ≡ isValue (columns t at end)) (lo : at + 2 ≤ end) (e : b ≡ true) {y : Strict} (ey : y ≡ strictOf (columns t (at + 2) end)) where
-    pub value-tallied : {v : Value} {r : Tally} → y ≡ Is v → r ≡ withValue x (pieceEnd columnsHeld (x .at) v) → r ≡ tallySaid x (saysOf (columns t at end))
-    value-tallied {v} h q = q ∙ ap (tallySaid x) (sym (value-given t at end b eb lo e y ey v h))
+  strict-short : length l ≤ 1003
+  strict-short =
+      let k = sound l s in
+      omega (arith, ap length (k .text), spelled-short (k .fine))
 
-    pub none-tallied : y ≡ Not → x ≡ tallySaid x (saysOf (columns t at end))
-    none-tallied h = ap (tallySaid x) (sym (value-not t at end b eb lo e y ey h))
+  pub strict-low : length l < 2 ^ 40
+  strict-low = omega (arith, strict-short)
 
--- a string that is read back is short
-pub strict-short : (l : List ℕ) {y : Strict} {v : Value} → y ≡ strictOf l → y ≡ Is v → copied v ≤ 999
-strict-short l {y} {v} e h = copied-few (length l) v (strict-writable l v (sym e ∙ h))
+  module _ (p : ℕ) (h : p ≤ mostColumns) {r : ℕ} where
+    pub value-near : r ≡ pieceEnd columnsHeld p v → r ≡ behindValue p (itemOf l v)
+    unfolding behindValue
+    value-near e = e ∙ behind-is columnsHeld p l v (strict-writable l v s) ∙ simp (le-leb p mostColumns h)
 
-pub ruleset lined = (line-tallied, value-tallied, none-tallied, line-short, strict-short, value-long, value-room, under-more, not-true, not-false)
+    pub value-low : r ≤ p + length l + 81 → r ≤ 2 ^ 38
+    value-low k = omega (arith, strict-short)
+
+pub value-far : (p : ℕ) (i : Item) → mostColumns < p → p ≡ behindValue p i
+unfolding behindValue
+value-far p i h = simp (lt-leb p mostColumns h)
+
+pub ruleset valued = (strict-length, strict-low, value-near, value-low, value-far)
+
+-- ---- as many lines as a file may have, or too many
+module _ (x : Tally) {m : ℕ} (e : m ≡ totalIn x) where
+  module _ (h : m ≤ mostLines) where
+    pub total-under : Under (2 ^ 36) x
+    total-under = tally-under x (omega arith)
+
+    pub total-few : Few x
+    total-few = tally-few x (omega arith)
+
+    pub capped-here : x ≡ capped x
+    unfolding capped
+    capped-here = simp (le-leb (totalIn x) mostLines (omega arith))
+
+    pub within-here : {c : Counts} → c ≡ countsIn x → Are c ≡ within x
+    within-here q = ap Are q ∙ sym (within-few x (sym e) h)
+
+  module _ (h : mostLines < m) where
+    pub capped-full : full ≡ capped x
+    unfolding capped
+    capped-full = simp (lt-leb (totalIn x) mostLines (omega arith))
+
+    pub within-not : TooMany ≡ within x
+    within-not = sym (within-many x (sym e) h)
+
+pub full-under : Under (2 ^ 36) full
+full-under = record { s = omega arith; global = omega arith; d = omega arith; p = omega arith; at = omega arith }
+
+pub value-under : (x : Tally) (at : ℕ) → Under (2 ^ 38) x → at ≤ 2 ^ 38 → Under (2 ^ 38) (withValue x at)
+value-under x at u h = record { s = u .s; global = u .global; d = u .d; p = u .p; at = h }
+
+pub ruleset fullness = (total-under, total-few, capped-here, within-here, capped-full, within-not, full-under, value-under, under-more)
 
 pub ruleset said = (said-start, said-global, said-entry, said-value, said-last, said-none, short-global, short-value, under-more)
 

@@ -6,8 +6,7 @@ use Prim.Native.Nat.{ℕ, zero, suc, _+_, _-_, _*_, _%_, _≤_, _<_}
 use native.Mathlib.Nat.{zero-add, add-zero, add-assoc, mod-lt}
 use native.Mathlib.Omega.{arith}
 use lib.ListN.{length, replicate, length-append, length-map}
-use lib.Dec.{leb}
-use borrow.Author.Tests.{le-leb, leb-true, leb-false}
+use borrow.Author.Tests.{le-leb}
 use Rattle.values.specs.Value.{Item, default, whole, spelled}
 use Rattle.records.specs.Flow.{firm, gap, piece, none as no-more, flow, lineCount, inLines}
 use Rattle.records.proofs.Round.{length-piece, opening-length}
@@ -17,58 +16,13 @@ use Rattle.cards.specs.declared.Counts.{Counts}
 use Rattle.cards.specs.Cards.{mostLines, counts, total}
 use Rattle.cards.specs.Written.{countsOf}
 use Rattle.directory.specs.Lines.{entryLines}
-use Rattle.sheets.specs.Sheet.{Line, start, global, entry, value, last, none, Row, Sheet, startLines, globalLines, valueLines, rowLines, linesOf}
+use Rattle.sheets.specs.Sheet.{Line, Row, Sheet, startLines, globalLines, valueLines, rowLines, linesOf}
 use Rattle.model.specs.Model.{Carried, Model, valueIn, carriedOf, modelOf}
 use Rattle.model.specs.Canonical.{startLines as startTexts, filled, globalText, globalLines as globalTexts, parameterText, owned, blockOf, directoryLines, parameterLines, lineTotal}
 use Rattle.canonical.specs.declared.Tally.{Tally}
 use Rattle.canonical.specs.declared.Lines.the-variants.{Are, TooMany}
-use Rattle.canonical.specs.Counting.{behind, skipped, tally, begun, withStart, withGlobal, withEntry, withValue, tallyLine, countsIn, totalIn, countedFrom, linesOfSheet}
-use Rattle.canonical.proofs.Counted.{counted-on, counted-off, counted-none, begun-few}
-
--- ---- all lines at once
-
--- the tally of all lines
-abbrev tallied : Tally → List Line → Tally
-tallied x [] = x
-tallied x (l ∷ ls) = tallied (tallyLine x l) ls
-
-further : (w p : ℕ) (v : Item) → p ≤ behind w p v
-unfolding behind
-further w p v = omega arith
-
-count-grows : (m n : ℕ) → m ≤ n → (lineCount 72 m ≤ lineCount 72 n) × (lineCount 64 m ≤ lineCount 64 n)
-unfolding lineCount
-count-grows m n h = (omega arith, omega arith)
-
--- a line takes none away
-line-grows : (x : Tally) (l : Line) → totalIn x ≤ totalIn (tallyLine x l)
-unfolding totalIn countsIn
-line-grows x (start t) = omega arith
-line-grows x (global n v) =
-    let f = further 72 (x .global + skipped (x .field) n) v in
-    omega (arith, count-grows (x .global) (behind 72 (x .global + skipped (x .field) n) v) (omega arith) .0)
-line-grows x (entry known n f label) = omega arith
-line-grows x (value reference v) = omega (arith, count-grows (x .at) (behind 64 (x .at) v) (further 64 (x .at) v) .1)
-line-grows x (last n) = omega arith
-line-grows x (none b) = omega arith
-
-lines-grow : (x : Tally) (ls : List Line) → totalIn x ≤ totalIn (tallied x ls)
-lines-grow x [] = omega arith
-lines-grow x (l ∷ ls) = omega (arith, line-grows x l, lines-grow (tallyLine x l) ls)
-
-few-counted : (x : Tally) (ls : List Line) → totalIn (tallied x ls) ≤ mostLines → countedFrom x ls ≡ Are (countsIn (tallied x ls))
-few-counted x [] h = counted-none x
-few-counted x (l ∷ ls) h = counted-on x l ls (omega (arith, lines-grow (tallyLine x l) ls)) ∙ few-counted (tallyLine x l) ls h
-
-many-counted : (x : Tally) (ls : List Line) → totalIn x ≤ mostLines → mostLines < totalIn (tallied x ls) → countedFrom x ls ≡ TooMany
-many-counted x [] k h = absurd (omega arith)
-many-counted x (l ∷ ls) k h = pick (leb (totalIn (tallyLine x l)) mostLines) refl (many-counted (tallyLine x l) ls)
-  where
-    pick : (b : Bool) → leb (totalIn (tallyLine x l)) mostLines ≡ b → (totalIn (tallyLine x l) ≤ mostLines → mostLines < totalIn (tallied (tallyLine x l) ls) → countedFrom (tallyLine x l) ls ≡ TooMany) → countedFrom x (l ∷ ls) ≡ TooMany
-    pick true e ih =
-        let j : totalIn (tallyLine x l) ≤ mostLines = leb-true (totalIn (tallyLine x l)) mostLines e in
-        counted-on x l ls j ∙ ih j h
-    pick false e ih = counted-off x l ls (leb-false (totalIn (tallyLine x l)) mostLines e)
+use Rattle.canonical.specs.Counting.{behind, skipped, tally, begun, withStart, withGlobal, withEntry, withValue, countsIn, totalIn, tallied, linesOfSheet}
+use Rattle.canonical.proofs.Counted.{within-few, within-many}
 
 -- ---- where a flow ends
 
@@ -222,9 +176,9 @@ module _ (s : Sheet) where
   -- a file may have its lines: these are their counts
   pub sheet-few : lineTotal (modelOf s) ≤ mostLines → linesOfSheet (linesOf s) ≡ Are (countsFor (modelOf s))
   unfolding linesOfSheet
-  sheet-few h = few-counted begun (linesOf s) (rw total-is h) ∙ ap Are sheet-counts
+  sheet-few h = within-few (tallied begun (linesOf s)) total-is h ∙ ap Are sheet-counts
 
   -- they are too many
   pub sheet-many : mostLines < lineTotal (modelOf s) → linesOfSheet (linesOf s) ≡ TooMany
   unfolding linesOfSheet
-  sheet-many h = many-counted begun (linesOf s) begun-few (rw total-is h)
+  sheet-many h = within-many (tallied begun (linesOf s)) total-is h

@@ -1,7 +1,7 @@
 -- How many lines the canonical file of a sheet has, line by line of the sheet: where the G record and the last entry's record end tells their lines.
 use mathlib.Core.Bool.{false, cond}
 use mathlib.Core.List.{List, [], _∷_}
-use Prim.Native.Nat.{ℕ, suc, _+_, _-_, _≤_}
+use Prim.Native.Nat.{ℕ, suc, _+_, _-_, _*_, _≤_}
 use lib.ListN.{length}
 use lib.Dec.{leb}
 use Rattle.values.specs.declared.Value.the-variants.{Whole}
@@ -84,14 +84,35 @@ countsIn x = counts (x .s) (lineCount globalColumns (x .global)) (x .d) (x .p + 
 unfoldable pub totalIn : Tally → ℕ
 totalIn x = total (countsIn x)
 
--- the counts, or too many as soon as they are
-unfoldable pub countedFrom : Tally → List Line → Lines
-countedFrom x [] = Are (countsIn x)
-countedFrom x (l ∷ ls) = cond (leb (totalIn (tallyLine x l)) mostLines) (countedFrom (tallyLine x l) ls) TooMany
+-- the tally of all lines behind a tally
+abbrev pub tallied : Tally → List Line → Tally
+tallied x [] = x
+tallied x (l ∷ ls) = tallied (tallyLine x l) ls
+
+-- the counts, if a file may have so many lines
+unfoldable pub within : Tally → Lines
+within x = cond (leb (totalIn x) mostLines) (Are (countsIn x)) TooMany
 
 -- of all lines
 unfoldable pub linesOfSheet : List Line → Lines
-linesOfSheet ls = countedFrom begun ls
+linesOfSheet ls = within (tallied begun ls)
+
+-- ---- no further than a file goes
+
+-- the columns of the P lines that a file may have; where a value stands behind these is not told
+abbrev pub mostColumns : ℕ
+mostColumns = mostLines * columnsHeld
+
+unfoldable pub behindValue : ℕ → Item → ℕ
+behindValue p v = cond (leb p mostColumns) (behind columnsHeld p v) p
+
+-- a line too many
+abbrev pub full : Tally
+full = tally (suc mostLines) 0 0 0 0 0
+
+-- it stands for every tally of too many
+unfoldable pub capped : Tally → Tally
+capped x = cond (leb (totalIn x) mostLines) x full
 
 -- ---- bounds
 

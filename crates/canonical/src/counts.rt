@@ -1,32 +1,30 @@
-// How many lines the canonical file of a sheet has. The count ends as soon as it passes the most lines of a file.
+// How many lines the canonical file of a sheet has, line by line, for a walk over the sheet. Nothing is counted further than a file goes.
 use crate::Lines;
 use crate::Tally;
 use cards::Counts;
 use cards::MOST_LINES;
 use records::flow::piece_end;
+use records::flow::spelled_end;
 use sheets::Said;
-use sheets::reading::end_of;
-use sheets::reading::is_value;
-use sheets::reading::line_at;
-use sheets::reading::strict_at;
-use values::Strict;
 use values::Value;
 ghost use mathlib.Core.Path.{_≡_};
+ghost use mathlib.Core.Bool.{false};
 ghost use Prim.Native.Nat.{_+_, _-_, _^_, _≤_, _<_};
-ghost use lib.ListN.{length};
-ghost use Rattle.columns.specs.Columns.{columns};
+ghost use Rattle.values.specs.declared.Value.the-variants.{Whole};
+ghost use Rattle.values.specs.declared.Strict.the-variants.{Is};
+ghost use Rattle.values.specs.Value.{itemOf};
+ghost use Rattle.values.specs.Strict.{strictOf};
 ghost use Rattle.records.specs.Flow.{lineCount};
 ghost use Rattle.records.specs.Written.{copied, pieceEnd};
-ghost use mathlib.Core.Bool.{false};
-ghost use Rattle.values.specs.declared.Value.the-variants.{Whole};
-ghost use Rattle.canonical.specs.declared.Lines.the-variants.{Are};
-ghost use Rattle.sheets.specs.Sheet.{saysOf, linesIn};
-ghost use Rattle.canonical.specs.Counting.{globalColumns, columnsHeld, skipped, withStart, withGlobal, withEntry, withValue, tallySaid, countsIn, totalIn, Under, Few, Short, linesOfSheet};
+ghost use Rattle.canonical.specs.Counting.{globalColumns, columnsHeld, skipped, withStart, withGlobal, withEntry, withValue, tallySaid, countsIn, totalIn, within, behindValue, capped, Under, Few, Short};
 
 // The columns of a G line and of a P line that hold values.
 const GLOBAL_COLUMNS: usize = 72;
 
 const COLUMNS: usize = 64;
+
+// Those of the P lines that a file may have.
+const MOST_COLUMNS: usize = MOST_LINES * COLUMNS;
 
 fn line_count(w: usize, n: usize) -> usize
     requires { ⌜ (1 ≤ w) × (w ≤ 80) × (n ≤ 2 ^ 40) ⌝ }
@@ -119,7 +117,7 @@ fn with_value(x: Tally, v: Value) -> Tally
 }
 
 // One line more.
-fn tally_said(x: Tally, y: Said) -> Tally
+pub fn tally_said(x: Tally, y: Said) -> Tally
     requires { ⌜ Under (2 ^ 36) x × Short y ⌝ }
     ensures { λ r. ⌜ r ≡ tallySaid x y ⌝ }
     ensures { λ r. ⌜ Under (2 ^ 38) r ⌝ }
@@ -148,19 +146,16 @@ fn tally_said(x: Tally, y: Said) -> Tally
     }
 }
 
-// The line from `at` up to `end` more: a value line is told by its value alone.
-fn tally_at(t: &[u8], at: usize, end: usize, x: Tally) -> Tally
-    requires { ⌜ Under (2 ^ 36) x × (at ≤ end) × (end ≤ length (now t)) ⌝ }
-    ensures { λ r. ⌜ r ≡ tallySaid x (saysOf (columns (now (t .entry)) at end)) ⌝ }
-    ensures { λ r. ⌜ Under (2 ^ 38) r ⌝ }
+// The position behind the value of a value line, which stands at p: what the line says is its canonical spelling, so its length tells it.
+pub fn behind_value(p: usize, l: &[u8], v: Value) -> usize
+    requires { ⌜ (p ≤ 2 ^ 38) × (strictOf (now l) ≡ Is v) ⌝ }
+    ensures { λ r. ⌜ r ≡ behindValue p (itemOf (now (l .entry)) v) ⌝ }
+    ensures { λ r. ⌜ r ≤ 2 ^ 38 ⌝ }
 {
-    if !is_value(t, at, end) {
-        return tally_said(x, line_at(t, at, end));
+    if MOST_COLUMNS < p {
+        return p;
     }
-    match strict_at(t, at + 2, end) {
-        Strict::Is(v) => with_value(x, v),
-        Strict::Not => x,
-    }
+    spelled_end(COLUMNS, p, l.len(), v)
 }
 
 fn total_of(x: Tally) -> usize
@@ -172,47 +167,56 @@ fn total_of(x: Tally) -> usize
     x.s + g + x.d + (x.p + p) + 1
 }
 
+// Behind the value lines of an entry, the last of which ends at this position. Too many lines are told by one too many, so that no sum grows on.
+pub fn with_values(x: Tally, at: usize) -> Tally
+    requires { ⌜ Under (2 ^ 38) x × (at ≤ 2 ^ 38) ⌝ }
+    ensures { λ r. ⌜ r ≡ capped (withValue x at) ⌝ }
+    ensures { λ r. ⌜ Under (2 ^ 36) r ⌝ }
+{
+    let y = Tally {
+        s: x.s,
+        global: x.global,
+        field: x.field,
+        d: x.d,
+        p: x.p,
+        at,
+    };
+    if total_of(y) <= MOST_LINES {
+        return y;
+    }
+    Tally {
+        s: MOST_LINES + 1,
+        global: 0,
+        field: 0,
+        d: 0,
+        p: 0,
+        at: 0,
+    }
+}
+
 // The counts of a tally that a file may have.
-fn counts_of(x: Tally) -> Lines
+fn counts_in(x: Tally) -> Counts
     requires { ⌜ Under (2 ^ 36) x × Few x ⌝ }
-    ensures { λ r. ⌜ r ≡ Are (countsIn x) ⌝ }
+    ensures { λ r. ⌜ r ≡ countsIn x ⌝ }
 {
     let g = line_count(GLOBAL_COLUMNS, x.global);
     let p = line_count(COLUMNS, x.at);
-    Lines::Are(Counts {
+    Counts {
         s: x.s as u32,
         g: g as u32,
         d: x.d as u32,
         p: (x.p + p) as u32,
         t: 1,
-    })
+    }
 }
 
-// The lines of the canonical file of a sheet.
-pub fn count(t: &[u8]) -> Lines
-    ensures { λ r. ⌜ r ≡ linesOfSheet (linesIn (now (t .entry))) ⌝ }
+// The lines of a tally.
+pub fn lines_of(x: Tally) -> Lines
+    requires { ⌜ Under (2 ^ 36) x ⌝ }
+    ensures { λ r. ⌜ r ≡ within x ⌝ }
 {
-    let n = t.len();
-    let mut x = Tally {
-        s: 0,
-        global: 8,
-        field: 2,
-        d: 0,
-        p: 0,
-        at: 0,
-    };
-    let mut at = 0;
-    while at < n {
-        let e = end_of(t, at);
-        if e == n {
-            return counts_of(x);
-        }
-        let y = tally_at(t, at, e, x);
-        if MOST_LINES < total_of(y) {
-            return Lines::TooMany;
-        }
-        x = y;
-        at = e + 1;
+    if total_of(x) <= MOST_LINES {
+        return Lines::Are(counts_in(x));
     }
-    counts_of(x)
+    Lines::TooMany
 }

@@ -1,5 +1,5 @@
 // The canonical file of a sheet: how many lines it has, and its bytes.
-// `counts` counts them line by line, `starts` lays the S lines, `entries` the D and P lines entry by entry, `file` the whole file.
+// `counts` counts them line by line for a walk over the sheet, `starts` lays the S lines, `entries` the D and P lines entry by entry, `file` the whole file.
 pub mod counts;
 mod entries;
 pub mod file;

@@ -10,6 +10,8 @@ use Rattle.records.proofs.flow.put_piece.Kinds as flow-put-piece-kinds
 use Rattle.records.proofs.flow.put_piece.Reads as flow-put-piece-reads
 use Rattle.records.proofs.flow.piece_end.Kinds as flow-piece-end-kinds
 use Rattle.records.proofs.flow.piece_end.Reads as flow-piece-end-reads
+use Rattle.records.proofs.flow.spelled_end.Kinds as flow-spelled-end-kinds
+use Rattle.records.proofs.flow.spelled_end.Reads as flow-spelled-end-reads
 use Rattle.records.proofs.global.opening_of.Kinds as global-opening-of-kinds
 use Rattle.records.proofs.global.opening_of.Reads as global-opening-of-reads
 use Rattle.records.proofs.global.stray.Kinds as global-stray-kinds
@@ -47,6 +49,9 @@ flow-put-piece κs a z z′ left left′ p q = put-first (left .1) (p .0) (q .0)
 
 pub flow-piece-end : NoSecond flow-piece-end-kinds.ps flow-piece-end-kinds.r flow-piece-end-reads.Post
 flow-piece-end κs a z z′ left left′ p q = (once (p .0) (q .0), refl)
+
+pub flow-spelled-end : NoSecond flow-spelled-end-kinds.ps flow-spelled-end-kinds.r flow-spelled-end-reads.Post
+flow-spelled-end κs a z z′ left left′ p q = (once (p .0) (q .0), refl)
 
 -- ---- records::global
 

@@ -7,6 +7,8 @@ use Rattle.columns.specs.Columns.{columns}
 use Rattle.sheets.specs.Line.{numOf}
 use Rattle.sheets.proofs.order.is_missing.Kinds as order-is-missing-kinds
 use Rattle.sheets.proofs.order.is_missing.Reads as order-is-missing-reads
+use Rattle.sheets.proofs.order.value_step.Kinds as order-value-step-kinds
+use Rattle.sheets.proofs.order.value_step.Reads as order-value-step-reads
 use Rattle.sheets.proofs.order.step_line.Kinds as order-step-line-kinds
 use Rattle.sheets.proofs.order.step_line.Reads as order-step-line-reads
 use Rattle.sheets.proofs.order.finish_of.Kinds as order-finish-of-kinds
@@ -52,6 +54,9 @@ use Rattle.demands.proofs.Unique.{once, wrote-first}
 
 pub order-is-missing : NoSecond order-is-missing-kinds.ps order-is-missing-kinds.r order-is-missing-reads.Post
 order-is-missing κs a z z′ left left′ p q = (once p q, refl)
+
+pub order-value-step : NoSecond order-value-step-kinds.ps order-value-step-kinds.r order-value-step-reads.Post
+order-value-step κs a z z′ left left′ p q = (once p q, refl)
 
 pub order-step-line : NoSecond order-step-line-kinds.ps order-step-line-kinds.r order-step-line-reads.Post
 order-step-line κs a z z′ left left′ p q = (once p q, refl)

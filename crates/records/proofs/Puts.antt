@@ -295,20 +295,31 @@ pub end-parts : (w p : ℕ) (v : Value) {n g k : ℕ} → n ≡ length (front v)
 unfolding pieceEnd
 end-parts w p v en eg ek = rw (eg, ek, en)
 
-pub ruleset ends = (copied-none, copied-whole, copied-real, copied-text, end-parts)
+-- what is spelled in n characters is its front and what is copied
+pub end-spelled : (w p : ℕ) (v : Value) {n g k : ℕ} → n ≡ length (front v) + copied v → k ≡ copied v → g ≡ gap w p (n - k + 1) → p + g + n + 1 ≡ pieceEnd w p v
+unfolding pieceEnd
+end-spelled w p v {n} {g} {k} en ek eg =
+    let f : n - k + 1 ≡ length (front v) + 1 = omega arith in
+    rw (eg, f) (omega arith)
+
+pub ruleset ends = (copied-none, copied-whole, copied-real, copied-text, end-parts, end-spelled)
+
+copied-length : (t : List ℕ) (v : Value) → Inside (length t) v → length (chars t v) ≡ copied v
+copied-length t Default h = refl
+copied-length t (Whole neg size) h = refl
+copied-length t (Real neg m eneg e double) h = refl
+copied-length t (Text start count) h = simp (length-take, length-drop) (omega arith)
+
+-- a value is spelled in so many characters
+pub spelled-length : (t : List ℕ) (v : Value) → Inside (length t) v → length (spelled (itemOf t v)) ≡ length (front v) + copied v
+spelled-length t v h = ap length (front-chars t v h) ∙ length-append (front v) (chars t v) ∙ ap (λ (k : ℕ). length (front v) + k) (copied-length t v h)
 
 -- a piece ends there, in whatever text a string's characters stand
 pub piece-end-is : (w p : ℕ) (t : List ℕ) (v : Value) (last : Bool) → Writable (length t) v → pieceEnd w p v ≡ p + length (piece w p (itemOf t v) last)
 unfolding pieceEnd
 piece-end-is w p t v last h =
-    let n = copied-length t v h in
+    let n = copied-length t v (inside (length t) v h) in
     rw (← (piece-parts w p t v last h)) (simp (length-append, length-replicate) (omega arith))
-  where
-    copied-length : (t : List ℕ) (v : Value) → Writable (length t) v → length (chars t v) ≡ copied v
-    copied-length t Default h = refl
-    copied-length t (Whole neg size) h = refl
-    copied-length t (Real neg m eneg e double) h = refl
-    copied-length t (Text start count) h = simp (length-take, length-drop) (omega arith)
 
 pub copied-few : (m : ℕ) (v : Value) → Writable m v → copied v ≤ 999
 copied-few m Default h = omega arith

@@ -9,7 +9,7 @@ ghost use mathlib.Core.List.{[], _∷_, _++_};
 ghost use Prim.Native.Nat.{_+_, _^_, _≤_, _<_};
 ghost use lib.ListN.{length, replicate};
 ghost use Rattle.values.specs.Value.{itemOf};
-ghost use Rattle.values.specs.Writing.{chars};
+ghost use Rattle.values.specs.Writing.{front, chars};
 ghost use Rattle.records.specs.Flow.{gap, delimiter, piece};
 ghost use Rattle.records.specs.Reading.{Writable};
 ghost use Rattle.records.specs.Written.{Put, Room, copied, pieceEnd};
@@ -191,4 +191,15 @@ pub fn piece_end(w: usize, p: usize, v: Value) -> usize
     let g = gap_of(w, p, n + 1);
     let k = copied_of(v);
     p + g + n + k + 1
+}
+
+// The same of a value that is spelled in n characters.
+pub fn spelled_end(w: usize, p: usize, n: usize, v: Value) -> usize
+    requires { ⌜ (p ≤ 2 ^ 40) × (1 ≤ w) × (w ≤ 80) × (n < 2 ^ 40) × (n ≡ length (front v) + copied v) ⌝ }
+    ensures { λ r. ⌜ r ≡ pieceEnd w p v ⌝ }
+    ensures { λ r. ⌜ r ≤ p + n + 81 ⌝ }
+{
+    let k = copied_of(v);
+    let g = gap_of(w, p, n - k + 1);
+    p + g + n + 1
 }

@@ -49,57 +49,56 @@ module _ (list : ℕ) (t o : List ℕ) (r : Ruled) (er : r ≡ ruledOf list t) w
     unfolding writesInto
     refused-left = answered.refused-left (writes list t) o n (l .0) refuses
 
-  module _ (n : ℕ) (e : r ≡ Good n) where
-    good : Passed list t n
-    good = ruled-good list t n (sym e ∙ er)
+  module _ (n : ℕ) (k : Lines) (e : r ≡ Good n k) where
+    good : Passed list t n k
+    good = ruled-good list t n k (sym e ∙ er)
 
-    module _ (k : Lines) (ek : k ≡ linesOfSheet (linesIn t)) where
-      module _ (many : k ≡ TooMany) where
-        long : writes list t ≡ refused TooLong 0
-        long = answer-long list t (modelOf (sheetOf (linesIn t))) (good .model) (sym ek ∙ many)
+    module _ (many : k ≡ TooMany) where
+      long : writes list t ≡ refused TooLong 0
+      long = answer-long list t (modelOf (sheetOf (linesIn t))) (good .model) (sym (good .lines) ∙ many)
 
-        pub long-answer : (y : Answer) → y ≡ answer (number TooLong) 0 0 → y ≡ answerOf (writesInto list t (length o))
+      pub long-answer : (y : Answer) → y ≡ answer (number TooLong) 0 0 → y ≡ answerOf (writesInto list t (length o))
+      unfolding writesInto
+      long-answer = answered.refused-answer (writes list t) o TooLong 0 long
+
+      pub long-left : o ≡ leftIn o (writesInto list t (length o))
+      unfolding writesInto
+      long-left = answered.refused-left (writes list t) o TooLong 0 long
+
+    module _ (c : Counts) (few : k ≡ Are c) where
+      -- what laying the file needs
+      pub needs-good : verdictOf t ≡ GoodSheet n
+      needs-good = good .verdict
+
+      pub needs-counts : linesOfSheet (linesIn t) ≡ Are c
+      needs-counts = sym (good .lines) ∙ few
+
+      pub needs-ranges : Each Ranged (sheetOf (linesIn t) .rows)
+      needs-ranges = passed list t (modelOf (sheetOf (linesIn t))) (good .model) .ranged
+
+      accepts : writes list t ≡ accepted (canonical (modelOf (sheetOf (linesIn t))))
+      accepts = answer-file list t (modelOf (sheetOf (linesIn t))) (good .model) c needs-counts
+
+      module _ (b : ℕ) (eb : b ≡ 81 * total c) where
+        size : b ≡ length (canonical (modelOf (sheetOf (linesIn t))))
+        size = eb ∙ sym (answer-length list t (modelOf (sheetOf (linesIn t))) (good .model) c needs-counts)
+
+        pub short-answer : (y : Answer) → length o < b → y ≡ answer (number Room) 0 0 → y ≡ answerOf (writesInto list t (length o))
         unfolding writesInto
-        long-answer = answered.refused-answer (writes list t) o TooLong 0 long
+        short-answer = answered.short-answer (writes list t) o (canonical (modelOf (sheetOf (linesIn t)))) accepts b size
 
-        pub long-left : o ≡ leftIn o (writesInto list t (length o))
+        pub short-left : length o < b → o ≡ leftIn o (writesInto list t (length o))
         unfolding writesInto
-        long-left = answered.refused-left (writes list t) o TooLong 0 long
+        short-left = answered.short-left (writes list t) o (canonical (modelOf (sheetOf (linesIn t)))) accepts b size
 
-      module _ (c : Counts) (few : k ≡ Are c) where
-        -- what laying the file needs
-        pub needs-good : verdictOf t ≡ GoodSheet n
-        needs-good = good .verdict
-
-        pub needs-counts : linesOfSheet (linesIn t) ≡ Are c
-        needs-counts = sym ek ∙ few
-
-        pub needs-ranges : Each Ranged (sheetOf (linesIn t) .rows)
-        needs-ranges = passed list t (modelOf (sheetOf (linesIn t))) (good .model) .ranged
-
-        accepts : writes list t ≡ accepted (canonical (modelOf (sheetOf (linesIn t))))
-        accepts = answer-file list t (modelOf (sheetOf (linesIn t))) (good .model) c needs-counts
-
-        module _ (b : ℕ) (eb : b ≡ 81 * total c) where
-          size : b ≡ length (canonical (modelOf (sheetOf (linesIn t))))
-          size = eb ∙ sym (answer-length list t (modelOf (sheetOf (linesIn t))) (good .model) c needs-counts)
-
-          pub short-answer : (y : Answer) → length o < b → y ≡ answer (number Room) 0 0 → y ≡ answerOf (writesInto list t (length o))
+        module _ (h : b ≤ length o) (o′ : List ℕ) (end : ℕ) (w : Wrote o 0 (canonical (modelOf (sheetOf (linesIn t)))) o′ end) where
+          pub good-answer : answer 0 0 end ≡ answerOf (writesInto list t (length o))
           unfolding writesInto
-          short-answer = answered.short-answer (writes list t) o (canonical (modelOf (sheetOf (linesIn t)))) accepts b size
+          good-answer = answered.whole-answer (writes list t) o (canonical (modelOf (sheetOf (linesIn t)))) accepts b size h o′ end w
 
-          pub short-left : length o < b → o ≡ leftIn o (writesInto list t (length o))
+          pub good-left : o′ ≡ leftIn o (writesInto list t (length o))
           unfolding writesInto
-          short-left = answered.short-left (writes list t) o (canonical (modelOf (sheetOf (linesIn t)))) accepts b size
-
-          module _ (h : b ≤ length o) (o′ : List ℕ) (end : ℕ) (w : Wrote o 0 (canonical (modelOf (sheetOf (linesIn t)))) o′ end) where
-            pub good-answer : answer 0 0 end ≡ answerOf (writesInto list t (length o))
-            unfolding writesInto
-            good-answer = answered.whole-answer (writes list t) o (canonical (modelOf (sheetOf (linesIn t)))) accepts b size h o′ end w
-
-            pub good-left : o′ ≡ leftIn o (writesInto list t (length o))
-            unfolding writesInto
-            good-left = answered.whole-left (writes list t) o (canonical (modelOf (sheetOf (linesIn t)))) accepts b size h o′ end w
+          good-left = answered.whole-left (writes list t) o (canonical (modelOf (sheetOf (linesIn t)))) accepts b size h o′ end w
 
 pub ruleset writings = (
   refused-answer,

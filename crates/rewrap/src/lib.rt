@@ -65,23 +65,20 @@ pub fn write(list: u64, sheet: &[u8], out: &mut [u8]) -> Answer
     let told = writing::check(list, sheet);
     match told {
         Ruled::Refused { fault, line } => answers::refusal(fault, line.0),
-        Ruled::Good(entries) => {
-            let lines = canonical::counts::count(sheet);
-            match lines {
-                Lines::TooMany => answers::refusal(Fault::TooLong, 0),
-                Lines::Are(counts) => {
-                    let bytes = file::bytes(counts);
-                    if out.len() < bytes {
-                        return answers::refusal(Fault::Room, 0);
-                    }
-                    let laid = canonical::file::put_file(out, sheet, counts, entries);
-                    Answer {
-                        number: 0,
-                        place: 0,
-                        length: laid as u64,
-                    }
+        Ruled::Good { entries, lines } => match lines {
+            Lines::TooMany => answers::refusal(Fault::TooLong, 0),
+            Lines::Are(counts) => {
+                let bytes = file::bytes(counts);
+                if out.len() < bytes {
+                    return answers::refusal(Fault::Room, 0);
+                }
+                let laid = canonical::file::put_file(out, sheet, counts, entries);
+                Answer {
+                    number: 0,
+                    place: 0,
+                    length: laid as u64,
                 }
             }
-        }
+        },
     }
 }

@@ -88,7 +88,7 @@ fn entry_step(st: State, x: Signed) -> Step
 }
 
 // Values may not end with a default: the first of such a run is remembered.
-fn value_step(st: State, default: bool) -> Step
+pub fn value_step(st: State, default: bool) -> Step
     requires { ⌜ st .line < 2 ^ 63 ⌝ }
     ensures { λ r. ⌜ r ≡ valueStep st default ⌝ }
 {

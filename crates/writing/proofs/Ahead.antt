@@ -1,4 +1,4 @@
--- Value lines in order are passed over: they are asked nothing and head no entry, and each steps the state. Assumes nothing.
+-- Value lines in order are passed over: they are asked nothing and head no entry; each steps the state, and goes on in its record. Assumes nothing.
 use mathlib.Core.Path.{_≡_, refl, sym, ap, _∙_}
 use mathlib.Core.Bool.{Bool}
 use mathlib.Core.List.{List, _∷_}
@@ -15,14 +15,18 @@ use Rattle.sheets.specs.Sheet.{Line, value, isMissing}
 use Rattle.sheets.specs.Order.{valueStep, stepLine, goLines}
 use Rattle.sheets.proofs.Walk.{step-said}
 use Rattle.rows.specs.Rows.{typesIn}
+use Rattle.canonical.specs.declared.Tally.{Tally}
+use Rattle.canonical.specs.declared.Lines.{Lines}
+use Rattle.canonical.specs.Counting.{withValue, tallied, within, behindValue, capped}
+use Rattle.canonical.proofs.Counted.{capped-same, value-same}
 use Rattle.writing.specs.declared.Pass.{Pass}
 use Rattle.writing.specs.Lines.{OfGlobal, OfRow, orElse, linesPass}
 use Rattle.writing.specs.Classes.{classesIn}
 use Rattle.writing.specs.Ahead.{Ahead}
 use Rattle.writing.proofs.Walking.{next-place}
 
-pub ahead-none : (st : State) (ls : List Line) → Ahead st ls st ls
-ahead-none st ls = record { verdict = refl; asked = λ g f. refl; classes = refl }
+pub ahead-none : (st : State) (p : ℕ) (ls : List Line) → Ahead st p ls st p ls
+ahead-none st p ls = record { verdict = refl; asked = λ g f. refl; classes = refl; counted = λ x. refl }
 
 -- one value line more
 module _ (ls rest : List Line) (r : Bool) (s : List ℕ) (v : Value) (line : ls ≡ value r (itemOf s v) ∷ rest) (st y : State) (x : Step) (p : x ≡ valueStep st (isMissing v)) (q : x ≡ On y) where
@@ -41,11 +45,20 @@ module _ (ls rest : List Line) (r : Bool) (s : List ℕ) (v : Value) (line : ls 
   unfolding classesIn typesIn
   class-value = sym (ap classesIn line)
 
-  pub ahead-on : (st₀ : State) (ls₀ : List Line) → Ahead st₀ ls₀ st ls → Ahead st₀ ls₀ y rest
-  ahead-on st₀ ls₀ a = record { verdict = go-value ∙ a .verdict; asked = λ g f. pass-value g f ∙ a .asked g f; classes = class-value ∙ a .classes }
+  count-value : (at end : ℕ) → end ≡ behindValue at (itemOf s v) → (k : Tally) → within (tallied (withValue k end) rest) ≡ within (tallied (withValue k at) ls)
+  count-value at end e k =
+      ap (λ (i : ℕ). within (tallied (withValue k i) rest)) e ∙ value-same k at r (itemOf s v) rest ∙ sym (ap (λ (u : List Line). within (tallied (withValue k at) u)) line)
+
+  pub ahead-on : (st₀ : State) (p₀ : ℕ) (ls₀ : List Line) (at end : ℕ) → end ≡ behindValue at (itemOf s v) → Ahead st₀ p₀ ls₀ st at ls → Ahead st₀ p₀ ls₀ y end rest
+  ahead-on st₀ p₀ ls₀ at end e a = record {
+    verdict = go-value ∙ a .verdict;
+    asked = λ g f. pass-value g f ∙ a .asked g f;
+    classes = class-value ∙ a .classes;
+    counted = λ k. count-value at end e k ∙ a .counted k;
+  }
 
 -- what held before them holds behind them
-module _ (st st′ : State) (ls rest : List Line) (a : Ahead st ls st′ rest) where
+module _ (st st′ : State) (at end : ℕ) (ls rest : List Line) (a : Ahead st at ls st′ end rest) where
   pub ahead-go : (f : Verdict) → goLines st ls ≡ f → goLines st′ rest ≡ f
   ahead-go f h = a .verdict ∙ h
 
@@ -54,3 +67,8 @@ module _ (st st′ : State) (ls rest : List Line) (a : Ahead st ls st′ rest) w
 
   pub ahead-laid : (o c : List ℕ) (k : ℕ) → laid o k (classesIn ls) ≡ c → laid o k (classesIn rest) ≡ c
   ahead-laid o c k h = ap (laid o k) (a .classes) ∙ h
+
+-- so many lines as were counted before them are counted behind them
+pub ahead-counted : (st st′ : State) (x : Tally) (end : ℕ) (ls rest : List Line) → Ahead st (x .at) ls st′ end rest → (y : Tally) → y ≡ capped (withValue x end) → (f : Lines)
+    → within (tallied x ls) ≡ f → within (tallied y rest) ≡ f
+ahead-counted st st′ x end ls rest a y e f h = ap (λ (z : Tally). within (tallied z rest)) e ∙ capped-same (withValue x end) rest ∙ a .counted x ∙ h

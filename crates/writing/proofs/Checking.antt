@@ -18,6 +18,8 @@ use Rattle.sheets.specs.Order.{sheetLine, verdictOf, readSheet}
 use Rattle.sheets.proofs.Sheets.{Written, good-written, read-good, read-wrong}
 use Rattle.model.specs.Model.{Model, typeOf, fieldsIn, carriedOf, modelOf}
 use Rattle.model.specs.Write.{rowTypes, sheetRules, writeModel}
+use Rattle.canonical.specs.declared.Lines.{Lines}
+use Rattle.canonical.specs.Counting.{linesOfSheet}
 use Rattle.writing.specs.declared.Pass.{Pass}
 use Rattle.writing.specs.declared.Pass.the-variants.{Good as GoodPass, Refused as RefusedPass}
 use Rattle.writing.specs.declared.Ruled.{Ruled}
@@ -55,14 +57,17 @@ entry-count : (s : Sheet) → length (modelOf s .entries) ≡ length (s .rows)
 unfolding modelOf
 entry-count s = mapped carriedOf (s .rows)
 
--- the entry count, where a pass is good
-abbrev ruledWith : Pass → ℕ → Ruled
-ruledWith GoodPass n = Good n
-ruledWith (RefusedPass m l) n = Refused m l
+-- the entry count and the lines, where a pass is good
+abbrev ruledWith : Lines → Pass → ℕ → Ruled
+ruledWith k GoodPass n = Good n k
+ruledWith k (RefusedPass m l) n = Refused m l
 
-ruled-with : (o : Outcome (Unit {0})) (m : Model) → told (o then λ _. accepted m) ≡ ruledWith (passOf o) (length (m .entries))
-ruled-with (accepted a) m = refl
-ruled-with (refused n p) m = refl
+ruled-with : (k : Lines) (o : Outcome (Unit {0})) (m : Model) → told k (o then λ _. accepted m) ≡ ruledWith k (passOf o) (length (m .entries))
+ruled-with k (accepted a) m = refl
+ruled-with k (refused n p) m = refl
+
+abbrev lines : List ℕ → Lines
+lines t = linesOfSheet (linesIn t)
 
 module _ (list : ℕ) (t : List ℕ) (b : Bool) (eb : b ≡ leb list mostList) where
   pub check-list : b ≡ false → Refused ListOrLength (sheetLine 0) ≡ ruledOf list t
@@ -70,28 +75,28 @@ module _ (list : ℕ) (t : List ℕ) (b : Bool) (eb : b ≡ leb list mostList) w
   check-list e = rw (← eb, e)
 
   module _ (e : b ≡ true) (v : Verdict) (ev : v ≡ verdictOf t) where
-    read : told (readSheet t then λ s. sheetRules list s then λ _. accepted (modelOf s)) ≡ ruledOf list t
+    read : told (lines t) (readSheet t then λ s. sheetRules list s then λ _. accepted (modelOf s)) ≡ ruledOf list t
     unfolding ruledOf writeModel
     read = rw (← eb, e)
 
     pub check-sheet : (w : SheetLine) → v ≡ Wrong w → Refused WrongSheet w ≡ ruledOf list t
-    check-sheet w h = sym (ap (λ (o : Outcome Sheet). told (o then λ s. sheetRules list s then λ _. accepted (modelOf s))) (read-wrong t w (sym ev ∙ h))) ∙ read
+    check-sheet w h = sym (ap (λ (o : Outcome Sheet). told (lines t) (o then λ s. sheetRules list s then λ _. accepted (modelOf s))) (read-wrong t w (sym ev ∙ h))) ∙ read
 
     module _ (n : ℕ) (h : v ≡ GoodSheet n) (y : Pass) (ey : y ≡ sheetPass list t) where
-      decided : ruledWith y n ≡ ruledOf list t
+      decided : ruledWith (lines t) y n ≡ ruledOf list t
       decided =
           let w : Written t n (sheetOf (linesIn t)) = good-written t n (sym ev ∙ h) in
           let s : Sheet = sheetOf (linesIn t) in
           let c : n ≡ length (modelOf s .entries) = w .count ∙ sym (entry-count s) in
           let p : y ≡ passOf (sheetRules list s) = ey ∙ sheet-pass list t s (w .lines) in
-          ap (ruledWith y) c ∙ ap (λ (q : Pass). ruledWith q (length (modelOf s .entries))) p ∙ sym (ruled-with (sheetRules list s) (modelOf s))
-          ∙ sym (ap (λ (o : Outcome Sheet). told (o then λ s. sheetRules list s then λ _. accepted (modelOf s))) (read-good t n (sym ev ∙ h))) ∙ read
+          ap (ruledWith (lines t) y) c ∙ ap (λ (q : Pass). ruledWith (lines t) q (length (modelOf s .entries))) p ∙ sym (ruled-with (lines t) (sheetRules list s) (modelOf s))
+          ∙ sym (ap (λ (o : Outcome Sheet). told (lines t) (o then λ s. sheetRules list s then λ _. accepted (modelOf s))) (read-good t n (sym ev ∙ h))) ∙ read
 
       pub check-pass : (m : Fault) (l : SheetLine) → y ≡ RefusedPass m l → Refused m l ≡ ruledOf list t
-      check-pass m l k = sym (ap (λ (q : Pass). ruledWith q n) k) ∙ decided
+      check-pass m l k = sym (ap (λ (q : Pass). ruledWith (lines t) q n) k) ∙ decided
 
-      pub check-good : y ≡ GoodPass → Good n ≡ ruledOf list t
-      check-good k = sym (ap (λ (q : Pass). ruledWith q n) k) ∙ decided
+      pub check-good : (k : Lines) → k ≡ lines t → y ≡ GoodPass → Good n k ≡ ruledOf list t
+      check-good k ek g = ap (Good n) ek ∙ sym (ap (λ (q : Pass). ruledWith (lines t) q n) g) ∙ decided
 
 -- a good sheet has as many types as entries
 pub good-count : (t : List ℕ) (v : Verdict) (n : ℕ) → v ≡ verdictOf t → v ≡ GoodSheet n → n ≡ length (sheetTypes t)

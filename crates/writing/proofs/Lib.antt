@@ -10,4 +10,5 @@ pub mod Sheets
 pub mod Checking
 pub mod Walking
 pub mod Ahead
+pub mod Counting
 pub mod Facts

@@ -5,7 +5,7 @@ use mathlib.Core.List.{List, [], _∷_}
 use Prim.Native.Nat.{ℕ, _+_, _-_, _≤_, _<_}
 use native.Mathlib.Omega.{arith}
 use native.Mathlib.Decide.{ℕ-discrete}
-use lib.ListN.{length, getD, drop, length-drop, drop-of-length-le}
+use lib.ListN.{length, getD, take, drop, length-drop, drop-of-length-le}
 use lib.Dec.{eqb}
 use lib.Seq.{getD-drop}
 use Rattle.columns.specs.Columns.{columns}
@@ -18,7 +18,7 @@ use Rattle.sheets.specs.declared.Said.{Said}
 use Rattle.sheets.specs.declared.Said.the-variants.{Value as Given}
 use Rattle.sheets.specs.Line.{run}
 use Rattle.sheets.specs.Sheet.{Line, value, none, isMark, isValue, into, piecesOf, lastPiece, saysOf, lineFrom, saidBy, saidByAll, linesIn}
-use Rattle.sheets.proofs.Plains.{run-here, run-on}
+use Rattle.sheets.proofs.Plains.{columns-drop, run-here, run-on}
 use Rattle.sheets.proofs.Says.{pieces-none, pieces-on, none-of}
 use Rattle.sheets.proofs.Walk.{lines-first, line-says}
 use Rattle.sheets.proofs.Valued.{value-long, value-given}
@@ -79,8 +79,16 @@ module _ (t : List ℕ) (at end : ℕ) (b : Bool) (eb : b ≡ isValue (columns t
   said-given lo hi = value-given t at end b eb (value-long t at end b eb lo hi e) e y ey v q
 
   pub line-given : at ≤ end → end < length t → end ≡ at + run 10 (drop at t)
-      → linesIn (drop at t) ≡ value (eqb (getD t at 0) 82) (itemOf (drop 2 (columns t at end)) v) ∷ linesIn (drop (end + 1) t)
-  line-given lo hi en = line-read t at end lo hi en (Given (eqb (getD t at 0) 82) v) (said-given lo (omega arith))
+      → linesIn (drop at t) ≡ value (eqb (getD t at 0) 82) (itemOf (take (end - (at + 2)) (drop (at + 2) t)) v) ∷ linesIn (drop (end + 1) t)
+  unfolding columns
+  line-given lo hi en =
+      line-read t at end lo hi en (Given (eqb (getD t at 0) 82) v) (said-given lo (omega arith))
+      ∙ ap (λ (l : List ℕ). value (eqb (getD t at 0) 82) (itemOf l v) ∷ linesIn (drop (end + 1) t)) (columns-drop t at 2 end)
+
+-- what is read back of it
+pub strict-given : (t : List ℕ) (at end : ℕ) (y : Strict) → y ≡ strictOf (columns t at end) → (v : Value) → y ≡ Is v → strictOf (take (end - at) (drop at t)) ≡ Is v
+unfolding columns
+strict-given t at end y e v q = sym e ∙ q
 
 -- ---- the pass over them, line by line
 

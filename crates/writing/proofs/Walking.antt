@@ -19,6 +19,9 @@ use Rattle.sheets.specs.Sheet.{Line, none, isMark, saysOf, saidBy, linesIn}
 use Rattle.sheets.specs.Order.{begin, noneStep, stepLine, verdict, finish, goLines, verdictOf}
 use Rattle.sheets.specs.Reading.{stepSaid, pieceVerdict}
 use Rattle.sheets.proofs.Walk.{lines-first, none-off, step-said, line-says, line-sizes}
+use Rattle.canonical.specs.declared.Tally.{Tally}
+use Rattle.canonical.specs.declared.Lines.{Lines}
+use Rattle.canonical.specs.Counting.{within, linesOfSheet}
 use Rattle.writing.specs.declared.Pass.{Pass}
 use Rattle.writing.specs.Lines.{OfGlobal, OfRow, orElse, linesPass}
 use Rattle.writing.specs.Classes.{classesIn, tableSize, Tabled}
@@ -89,6 +92,9 @@ module _ (v : Verdict) (n : ℕ) (e : v ≡ Good n) (t : List ℕ) where
   pub walked-table : (m : ℕ) (c : List ℕ) → v ≡ verdictOf t → m ≡ tableSize → IfGood v (c ≡ laid (replicate m 0) 0 (classesIn (linesIn t))) → Tabled c n t
   walked-table m c ev em h = filled m c n t em (h .so n e) (good-count t v n ev e)
 
-pub ruleset walked = (walked-rules, walked-table)
+  pub walked-lines : (x : Tally) (k : Lines) → IfGood v (within x ≡ linesOfSheet (linesIn t)) → k ≡ within x → k ≡ linesOfSheet (linesIn t)
+  walked-lines x k h q = q ∙ h .so n e
+
+pub ruleset walked = (walked-rules, walked-table, walked-lines)
 
 pub ruleset ordering = (go-end, go-piece, go-on, go-off, go-start, next-line, next-entries, next-asked)

@@ -10,20 +10,22 @@ use Rattle.sheets.specs.Sheet.{linesIn}
 use Rattle.sheets.specs.Order.{sheetLine}
 use Rattle.model.specs.Model.{Model}
 use Rattle.model.specs.Write.{globalRule, rowRules, rowReferences, rowEntityRules, writeModel}
+use Rattle.canonical.specs.declared.Lines.{Lines}
+use Rattle.canonical.specs.Counting.{linesOfSheet}
 use Rattle.writing.specs.declared.Pass.{Pass}
 use Rattle.writing.specs.declared.Ruled.{Ruled}
 use Rattle.writing.specs.declared.Ruled.the-variants.{Good, Refused}
 use Rattle.writing.specs.Lines.{orElse, noRule, linesPass}
 use Rattle.writing.specs.Classes.{sheetTypes}
 
--- the entry count, or the first refusal
-abbrev pub told : Outcome Model → Ruled
-told (accepted m) = Good (length (m .entries))
-told (refused n place) = Refused n (sheetLine place)
+-- the entry count and the lines of the file, or the first refusal
+abbrev pub told : Lines → Outcome Model → Ruled
+told k (accepted m) = Good (length (m .entries)) k
+told k (refused n place) = Refused n (sheetLine place)
 
 -- of a text under a list
 unfoldable pub ruledOf : ℕ → List ℕ → Ruled
-ruledOf list t = told (writeModel list t)
+ruledOf list t = told (linesOfSheet (linesIn t)) (writeModel list t)
 
 -- 8; each entry 9, 13
 unfoldable pub rulesPass : List ℕ → Pass

@@ -1,10 +1,14 @@
-// The first walk over a sheet: its lines in order (17), what each is asked by itself (8, 9, 13), and the class of each entry for the table.
+// The first walk over a sheet: its lines in order (17), what each is asked by itself (8, 9, 13), the class of each entry for the table, and how many
+// lines the file has (19).
 use crate::Pass;
 use crate::Past;
 use crate::Walked;
 use crate::rules::rule_too;
 use crate::table::keep;
-use sheets::Said;
+use canonical::Tally;
+use canonical::counts::behind_value;
+use canonical::counts::tally_said;
+use canonical::counts::with_values;
 use sheets::State;
 use sheets::Step;
 use sheets::Verdict;
@@ -16,55 +20,53 @@ use sheets::reading::line_at;
 use sheets::reading::strict_at;
 use values::Strict;
 ghost use mathlib.Core.Path.{_≡_};
-ghost use Prim.Native.Nat.{_≤_};
+ghost use Prim.Native.Nat.{_^_, _≤_};
 ghost use lib.ListN.{length, drop};
 ghost use Rattle.columns.specs.Laid.{laid};
 ghost use Rattle.sheets.specs.Sheet.{linesIn};
 ghost use Rattle.sheets.specs.Order.{verdictOf};
+ghost use Rattle.canonical.specs.Counting.{within, linesOfSheet, Under};
 ghost use Rattle.writing.specs.Classes.{classesIn};
 ghost use Rattle.writing.specs.Answers.{IfGood, rulesPass};
 ghost use Rattle.writing.specs.Ahead.{Ahead};
 
-// Past the value lines from `from` on, as far as they are in order: they have no rule and no class.
-fn past_values(t: &[u8], from: usize, begun: State) -> Past
-    requires { ⌜ (from ≤ length (now t)) × (begun .line ≤ from) × (begun .entries ≤ begun .line) ⌝ }
-    ensures { λ r. ⌜ Ahead begun (linesIn (drop from (now (t .entry)))) (r .state) (linesIn (drop (r .next) (now (t .entry)))) ⌝ }
-    ensures { λ r. ⌜ (from ≤ r .next) × (r .next ≤ length (now (t .entry))) ⌝ }
+// Past the value lines from `from` on, as far as they are in order: they have no rule and no class. The first value stands at position p of its record.
+fn past_values(t: &[u8], from: usize, begun: State, p: usize) -> Past
+    requires { ⌜ (from ≤ length (now t)) × (begun .line ≤ from) × (begun .entries ≤ begun .line) × (p ≤ 2 ^ 38) ⌝ }
+    ensures { λ r. ⌜ Ahead begun p (linesIn (drop from (now (t .entry)))) (r .state) (r .at) (linesIn (drop (r .next) (now (t .entry)))) ⌝ }
+    ensures { λ r. ⌜ (from ≤ r .next) × (r .next ≤ length (now (t .entry))) × (r .at ≤ 2 ^ 38) ⌝ }
     ensures { λ r. ⌜ (r .state .line ≤ r .next) × (r .state .entries ≤ r .state .line) ⌝ }
 {
     let n = t.len();
     let mut state = begun;
     let mut next = from;
+    let mut at = p;
     while next < n {
         let end = end_of(t, next);
         if end == n {
-            return Past { state, next };
+            return Past { state, next, at };
         }
         if !is_value(t, next, end) {
-            return Past { state, next };
+            return Past { state, next, at };
         }
-        match strict_at(t, next + 2, end) {
-            Strict::Is(value) => match order::step_line(
-                state,
-                Said::Value {
-                    reference: false,
-                    value,
-                },
-            ) {
+        let spelled = next + 2;
+        match strict_at(t, spelled, end) {
+            Strict::Is(value) => match order::value_step(state, order::is_missing(value)) {
                 Step::On(st) => {
+                    at = behind_value(at, &t[spelled..end], value);
                     state = st;
                     next = end + 1;
                 }
                 Step::Off(_) => {
-                    return Past { state, next };
+                    return Past { state, next, at };
                 }
             },
             Strict::Not => {
-                return Past { state, next };
+                return Past { state, next, at };
             }
         }
     }
-    Past { state, next }
+    Past { state, next, at }
 }
 
 // All lines; the classes of all entries are laid over the table. A sheet whose lines are wrong is not asked further.
@@ -72,6 +74,8 @@ pub fn walk(classes: &mut [u8], t: &[u8]) -> Walked
     ensures { λ r. ⌜ r .verdict ≡ verdictOf (now (t .entry)) ⌝ }
     ensures { λ r. ⌜ IfGood (r .verdict) (r .pass ≡ rulesPass (now (t .entry))) ⌝ }
     ensures { λ r. ⌜ IfGood (r .verdict) (now (classes .exit) ≡ laid (now (classes .entry)) 0 (classesIn (linesIn (now (t .entry))))) ⌝ }
+    ensures { λ r. ⌜ IfGood (r .verdict) (within (r .tally) ≡ linesOfSheet (linesIn (now (t .entry)))) ⌝ }
+    ensures { λ r. ⌜ Under (2 ^ 36) (r .tally) ⌝ }
 {
     let n = t.len();
     let mut st = State {
@@ -81,6 +85,14 @@ pub fn walk(classes: &mut [u8], t: &[u8]) -> Walked
         run: 0,
         line: 0,
     };
+    let mut tally = Tally {
+        s: 0,
+        global: 8,
+        field: 2,
+        d: 0,
+        p: 0,
+        at: 0,
+    };
     let mut pass = Pass::Good;
     let mut at = 0;
     let mut k = 0;
@@ -88,23 +100,37 @@ pub fn walk(classes: &mut [u8], t: &[u8]) -> Walked
         let end = end_of(t, at);
         if end == n {
             let verdict = order::wrong_piece(st, is_mark(t[at]));
-            return Walked { verdict, pass };
+            return Walked {
+                verdict,
+                pass,
+                tally,
+            };
         }
         let said = line_at(t, at, end);
         pass = rule_too(pass, said, st.line + 1);
         k = keep(classes, k, said);
+        let more = tally_said(tally, said);
         match order::step_line(st, said) {
             Step::On(next) => {
-                let past = past_values(t, end + 1, next);
+                let past = past_values(t, end + 1, next, more.at);
+                tally = with_values(more, past.at);
                 st = past.state;
                 at = past.next;
             }
             Step::Off(line) => {
                 let verdict = Verdict::Wrong(line);
-                return Walked { verdict, pass };
+                return Walked {
+                    verdict,
+                    pass,
+                    tally,
+                };
             }
         }
     }
     let verdict = order::finish_of(st);
-    Walked { verdict, pass }
+    Walked {
+        verdict,
+        pass,
+        tally,
+    }
 }

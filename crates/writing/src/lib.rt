@@ -1,6 +1,6 @@
-// Writing: the checks of a sheet in the paper's order, 1 (list only), 17, 8, each entry 9 and 13, all 10, each entry 14, 15, 18.
+// Writing: the checks of a sheet in the paper's order, 1 (list only), 17, 8, each entry 9 and 13, all 10, each entry 14, 15, 18; and the lines of its file (19).
 // A sheet is walked twice. The first walk asks 17 of each line, and 8, 9 and 13, the first refusal of which is kept, since 17 comes before all
-// of them; on it the class of each entry is put into a table. The second walk asks 10 of each entry, then 14, 15 and 18 with the value
+// of them; on it the class of each entry is put into a table, and the lines of the file are counted. The second walk asks 10 of each entry, then 14, 15 and 18 with the value
 // lines behind it, and goes on behind these; behind a refused entity only 10 is left to ask.
 // `first` is the first walk, `heads` reads the lines that are asked on the second, `rules` asks 8, 9 and 13, `table` keeps the class of each
 // entry, `refer` asks 10, `entity` asks 14, 15 and 18 and makes the second walk.
@@ -11,6 +11,9 @@ pub mod refer;
 pub mod rules;
 pub mod table;
 
+use canonical::Lines;
+use canonical::Tally;
+use canonical::counts::lines_of;
 use columns::Fault;
 use columns::SheetLine;
 use layouts::Stepped;
@@ -47,21 +50,24 @@ pub struct Asked {
     pub lines: usize,
 }
 
-// Where the first walk stands behind value lines: the state, and the place.
+// Where the first walk stands behind value lines: the state, the place, and the position behind the last value in its record.
 pub struct Past {
     pub state: State,
     pub next: usize,
+    pub at: usize,
 }
 
-// What the first walk tells: the verdict on a sheet's lines and, where that is good, whether all is good that lines are asked by themselves.
+// What the first walk tells: the verdict on a sheet's lines and, where that is good, whether all is good that lines are asked by themselves, and
+// what its lines come to.
 pub struct Walked {
     pub verdict: Verdict,
     pub pass: Pass,
+    pub tally: Tally,
 }
 
-// The number of entries of a sheet that passes all checks, or its first refusal.
+// The number of entries of a sheet that passes all checks, and the lines of its file; or its first refusal.
 pub enum Ruled {
-    Good(usize),
+    Good { entries: usize, lines: Lines },
     Refused { fault: Fault, line: SheetLine },
 }
 
@@ -90,6 +96,7 @@ pub fn check(list: u64, t: &[u8]) -> Ruled
     let walked = first::walk(&mut classes, t);
     let verdict = walked.verdict;
     let first = walked.pass;
+    let lines = lines_of(walked.tally);
     match verdict {
         Verdict::Wrong(line) => Ruled::Refused {
             fault: Fault::SheetLine,
@@ -99,7 +106,7 @@ pub fn check(list: u64, t: &[u8]) -> Ruled
             let found = passes(list, &classes, n, t, first);
             match found {
                 Pass::Refused { fault, line } => Ruled::Refused { fault, line },
-                Pass::Good => Ruled::Good(n),
+                Pass::Good => Ruled::Good { entries: n, lines },
             }
         }
     }

@@ -1,4 +1,4 @@
--- A refusal is that of writing; the file's lines are counted before they are laid.
+-- A refusal is that of writing; the lines of the file are known before they are laid.
 use borrow.Author.Needs.{needs}
 use Rattle.rewrap.proofs.WritingAnswers.{writings}
 use Rattle.rewrap.proofs.write.Statement.{statement}
@@ -12,7 +12,6 @@ write-spec =
     (λ c. search (needs, writings))
     (λ c κs. search (needs, writings))
     (λ c. search (needs, writings))
-    (λ c κs. search (needs, writings))
     (λ c. search (needs, writings))
     (λ c κs. search (needs, writings))
     (λ c. search (needs, writings))

@@ -1,11 +1,11 @@
 -- Each count is one that a file may have.
 use borrow.Author.Needs.{needs}
 use Rattle.canonical.proofs.Tallies.{tallies}
-use Rattle.canonical.proofs.counts.counts_of.Statement.{statement}
-use Rattle.canonical.proofs.counts.counts_of.Tie as tie
+use Rattle.canonical.proofs.counts.counts_in.Statement.{statement}
+use Rattle.canonical.proofs.counts.counts_in.Tie as tie
 
-pub counts-of-spec : {M : Type 1} → statement M
-counts-of-spec =
+pub counts-in-spec : {M : Type 1} → statement M
+counts-in-spec =
     tie.close
     (tie.spec
     (λ c κs. search (needs, tallies))
