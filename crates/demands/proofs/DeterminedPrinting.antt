@@ -6,6 +6,8 @@ use Rattle.printing.proofs.characters.put_text.Kinds as characters-put-text-kin
 use Rattle.printing.proofs.characters.put_text.Reads as characters-put-text-reads
 use Rattle.printing.proofs.globals.put_globals.Kinds as globals-put-globals-kinds
 use Rattle.printing.proofs.globals.put_globals.Reads as globals-put-globals-reads
+use Rattle.printing.proofs.lines.put_mostly_real.Kinds as lines-put-mostly-real-kinds
+use Rattle.printing.proofs.lines.put_mostly_real.Reads as lines-put-mostly-real-reads
 use Rattle.printing.proofs.lines.put_value_line.Kinds as lines-put-value-line-kinds
 use Rattle.printing.proofs.lines.put_value_line.Reads as lines-put-value-line-reads
 use Rattle.printing.proofs.lines.put_global_line.Kinds as lines-put-global-line-kinds
@@ -46,6 +48,9 @@ pub globals-is-missing : NoSecond globals-is-missing-kinds.ps globals-is-missing
 globals-is-missing κs a z z′ left left′ p q = (once p q, refl)
 
 -- ---- printing::lines
+
+pub lines-put-mostly-real : NoSecond lines-put-mostly-real-kinds.ps lines-put-mostly-real-kinds.r lines-put-mostly-real-reads.Post
+lines-put-mostly-real κs a z z′ left left′ p q = wrote-first (left .1) (p .0) (q .0)
 
 pub lines-put-value-line : NoSecond lines-put-value-line-kinds.ps lines-put-value-line-kinds.r lines-put-value-line-reads.Post
 lines-put-value-line κs a z z′ left left′ p q = wrote-first (left .1) (p .0) (q .0)

@@ -70,4 +70,10 @@ met-more file base lines st c d pc pd q h u {g} eg s ex = rw ex (by g (sym eg) s
         let i : q ≤ length (textOf file base 64 lines) = omega (arith, length-text file base 64 lines st) in
         absurd (none-wrong 64 c d (textOf file base 64 lines) pc pd q i (u .is) e)
 
+-- a value that is found ends behind its start, within the text
+pub found-sane : (p m : ℕ) {g : Got} {v : Value} {s next : ℕ} {last : Bool} → Sane p m g → g ≡ Found v s next last → (p < next) × (next ≤ m) × Writable m v
+found-sane p m h e =
+    let k = rw e at h in
+    (omega arith, omega arith, k .3)
+
 pub ruleset meeting = (met-found, met-refused, met-same, met-in, met-fits, met-more)

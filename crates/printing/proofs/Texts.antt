@@ -1,6 +1,6 @@
 -- Characters of a record's text and lines with a value. Assumes nothing.
 use mathlib.Core.Path.{_≡_, refl, sym, ap, _∙_}
-use mathlib.Core.Bool.{Bool}
+use mathlib.Core.Bool.{Bool, cond}
 use mathlib.Core.List.{List, [], _∷_, _++_}
 use Prim.Native.Nat.{ℕ, suc, _+_, _-_, _*_, _^_, _≤_, _<_}
 use native.Mathlib.Omega.{arith}
@@ -11,7 +11,7 @@ use Rattle.columns.specs.Laid.{Wrote}
 use Rattle.columns.proofs.Writes.{then, wrote-none, wrote-same, wrote-more, wrote-length}
 use Rattle.values.specs.declared.Value.{Value}
 use Rattle.values.specs.declared.Value.the-variants.{Default, Whole, Real, Text}
-use Rattle.values.specs.Value.{itemOf}
+use Rattle.values.specs.Value.{real, itemOf, spelled}
 use Rattle.values.specs.Writing.{front, chars, Inside}
 use Rattle.records.specs.Reading.{Stands, Writable}
 use Rattle.records.proofs.Texts.{length-text, small}
@@ -94,5 +94,16 @@ module _ {o o₁ o₂ o₃ : List ℕ} {at r₁ r₂ r₃ : ℕ} (file : List �
 
   pub line-value : (reference : Bool) → Wrote o at (valueHead reference v) o₁ r₁ → Wrote o at (lineOf (value reference (itemOf (textOf file base w lines) v)) ++ (10 ∷ [])) o₃ r₃
   line-value reference p = wrote-same (then p (then q s)) (value-line reference (textOf file base w lines) v (stands-inside file base w lines st v fits))
+
+-- the line of a real, part by part
+pub line-real : {o o₁ o₂ o₃ o₄ : List ℕ} {at r₁ r₂ r₃ r₄ : ℕ} {b : ℕ} (reference neg : Bool) (m : ℕ) (eneg : Bool) (e : ℕ) (double : Bool) → b ≡ cond reference 82 86
+    → Wrote o at (b ∷ []) o₁ r₁ → Wrote o₁ r₁ (9 ∷ []) o₂ r₂ → Wrote o₂ r₂ (spelled (real neg m eneg e double)) o₃ r₃ → Wrote o₃ r₃ (10 ∷ []) o₄ r₄
+    → Wrote o at (lineOf (value reference (real neg m eneg e double)) ++ (10 ∷ [])) o₄ r₄
+unfolding lineOf
+line-real reference neg m eneg e double eb p q r s = wrote-same (then p (then q (then r s))) (rw eb)
+
+pub line-fields : {o o′ : List ℕ} {at r : ℕ} (t : List ℕ) (reference : Bool) (v : Value) {neg : Bool} {m : ℕ} {eneg : Bool} {e : ℕ} {double : Bool} → v ≡ Real neg m eneg e double
+    → Wrote o at (lineOf (value reference (real neg m eneg e double)) ++ (10 ∷ [])) o′ r → Wrote o at (lineOf (value reference (itemOf t v)) ++ (10 ∷ [])) o′ r
+line-fields t reference v h p = rw h p
 
 pub ruleset lined = (chars-default, chars-whole, chars-real, chars-text, chars-room, chars-few, line-global, line-value)

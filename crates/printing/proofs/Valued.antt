@@ -8,6 +8,7 @@ use native.Mathlib.Omega.{arith}
 use lib.ListN.{length, drop, replicate}
 use borrow.Author.Tests.{not-true, not-false}
 use Rattle.columns.specs.Columns.{textOf}
+use Rattle.columns.specs.declared.Fault.{Fault}
 use Rattle.columns.specs.Laid.{Wrote, Owes}
 use Rattle.columns.proofs.Writes.{owes-all, owes-less, owes-none, owes-same, wrote-length}
 use Rattle.values.specs.declared.Value.{Value}
@@ -20,10 +21,14 @@ use Rattle.records.specs.Reading.{Stands}
 use Rattle.records.proofs.Texts.{length-text, small}
 use Rattle.records.proofs.Items.{trimmed-first}
 use Rattle.records.proofs.Steps.{last-is, more-is, none-wrong}
+use Rattle.layouts.specs.declared.State.{State}
 use Rattle.layouts.specs.declared.Stepped.{Stepped}
 use Rattle.layouts.specs.declared.Stepped.the-variants.{Go, Bad}
 use Rattle.layouts.specs.Stepping.{stepped}
 use Rattle.layouts.specs.Entities.{feed, run, mark, marksFrom, marks}
+use Rattle.layouts.specs.Named.{named}
+use Rattle.layouts.specs.Machine.{refers, kindAt, stand, runsOn}
+use Rattle.layouts.proofs.Steps.{step-runs}
 use Rattle.layouts.proofs.Runs.{feed-read}
 use Rattle.model.specs.Model.{marked}
 use Rattle.sheets.specs.Sheet.{Line, value, lineOf, valueLines, isMissing, textOf as sheetBytes}
@@ -237,6 +242,37 @@ module _ (file : List ℕ) (base lines : ℕ) (st : Stands file base 64 lines) (
               ∙ ap (λ (z : Stepped). valueBytes (markedFrom types g (owedBefore owed v)) ++ valueBytes (markedFrom types z (trimmed us))) (sym eu) in
               record { left = us; is = met .is; owes = owes-less (owes-same (p .owes) bytes) w }
 
+    module _ {o bs o₁ : List ℕ} {at r₁ : ℕ} (g : Stepped) (owed q : ℕ) {last : Bool} (p : Owing types t c d o at bs o₁ r₁ g owed q last) (h : last ≡ false) (i : q ≤ lines * 64) {got : Got} (eg : got ≡ valueAt 64 c d t q) where
+      -- no value of it is refused
+      pub values-refused : {fault : Fault} {s z : ℕ} {o₂ : List ℕ} {r₂ : ℕ} → got ≡ Refused fault s z → Wrote o at bs o₂ r₂
+      values-refused e =
+          let l = left-some (p .is) h in
+          let k : q ≤ length t = omega (arith, length-text file base 64 lines st) in
+          absurd (none-wrong 64 c d t pc pd q k (l .1) (sym eg ∙ e))
+
+      module _ {v : Value} {s next : ℕ} {end : Bool} (e : got ≡ Found v s next end) {b : Bool} (eb : b ≡ isMissing v) where
+        met-is : record { value = v; next = next; last = end } ≡ metOf (valueAt 64 c d t q)
+        met-is = sym (ap metOf (sym eg ∙ e))
+
+        pub found-default : b ≡ true → Owing types t c d o at bs o₁ r₁ g (owed + 1) next end
+        found-default k = values-default g owed q p h i met-is eb k
+
+        pub found-given : b ≡ false → {o₂ : List ℕ} {r₂ : ℕ} {u : Stepped} → u ≡ run types g (owedBefore owed (itemOf t v))
+            → Wrote o₁ r₁ (valueBytes (markedFrom types g (owedBefore owed (itemOf t v)))) o₂ r₂ → Owing types t c d o at bs o₂ r₂ u 0 next end
+        found-given k eu w = values-given g owed q p h i met-is eb k eu w
+
+        -- where it runs on: its mark is that of the place, and one of it is left less
+        pub found-runs : b ≡ false → (s′ u : State) → g ≡ Go s′ → owed ≡ 0 → (y : Bool) → y ≡ runsOn s′ v → y ≡ true → u ≡ stand s′ (s′ .at) (s′ .left - 1) → (m : Bool) → m ≡ refers (kindAt s′)
+            → {o₂ : List ℕ} {r₂ : ℕ} → Wrote o₁ r₁ (lineOf (value m (itemOf t v)) ++ (10 ∷ [])) o₂ r₂ → Owing types t c d o at bs o₂ r₂ (Go u) owed next end
+        found-runs k s′ u e′ z y ey yt eu m em w =
+            let low : owed ≤ 0 = omega arith in
+            let step : Go u ≡ stepped types g v = rw e′ (step-runs s′ u v (named types v) y ey yt eu) in
+            let mk : m ≡ mark g = rw e′ em in
+            let all = owes-all o₁ r₁ (valueBytes (markedFrom types g (owedBefore owed (itemOf t v)))) in
+            let next : Owing types t c d o at bs _ _ (Go u) 0 next end
+            = found-given k (owed-stepped types t v g (run types g (owedBefore owed (itemOf t v))) owed refl low step) (owed-last types t v g owed all low mk w) in
+            rw z next
+
   -- there is room for what is owed
   pub values-room : (at next owed q : ℕ) → q ≤ lines * 64 → next + 1100 * owed ≤ at + 1100 * q → at < 2 ^ 58 → next + 1100 * owed < 2 ^ 59
   values-room at next owed q i h k = omega (arith, small file base 64 lines st)
@@ -244,4 +280,4 @@ module _ (file : List ℕ) (base lines : ℕ) (st : Stands file base 64 lines) (
   pub values-owed : (at next owed q : ℕ) → q ≤ lines * 64 → next + 1100 * owed ≤ at + 1100 * q → at < 2 ^ 58 → owed + 1 < 2 ^ 64
   values-owed at next owed q i h k = omega (arith, small file base 64 lines st)
 
-pub ruleset valued = (not-true, not-false, values-all, values-end, values-read, values-default, values-given, values-room, values-owed, wrote-length)
+pub ruleset valued = (not-true, not-false, values-all, values-end, values-room, values-owed, wrote-length)

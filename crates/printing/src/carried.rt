@@ -1,12 +1,19 @@
 // The value lines of an entity.
 use crate::Behind;
 use crate::globals::is_missing;
+use crate::lines::put_mostly_real;
 use crate::lines::put_value_line;
 use crate::taking::met_at;
+use entities::COLUMNS;
 use entities::marks::mark_of;
 use entities::marks::mark_step;
 use entities::marks::marks_begun;
 use layouts::Stepped;
+use layouts::machine::is_reference;
+use layouts::machine::runs_on;
+use layouts::machine::with_left;
+use records::Got;
+use records::reading::value_at;
 use values::Value;
 ghost use mathlib.Core.Path.{_≡_};
 ghost use Prim.Native.Nat.{ℕ, _+_, _*_, _^_, _≤_, _<_};
@@ -57,7 +64,8 @@ fn put_owed(
     Behind { next: end, marks }
 }
 
-// The values behind the type, up to the last that is no default, each with its mark.
+// The values behind the type, up to the last that is no default, each with its mark. Most are reals where more of their kind follow, with no default owed before
+// them: they are answered here, for a state or a value that is passed on is copied through memory.
 pub fn put_values(
     out: &mut [u8],
     at: usize,
@@ -83,18 +91,54 @@ pub fn put_values(
     let mut owed = 0;
     let mut next = at;
     while !last {
-        let y = met_at(file, base, lines, c, d, q);
-        let v = y.value;
-        q = y.next;
-        last = y.last;
-        if is_missing(v) {
-            owed += 1;
-            continue;
+        let got = value_at(file, base, COLUMNS, lines, c, d, q);
+        match got {
+            Got::Refused {
+                fault: _,
+                start: _,
+                at: _,
+            } => {
+                return next;
+            }
+            Got::Found {
+                value,
+                start: _,
+                next: behind,
+                last: end,
+            } => {
+                q = behind;
+                last = end;
+                if is_missing(value) {
+                    owed += 1;
+                    continue;
+                }
+                if owed == 0 {
+                    match g {
+                        Stepped::Go(s) => {
+                            if runs_on(s, value) {
+                                let reference = is_reference(s);
+                                next = put_mostly_real(
+                                    out,
+                                    next,
+                                    file,
+                                    base,
+                                    lines,
+                                    reference,
+                                    value,
+                                );
+                                g = Stepped::Go(with_left(s, s.left - 1));
+                                continue;
+                            }
+                        }
+                        Stepped::Bad => {}
+                    }
+                }
+                let z = put_owed(out, next, file, base, lines, first, n, g, owed, value);
+                g = z.marks;
+                next = z.next;
+                owed = 0;
+            }
         }
-        let z = put_owed(out, next, file, base, lines, first, n, g, owed, v);
-        g = z.marks;
-        next = z.next;
-        owed = 0;
     }
     next
 }

@@ -5,13 +5,15 @@ use entities::COLUMNS;
 use sheets::writing::put_global_head;
 use sheets::writing::put_value_head;
 use values::Value;
+use values::spell;
 ghost use mathlib.Core.Path.{_≡_};
+ghost use mathlib.Core.Bool.{cond};
 ghost use mathlib.Core.List.{[], _∷_, _++_};
 ghost use Prim.Native.Nat.{ℕ, _+_, _*_, _^_, _≤_, _<_};
 ghost use lib.ListN.{length};
 ghost use Rattle.columns.specs.Columns.{textOf};
 ghost use Rattle.columns.specs.Laid.{Wrote};
-ghost use Rattle.values.specs.Value.{itemOf};
+ghost use Rattle.values.specs.Value.{real, itemOf};
 ghost use Rattle.values.specs.Writing.{chars};
 ghost use Rattle.records.specs.Reading.{Stands, Writable};
 ghost use Rattle.sheets.specs.Sheet.{Line, lineOf};
@@ -64,6 +66,59 @@ pub fn put_value_line(
     let a = put_value_head(out, at, reference, v);
     let b = put_chars(out, a, file, base, COLUMNS, lines, v);
     emit::put(out, b, 10)
+}
+
+fn mark_of(reference: bool) -> u8
+    ensures { λ r. ⌜ r ≡ cond reference 82 86 ⌝ }
+{
+    if reference { 82 } else { 86 }
+}
+
+// The line of a real, by its fields: a value that is passed on is copied through memory.
+fn put_real_line(
+    out: &mut [u8],
+    at: usize,
+    reference: bool,
+    neg: bool,
+    m: u64,
+    eneg: bool,
+    e: u32,
+    double: bool,
+) -> usize
+    requires { ⌜ at < 2 ^ 59 ⌝ }
+    ensures { λ r. ⌜ Wrote (now (out .entry)) at (lineOf (Line.value reference (real neg m eneg e double)) ++ (10 ∷ [])) (now (out .exit)) r ⌝ }
+    ensures { λ r. ⌜ r ≤ at + 1100 ⌝ }
+{
+    let a = emit::put(out, at, mark_of(reference));
+    let b = emit::put(out, a, 9);
+    let c = spell::put_real(out, b, neg, m, eneg, e, double);
+    emit::put(out, c, 10)
+}
+
+// The line of an entity's value, which is mostly a real.
+pub fn put_mostly_real(
+    out: &mut [u8],
+    at: usize,
+    file: &[u8],
+    base: usize,
+    lines: usize,
+    reference: bool,
+    v: Value,
+) -> usize
+    requires { ⌜ Stands (now file) base 64 lines × Writable (lines * 64) v × (at < 2 ^ 59) ⌝ }
+    ensures { λ r. ⌜ Wrote (now (out .entry)) at (lineOf (Line.value reference (itemOf (textOf (now (file .entry)) base 64 lines) v)) ++ (10 ∷ [])) (now (out .exit)) r ⌝ }
+    ensures { λ r. ⌜ r ≤ at + 1100 ⌝ }
+{
+    match v {
+        Value::Real {
+            neg,
+            m,
+            eneg,
+            e,
+            double,
+        } => put_real_line(out, at, reference, neg, m, eneg, e, double),
+        _ => put_value_line(out, at, file, base, lines, reference, v),
+    }
 }
 
 // The line of Global field n.
