@@ -7,6 +7,7 @@
 #include <cstring>
 #include <functional>
 #include <initializer_list>
+#include <limits>
 #include <string>
 #include <vector>
 
@@ -28,16 +29,20 @@ double millisecondsOf(const std::function<void()> &work) {
     return std::chrono::duration<double, std::milli>(std::chrono::steady_clock::now() - start).count();
 }
 
-// The median of at least five runs, and of more where a run is short. One run before them warms up.
-double median(const std::function<void()> &work) {
-    constexpr std::size_t leastRuns = 5, mostRuns = 41;
-    constexpr double enough = 300;
-    double spent = millisecondsOf(work);
-    std::vector<double> times;
-    for (spent = 0; times.size() < leastRuns || (spent < enough && times.size() < mostRuns); spent += times.back())
-        times.push_back(millisecondsOf(work));
-    std::nth_element(times.begin(), times.begin() + static_cast<std::ptrdiff_t>(times.size() / 2), times.end());
-    return times[times.size() / 2];
+// The least time of each kind of work over rounds in which they take turns: what else a machine does meanwhile only adds to a time, and to all
+// kinds alike. The first round warms up.
+std::vector<double> leastTimes(const std::vector<std::function<void()>> &works) {
+    constexpr std::size_t leastRounds = 15, mostRounds = 101;
+    constexpr double enough = 3000;
+    std::vector<double> least(works.size(), std::numeric_limits<double>::infinity());
+    double spent = 0;
+    for (std::size_t round = 0; round <= leastRounds || (spent < enough && round <= mostRounds); ++round)
+        for (std::size_t kind = 0; kind < works.size(); ++kind) {
+            const double time = millisecondsOf(works[kind]);
+            if (round > 0) least[kind] = std::min(least[kind], time);
+            spent += time;
+        }
+    return least;
 }
 
 const std::uint8_t *bytesOf(const std::string &text) { return reinterpret_cast<const std::uint8_t *>(text.data()); }
@@ -76,19 +81,18 @@ Times measure(std::size_t lines) {
     const std::string file = tests::largeFile(lines);
     const std::string sheet = plain::read(allTypes, file, noLimit).bytes;
     std::vector<std::uint8_t> output(std::max(file.size(), sheet.size()));
-    Times times{};
-    times.lines = lines;
-    times.read = median([&] { sink = szelmikra_read(allTypes, bytesOf(file), file.size(), output.data(), output.size()).length; });
-    times.plainRead = median([&] { sink = plain::read(allTypes, file, noLimit).length; });
-    times.write =
-        median([&] { sink = szelmikra_write(allTypes, bytesOf(sheet), sheet.size(), output.data(), output.size()).length; });
-    times.plainWrite = median([&] { sink = plain::write(allTypes, sheet, noLimit).length; });
-    times.pass = median([&] { sink = splitFields(file); });
-    times.copy = median([&] {
-        std::memcpy(output.data(), file.data(), file.size());
-        sink = output[file.size() / 2];
+    const std::vector<double> least = leastTimes({
+        [&] { sink = szelmikra_read(allTypes, bytesOf(file), file.size(), output.data(), output.size()).length; },
+        [&] { sink = szelmikra_write(allTypes, bytesOf(sheet), sheet.size(), output.data(), output.size()).length; },
+        [&] { sink = plain::read(allTypes, file, noLimit).length; },
+        [&] { sink = plain::write(allTypes, sheet, noLimit).length; },
+        [&] { sink = splitFields(file); },
+        [&] {
+            std::memcpy(output.data(), file.data(), file.size());
+            sink = output[file.size() / 2];
+        },
     });
-    return times;
+    return {lines, least[0], least[1], least[2], least[3], least[4], least[5]};
 }
 
 void target(const char *what, double ratio, double limit) {
@@ -98,7 +102,7 @@ void target(const char *what, double ratio, double limit) {
 }  // namespace
 
 int main() {
-    std::printf("milliseconds, median of 5 to 41 runs\n");
+    std::printf("milliseconds, least of 15 to 101 rounds\n");
     std::printf("%8s %10s %10s %12s %12s %12s %10s\n", "lines", "read", "write", "plain read", "plain write", "plain pass",
                 "memcpy");
     std::vector<Times> all;
