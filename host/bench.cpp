@@ -29,8 +29,8 @@ double millisecondsOf(const std::function<void()> &work) {
     return std::chrono::duration<double, std::milli>(std::chrono::steady_clock::now() - start).count();
 }
 
-// The least time of each kind of work over rounds in which they take turns: what else a machine does meanwhile only adds to a time, and to all
-// kinds alike. The first round warms up.
+// The least time of each kind of work over rounds in which they take turns: what else a machine does meanwhile only adds to a time,
+// and to all kinds alike. The first round warms up.
 std::vector<double> leastTimes(const std::vector<std::function<void()>> &works) {
     constexpr std::size_t leastRounds = 15, mostRounds = 101;
     constexpr double enough = 3000;
