@@ -5,7 +5,6 @@ use crate::PARAMETER;
 use crate::START;
 use crate::TERMINATE;
 use cards::Counts;
-use columns::emit;
 use directory::Fields;
 use directory::writing;
 ghost use mathlib.Core.Path.{_≡_};

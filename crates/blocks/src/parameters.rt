@@ -5,7 +5,6 @@ use crate::PARAMETER;
 use crate::lines;
 use crate::text;
 use cards::LINE_BYTES;
-use columns::emit;
 use records::flow;
 use sheets::reading;
 use values::Value;

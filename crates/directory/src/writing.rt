@@ -2,7 +2,6 @@
 use crate::Fields;
 use crate::SLOT_COLUMNS;
 use columns::Signed;
-use columns::emit;
 ghost use mathlib.Core.Path.{_≡_};
 ghost use Prim.Native.Nat.{_+_, _^_, _≤_, _<_};
 ghost use lib.ListN.{length};

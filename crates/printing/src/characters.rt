@@ -1,5 +1,4 @@
 // Characters of a record's text, which may cross lines of its file.
-use columns::emit;
 use records::reading::char_at;
 ghost use mathlib.Core.Path.{_≡_};
 ghost use Prim.Native.Nat.{ℕ, _+_, _*_, _^_, _≤_, _<_};

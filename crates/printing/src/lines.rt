@@ -1,6 +1,5 @@
 // A line with a value that was read in a record's text.
 use crate::characters::put_text;
-use columns::emit;
 use entities::COLUMNS;
 use sheets::writing::put_global_head;
 use sheets::writing::put_value_head;

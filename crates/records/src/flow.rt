@@ -1,7 +1,6 @@
 // The canonical flow: values written into the columns of a file's lines. With an empty buffer nothing is written, and the answer measures.
 use crate::position::column_of;
 use crate::position::index_of;
-use columns::emit;
 use values::Value;
 use values::spell;
 ghost use mathlib.Core.Path.{_≡_};

@@ -1,7 +1,6 @@
 // Sheets out: each function writes a line and its LF, clipped to the buffer, and returns the place after it.
 use columns::DirectoryNumber;
 use columns::Signed;
-use columns::emit;
 use directory::Fields;
 use values::Value;
 use values::spell;

@@ -1,5 +1,4 @@
 // What igsheet prints of a file: its sheet, or the line that says why there is none.
-use columns::emit;
 ghost use mathlib.Core.Path.{_≡_};
 ghost use mathlib.Core.List.{[], _∷_, _++_};
 ghost use Prim.Native.Nat.{_+_, _^_, _≤_, _<_};

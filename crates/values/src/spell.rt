@@ -1,6 +1,5 @@
 // A value's one spelling, laid over a lent buffer; with an empty buffer it is measured.
 use crate::Value;
-use columns::emit;
 ghost use mathlib.Core.Path.{_≡_};
 ghost use mathlib.Core.List.{[], _∷_};
 ghost use Prim.Native.Nat.{ℕ, _+_, _^_, _≤_, _<_};

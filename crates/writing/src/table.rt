@@ -1,6 +1,5 @@
 // The class of each entry of a sheet: kept in a table for as many entries as a file can have, read off the sheet past that.
 use crate::heads::head_at;
-use columns::emit;
 use references::NO_ENTRY;
 use sheets::Said;
 use sheets::reading::end_of;
