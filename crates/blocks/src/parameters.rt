@@ -8,7 +8,6 @@ use cards::LINE_BYTES;
 use records::flow;
 use sheets::reading;
 use values::Value;
-use values::back;
 ghost use mathlib.Core.Path.{_≡_};
 ghost use mathlib.Core.Bool.{false};
 ghost use mathlib.Core.List.{_++_};
@@ -47,7 +46,7 @@ fn put_spelled(out: &mut [u8], base: usize, p: usize, l: &[u8]) -> usize
     requires { ⌜ (base ≤ 2 ^ 40) × (p ≤ 2 ^ 40) × (strictOf (now l) ≡ Is (meant (now l))) ⌝ }
     ensures { λ r. ⌜ Put base 64 (now (out .entry)) p (piece 64 p (itemOf (now (l .entry)) (meant (now (l .entry)))) false) (now (out .exit)) r ⌝ }
 {
-    let n = back::front_of(l);
+    let n = strict::front_of(l);
     let g = gap_of(p, n + 1);
     let q = flow::put_run(out, base, COLUMNS, p, 32, g);
     let e = flow::put_all(out, base, COLUMNS, q, l);

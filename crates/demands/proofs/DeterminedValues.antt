@@ -1,31 +1,31 @@
 -- No second result fits the contract of a public function of crate values. Assumes nothing.
 use mathlib.Core.Path.{refl}
-use Rattle.values.proofs.back.strict.Kinds as back-strict-kinds
-use Rattle.values.proofs.back.strict.Reads as back-strict-reads
-use Rattle.values.proofs.back.front_of.Kinds as back-front-of-kinds
-use Rattle.values.proofs.back.front_of.Reads as back-front-of-reads
-use Rattle.values.proofs.numbers.scan_at.Kinds as numbers-scan-at-kinds
-use Rattle.values.proofs.numbers.scan_at.Reads as numbers-scan-at-reads
-use Rattle.values.proofs.numbers.read.Kinds as numbers-read-kinds
-use Rattle.values.proofs.numbers.read.Reads as numbers-read-reads
-use Rattle.values.proofs.numbers.head_of.Kinds as numbers-head-of-kinds
-use Rattle.values.proofs.numbers.head_of.Reads as numbers-head-of-reads
-use Rattle.values.proofs.spell.put_whole.Kinds as spell-put-whole-kinds
-use Rattle.values.proofs.spell.put_whole.Reads as spell-put-whole-reads
-use Rattle.values.proofs.spell.put_real.Kinds as spell-put-real-kinds
-use Rattle.values.proofs.spell.put_real.Reads as spell-put-real-reads
-use Rattle.values.proofs.spell.put_head.Kinds as spell-put-head-kinds
-use Rattle.values.proofs.spell.put_head.Reads as spell-put-head-reads
-use Rattle.values.proofs.spell.put_front.Kinds as spell-put-front-kinds
-use Rattle.values.proofs.spell.put_front.Reads as spell-put-front-reads
-use Rattle.values.proofs.spell.whole_len.Kinds as spell-whole-len-kinds
-use Rattle.values.proofs.spell.whole_len.Reads as spell-whole-len-reads
-use Rattle.values.proofs.spell.real_len.Kinds as spell-real-len-kinds
-use Rattle.values.proofs.spell.real_len.Reads as spell-real-len-reads
-use Rattle.values.proofs.spell.head_len.Kinds as spell-head-len-kinds
-use Rattle.values.proofs.spell.head_len.Reads as spell-head-len-reads
-use Rattle.values.proofs.spell.front_len.Kinds as spell-front-len-kinds
-use Rattle.values.proofs.spell.front_len.Reads as spell-front-len-reads
+use Rattle.strict.proofs.strict.Kinds as back-strict-kinds
+use Rattle.strict.proofs.strict.Reads as back-strict-reads
+use Rattle.strict.proofs.front_of.Kinds as back-front-of-kinds
+use Rattle.strict.proofs.front_of.Reads as back-front-of-reads
+use Rattle.numbers.proofs.scan_at.Kinds as numbers-scan-at-kinds
+use Rattle.numbers.proofs.scan_at.Reads as numbers-scan-at-reads
+use Rattle.numbers.proofs.read.Kinds as numbers-read-kinds
+use Rattle.numbers.proofs.read.Reads as numbers-read-reads
+use Rattle.numbers.proofs.head_of.Kinds as numbers-head-of-kinds
+use Rattle.numbers.proofs.head_of.Reads as numbers-head-of-reads
+use Rattle.spell.proofs.put_whole.Kinds as spell-put-whole-kinds
+use Rattle.spell.proofs.put_whole.Reads as spell-put-whole-reads
+use Rattle.spell.proofs.put_real.Kinds as spell-put-real-kinds
+use Rattle.spell.proofs.put_real.Reads as spell-put-real-reads
+use Rattle.spell.proofs.put_head.Kinds as spell-put-head-kinds
+use Rattle.spell.proofs.put_head.Reads as spell-put-head-reads
+use Rattle.spell.proofs.put_front.Kinds as spell-put-front-kinds
+use Rattle.spell.proofs.put_front.Reads as spell-put-front-reads
+use Rattle.spell.proofs.whole_len.Kinds as spell-whole-len-kinds
+use Rattle.spell.proofs.whole_len.Reads as spell-whole-len-reads
+use Rattle.spell.proofs.real_len.Kinds as spell-real-len-kinds
+use Rattle.spell.proofs.real_len.Reads as spell-real-len-reads
+use Rattle.spell.proofs.head_len.Kinds as spell-head-len-kinds
+use Rattle.spell.proofs.head_len.Reads as spell-head-len-reads
+use Rattle.spell.proofs.front_len.Kinds as spell-front-len-kinds
+use Rattle.spell.proofs.front_len.Reads as spell-front-len-reads
 use Rattle.demands.specs.Unique.{NoSecond}
 use Rattle.demands.proofs.Unique.{once, wrote-first}
 

@@ -4,7 +4,6 @@ use entities::COLUMNS;
 use sheets::writing::put_global_head;
 use sheets::writing::put_value_head;
 use values::Value;
-use values::spell;
 ghost use mathlib.Core.Path.{_≡_};
 ghost use mathlib.Core.Bool.{cond};
 ghost use mathlib.Core.List.{[], _∷_, _++_};

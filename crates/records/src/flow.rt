@@ -2,7 +2,6 @@
 use crate::position::column_of;
 use crate::position::index_of;
 use values::Value;
-use values::spell;
 ghost use mathlib.Core.Path.{_≡_};
 ghost use mathlib.Core.List.{[], _∷_, _++_};
 ghost use Prim.Native.Nat.{_+_, _^_, _≤_, _<_};

@@ -9,7 +9,6 @@ use values::Head;
 use values::Number;
 use values::Token;
 use values::Value;
-use values::numbers;
 ghost use mathlib.Core.Path.{_≡_};
 ghost use Prim.Native.Nat.{_+_, _-_, _*_, _%_, _≤_, _<_};
 ghost use lib.ListN.{getD, take, drop};

@@ -149,7 +149,7 @@ pub fn strict_at(s: &[u8], at: usize, end: usize) -> Strict
     ensures { λ r. ⌜ r ≡ strictOf (columns (now (s .entry)) at end) ⌝ }
     ensures { λ r. ⌜ Placed (end - at) r ⌝ }
 {
-    values::back::strict(&s[at..end])
+    strict::strict(&s[at..end])
 }
 
 fn global_of(n: u32, at: usize, v: Strict) -> Said

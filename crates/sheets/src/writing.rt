@@ -3,7 +3,6 @@ use columns::DirectoryNumber;
 use columns::Signed;
 use directory::Fields;
 use values::Value;
-use values::spell;
 ghost use mathlib.Core.Path.{_≡_};
 ghost use mathlib.Core.Bool.{false, cond};
 ghost use mathlib.Core.List.{[], _∷_, _++_};

@@ -4,7 +4,6 @@ pub mod Heads
 pub mod Digits
 pub mod Canon
 pub mod Sizes
-pub mod Lengths
 pub mod Round
 pub mod Spells
 pub mod OneSpelling
@@ -12,4 +11,3 @@ pub mod Decimals
 pub mod Direct
 pub mod Backs
 pub mod Fronts
-pub mod Steps

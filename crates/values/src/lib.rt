@@ -1,9 +1,6 @@
 // One value of free format: an integer, a real, a string or a default.
-// `numbers` reads a number or a string's head from the rest of a line, `spell` writes a value in its one spelling, `back` reads that
-// spelling alone.
-pub mod back;
-pub mod numbers;
-pub mod spell;
+// Crate `numbers` reads a number or a string's head from the rest of a line, `spell` writes a value in its one spelling, `strict` reads
+// that spelling alone.
 
 // A value as it is read. A real is m times ten to plus or minus e; a string is where its characters stand in the record's text, and how many.
 pub enum Value {

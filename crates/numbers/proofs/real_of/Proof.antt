@@ -1,0 +1,19 @@
+-- `values::numbers::real_of`: by its limits: zero, too many digits, too small, too large, or within them.
+use borrow.Author.Needs.{needs}
+use Rattle.numbers.proofs.Steps.{parts}
+use Rattle.numbers.proofs.real_of.Statement.{statement}
+use Rattle.numbers.proofs.real_of.Tie as tie
+
+pub real-of-spec : {M : Type 1} → statement M
+real-of-spec =
+    tie.close
+    (tie.spec
+    (λ c. search (needs, parts))
+    (λ c. search (needs, parts))
+    (λ c. search (needs, parts))
+    (λ c. search (needs, parts))
+    (λ c. search (needs, parts))
+    (λ c. search (needs, parts))
+    (λ c. search (needs, parts))
+    (λ c. search (needs, parts))
+    (λ c. search (needs, parts)))

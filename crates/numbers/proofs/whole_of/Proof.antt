@@ -1,0 +1,14 @@
+-- `values::numbers::whole_of`: by its limit, and 0 has no sign.
+use borrow.Author.Needs.{needs}
+use Rattle.numbers.proofs.Steps.{parts}
+use Rattle.numbers.proofs.whole_of.Statement.{statement}
+use Rattle.numbers.proofs.whole_of.Tie as tie
+
+pub whole-of-spec : {M : Type 1} → statement M
+whole-of-spec =
+    tie.close
+    (tie.spec
+    (λ c. search (needs, parts))
+    (λ c. search (needs, parts))
+    (λ c. search (needs, parts))
+    (λ c. search (needs, parts)))

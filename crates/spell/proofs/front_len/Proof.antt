@@ -1,0 +1,21 @@
+-- `values::spell::front_len`: by what the value is.
+use borrow.Author.Needs.{needs}
+use Rattle.spell.proofs.Lengths.{lengths}
+use Rattle.spell.proofs.front_len.Statement.{statement}
+use Rattle.spell.proofs.front_len.Tie as tie
+
+pub front-len-spec : {M : Type 1} → statement M
+front-len-spec =
+    tie.close
+    (tie.spec
+    (λ c. search needs)
+    (λ c. search needs)
+    (λ c κs. search needs)
+    (λ c. search needs)
+    (λ c κs. search needs)
+    (λ c. search needs)
+    (λ c κs. search needs)
+    (λ c. search (needs, lengths))
+    (λ c. search (needs, lengths))
+    (λ c. search (needs, lengths))
+    (λ c. search (needs, lengths)))
