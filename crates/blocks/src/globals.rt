@@ -6,7 +6,6 @@ use crate::GlobalLine;
 use crate::lines;
 use crate::text;
 use cards::LINE_BYTES;
-use records::flow;
 use sheets::Said;
 use sheets::reading;
 use values::Value;

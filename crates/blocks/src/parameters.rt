@@ -5,7 +5,6 @@ use crate::PARAMETER;
 use crate::lines;
 use crate::text;
 use cards::LINE_BYTES;
-use records::flow;
 use sheets::reading;
 use values::Value;
 ghost use mathlib.Core.Path.{_≡_};

@@ -1,5 +1,4 @@
 // A record's text ended: ';' for the last ',' and blanks to the end of its last line.
-use records::flow;
 ghost use mathlib.Core.Path.{_≡_};
 ghost use mathlib.Core.List.{[], _∷_};
 ghost use Prim.Native.Nat.{_+_, _-_, _*_, _^_, _≤_, _<_};

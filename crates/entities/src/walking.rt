@@ -3,11 +3,11 @@
 use crate::COLUMNS;
 use crate::Walked;
 use crate::marks::mark_step;
+use freeformat::value_at;
 use layouts::Stepped;
 use layouts::machine::runs_on;
 use layouts::machine::with_left;
 use records::Got;
-use records::reading::value_at;
 use spell::head_len;
 use spell::real_len;
 use spell::whole_len;

@@ -50,7 +50,7 @@ fn no_stray(file: &[u8], c: Counts, end: usize) -> Pass
     ensures { λ r. ⌜ r ≡ passOf (noStray c (globalText (now (file .entry)) c) end) ⌝ }
 {
     let lines = wide(c.g);
-    let q = records::global::stray(file, LINE_BYTES * wide(c.s), WIDE, lines, end);
+    let q = global::stray(file, LINE_BYTES * wide(c.s), WIDE, lines, end);
     if q == lines * WIDE {
         return Pass::Good;
     }
@@ -125,11 +125,11 @@ fn fields_fit(file: &[u8], c: Counts, parameter: u8, closing: u8, from: usize, n
     let mut k = 0;
     let mut q = from;
     while k < n {
-        let g = records::reading::value_at(file, base, WIDE, lines, parameter, closing, q);
+        let g = freeformat::value_at(file, base, WIDE, lines, parameter, closing, q);
         let value = value_of(g);
         let start = start_of(g);
         let next = behind_of(g);
-        if !records::global::global_fits(FIRST_FIELD + k as u32, value) {
+        if !global::global_fits(FIRST_FIELD + k as u32, value) {
             let line = global_line(c, start);
             return Pass::Refused {
                 fault: Fault::Global,
@@ -169,7 +169,7 @@ fn values_pass(file: &[u8], c: Counts, parameter: u8, closing: u8, from: usize) 
 {
     let lines = wide(c.g);
     let base = LINE_BYTES * wide(c.s);
-    let check = records::reading::check_from(file, base, WIDE, lines, parameter, closing, from);
+    let check = freeformat::check_from(file, base, WIDE, lines, parameter, closing, from);
     match check {
         Check::Wrong { fault, start, at } => {
             let line = spelling_line(file, c, start, at);
@@ -198,7 +198,7 @@ pub fn globals(file: &[u8], c: Counts) -> GlobalAnswer
     ensures { λ r. ⌜ r ≡ globalAnswer (globalIn (now (file .entry)) c) ⌝ }
 {
     let first = wide(c.s);
-    let opening = records::global::opening_of(file, LINE_BYTES * first, wide(c.g));
+    let opening = global::opening_of(file, LINE_BYTES * first, wide(c.g));
     let Opening::Opened {
         parameter,
         record: closing,

@@ -1,5 +1,5 @@
 // Characters of a record's text, which may cross lines of its file.
-use records::reading::char_at;
+use freeformat::char_at;
 ghost use mathlib.Core.Path.{_≡_};
 ghost use Prim.Native.Nat.{ℕ, _+_, _*_, _^_, _≤_, _<_};
 ghost use lib.ListN.{length, take, drop};

@@ -1,8 +1,8 @@
 // The G lines: a line for each Global field that is no default.
 use crate::lines::put_global_line;
 use crate::taking::value_from;
+use freeformat::check_from;
 use records::Check;
-use records::reading::check_from;
 use values::Value;
 ghost use mathlib.Core.Path.{_≡_};
 ghost use Prim.Native.Nat.{ℕ, _+_, _*_, _^_, _≤_, _<_};

@@ -2,8 +2,8 @@
 use crate::Met;
 use entities::COLUMNS;
 use entities::Taken;
+use freeformat::value_at;
 use records::Got;
-use records::reading::value_at;
 use values::Value;
 ghost use mathlib.Core.Path.{_≡_};
 ghost use Prim.Native.Nat.{_*_, _≤_, _<_};

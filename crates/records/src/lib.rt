@@ -1,10 +1,7 @@
 // The values of a G or P record, one after the other, where they stand in the file; and the canonical flow of values into lines.
-// `reading` reads the next value of a record, `global` the Global opening and the kinds of its fields, `flow` writes values into lines of a file;
-// `position` says where a position of such lines stands.
-pub mod flow;
-pub mod global;
+// `position` says where a position of such lines stands. Crate `freeformat` reads the next value of a record, `global` the Global opening and the
+// kinds of its fields, `flow` writes values into lines of a file.
 pub mod position;
-pub mod reading;
 
 use columns::Fault;
 use values::Value;

@@ -36,7 +36,7 @@ pub fn put_file(
     let g = wide(c.g);
     let n = wide(c.d) / 2;
     let first = cards::parameter_line(c, 1);
-    let opening = records::global::opening_of(file, LINE_BYTES * s, g);
+    let opening = global::opening_of(file, LINE_BYTES * s, g);
     let Opening::Opened {
         parameter: _,
         record: _,
@@ -91,7 +91,7 @@ pub fn measure(list: u64, file: &[u8], c: Counts, parameter: u8, closing: u8, ro
     let s = wide(c.s);
     let g = wide(c.g);
     let base = LINE_BYTES * s;
-    let opening = records::global::opening_of(file, base, g);
+    let opening = global::opening_of(file, base, g);
     let Opening::Opened {
         parameter: _,
         record: _,

@@ -27,7 +27,7 @@ fn rule_of(said: Said, place: usize) -> Pass
             at: _,
             value,
         } => {
-            if records::global::global_fits(number, value) {
+            if global::global_fits(number, value) {
                 return Pass::Good;
             }
             Pass::Refused {
