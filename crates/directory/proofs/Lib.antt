@@ -1,8 +1,6 @@
 pub mod Slots
-pub mod Spelt
 pub mod Within
 pub mod Ranges
 pub mod Asked
 pub mod Puts
 pub mod Round
-pub mod Names

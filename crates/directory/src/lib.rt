@@ -1,8 +1,6 @@
 // Directory entries: the numbers of two D lines, what they mean, and what rules 9, 13 and 10 ask of them.
-// `lines` reads the two lines, `rules` says what the numbers mean and asks the rules, `naming` looks up what a directory number names,
-// `writing` lays the two lines.
-pub mod lines;
-pub mod naming;
+// `rules` says what the numbers mean and asks the rules, `writing` lays the two lines. Crate `dlines` reads them, and looks up what a directory
+// number names.
 pub mod rules;
 pub mod writing;
 

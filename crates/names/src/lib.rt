@@ -39,7 +39,7 @@ fn in_directory(file: &[u8], c: Counts, number: DirectoryNumber) -> Found
         return Found::Nobody;
     }
     let k = cards::entry_line(c, i);
-    let at = directory::lines::label_at(k);
+    let at = dlines::label_at(k);
     if look::is_blank(file, at, at + SLOT_COLUMNS) {
         return Found::Blank;
     }

@@ -24,7 +24,7 @@ fn entry_check(file: &[u8], c: Counts, i: usize, kept: Pass) -> Turn
     let total = wide(c.d) / 2;
     let k = cards::entry_line(c, i);
     let line = FileLine(k + 1);
-    let read = directory::lines::entry_at(file, k);
+    let read = dlines::entry_at(file, k);
     let EntryRead::Spelt {
         fields,
         pointer: _,

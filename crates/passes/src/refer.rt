@@ -25,7 +25,7 @@ fn asks_ok(file: &[u8], first: usize, n: usize, w: Wanted) -> bool
     if !w.asked {
         return true;
     }
-    let class = directory::naming::class_at(file, first, n, w.number);
+    let class = dlines::naming::class_at(file, first, n, w.number);
     references::fits(w.want, class)
 }
 

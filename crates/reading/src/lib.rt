@@ -162,7 +162,7 @@ fn entity_at(list: u64, file: &[u8], c: Counts, parameter: u8, closing: u8, i: u
     ensures { λ r. ⌜ Few 15000000000 r ⌝ }
 {
     let k = cards::entry_line(c, i);
-    let read = directory::lines::entry_at(file, k);
+    let read = dlines::entry_at(file, k);
     match read {
         EntryRead::Wrong => Rows::Good(0),
         EntryRead::Spelt {

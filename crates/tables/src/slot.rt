@@ -70,9 +70,9 @@ pub fn record_at(file: &[u8], k: usize) -> Record
     requires { ⌜ 81 * k + 162 ≤ length (now file) ⌝ }
     ensures { λ r. ⌜ r ≡ recordIn (now (file .entry)) k ⌝ }
 {
-    let at = directory::lines::label_at(k);
+    let at = dlines::label_at(k);
     let label = eight(file, at);
-    let read = directory::lines::entry_at(file, k);
+    let read = dlines::entry_at(file, k);
     match read {
         EntryRead::Spelt {
             fields,

@@ -1,0 +1,165 @@
+-- An entry put together of its numbers, its type again, its parameter pointer and its line count.
+use mathlib.Core.Path.{_≡_, refl, sym, ap, _∙_}
+use mathlib.Core.Bool.{Bool, true, false, not}
+use mathlib.Core.List.{List, [], _∷_}
+use Prim.Native.Nat.{ℕ, zero, suc, _+_, _≤_, _<_}
+use native.Mathlib.Nat.{zero-add}
+use native.Mathlib.Omega.{arith}
+use lib.Dec.{leb}
+use borrow.Author.Tests.{eq-eqb, ne-eqb, not-true, not-false}
+use Rattle.columns.specs.declared.Signed.{Signed}
+use Rattle.columns.specs.declared.SignedField.{SignedField}
+use Rattle.columns.specs.declared.SignedField.the-variants.{Number, Bad}
+use Rattle.columns.specs.Columns.{columns}
+use Rattle.columns.specs.Fixed.{fieldOf, signedOf, withSign}
+use Rattle.columns.specs.Reading.{SizeBelow}
+use Rattle.columns.proofs.Tests.{and-false}
+use Rattle.directory.specs.declared.Fields.{Fields}
+use Rattle.directory.specs.declared.EntryRead.{EntryRead}
+use Rattle.directory.specs.declared.EntryRead.the-variants.{Spelt, Wrong}
+use Rattle.directory.specs.Fields.{typeAt, inOrder, fieldsOf}
+use Rattle.directory.specs.Lines.{Slot, number, again, pointer, lines, slots, seek, slotIn, numberIn, Numbers, numbers, misspelt, with, numbersFrom, positive, sizeOf, isSame, parameterLine, speltAs, entryAt}
+use Rattle.directory.specs.Reading.{slotAt, startOf, NumberIs}
+use Rattle.directory.proofs.Slots.{in-at, number-plain, slot-signed}
+
+-- ---- one field
+
+module _ (x n : Signed) (f : SignedField) (e : f ≡ Number n) where
+  pub same-size : (x .size ≡ n .size → ⊥) → false ≡ isSame x f
+  same-size h = rw (e, ne-eqb _ _ h)
+
+  pub same-minus : x .size ≡ n .size → x .neg ≡ true → n .neg ≡ isSame x f
+  same-minus h k = rw (e, eq-eqb _ _ h, k)
+
+  pub same-plain : x .size ≡ n .size → x .neg ≡ false → not (n .neg) ≡ isSame x f
+  same-plain h k = rw (e, eq-eqb _ _ h, k)
+
+pub same-bad : (x : Signed) (f : SignedField) → f ≡ Bad → false ≡ isSame x f
+same-bad x f e = rw e
+
+module _ (n : Signed) (f : SignedField) (e : f ≡ Number n) where
+  pub positive-minus : n .neg ≡ true → false ≡ positive f
+  positive-minus h = rw (e, h)
+
+  pub positive-plain : n .neg ≡ false → leb 1 (n .size) ≡ positive f
+  positive-plain h = rw (e, h)
+
+  pub size-number : n .size ≡ sizeOf f
+  size-number = rw e
+
+pub positive-bad : (f : SignedField) → f ≡ Bad → false ≡ positive f
+positive-bad f e = rw e
+
+pub size-bad : (f : SignedField) → f ≡ Bad → 0 ≡ sizeOf f
+size-bad f e = rw e
+
+pub ruleset fielded = (same-size, same-minus, same-plain, same-bad, positive-minus, positive-plain, positive-bad, size-number, size-bad)
+
+-- ---- the fields besides the numbers
+
+module _ (x : Fields) (a from count : SignedField) where
+  pub spelt-type : (s : Bool) → s ≡ isSame (x .entity) a → s ≡ false → Wrong ≡ speltAs x a from count
+  spelt-type s e h = rw (← e, h)
+
+  pub spelt-pointer : (s : Bool) → s ≡ positive from → s ≡ false → Wrong ≡ speltAs x a from count
+  spelt-pointer s e h = simp (sym e ∙ h, and-false)
+
+  pub spelt-lines : (s : Bool) → s ≡ positive count → s ≡ false → Wrong ≡ speltAs x a from count
+  spelt-lines s e h = simp (sym e ∙ h, and-false)
+
+  pub spelt-good : (s p q : Bool) (m n : ℕ) → s ≡ isSame (x .entity) a → s ≡ true → p ≡ positive from → p ≡ true → q ≡ positive count → q ≡ true
+      → m ≡ sizeOf from → n ≡ sizeOf count → Spelt x (parameterLine m) n ≡ speltAs x a from count
+  spelt-good s p q m n es hs ep hp eq hq em en = rw (← es, hs, ← ep, hp, ← eq, hq, em, en)
+
+pub ruleset spelling = (not-true, not-false, spelt-type, spelt-pointer, spelt-lines, spelt-good)
+
+-- ---- the numbers
+
+-- one that is no number
+numbers-bad : (f : List ℕ) (k n j more : ℕ) → j < more → numberIn f k (n + j) ≡ Bad → numbersFrom f k n more ≡ misspelt
+unfolding numbersFrom
+numbers-bad f k n j zero h e = absurd (omega arith)
+numbers-bad f k n zero (suc more) h e =
+    let a : n + 0 ≡ n = omega arith in
+    let b : numberIn f k n ≡ Bad = rw a at e in
+    rw b
+numbers-bad f k n (suc j) (suc more) h e =
+    let a : n + suc j ≡ n + 1 + j = omega arith in
+    rw (numbers-bad f k (n + 1) j more (omega arith) (rw a at e)) (none (numberIn f k n))
+  where
+    none : (r : SignedField) → with r misspelt ≡ misspelt
+    none (Number x) = refl
+    none Bad = refl
+
+module _ (f : List ℕ) (k : ℕ) where
+  pub number-is : (n : ℕ) (x : Signed) (r : SignedField) → r ≡ numberIn f k n → r ≡ Number x → NumberIs f k n x
+  number-is n x r e h = sym e ∙ h
+
+  pub number-wrong : (n : ℕ) (r : SignedField) → r ≡ numberIn f k n → r ≡ Bad → n < 12 → Wrong ≡ entryAt f k
+  unfolding entryAt
+  number-wrong n r e h l = rw (numbers-bad f k 0 n 12 l (rw zero-add (sym e ∙ h)))
+
+  -- status and subscript
+  pub status-in : (r : SignedField) → r ≡ withSign false (fieldOf (slotAt f k 8)) → r ≡ numberIn f k 8
+  unfolding slots
+  status-in r e = number-plain f k 8 8 r refl refl e
+
+  pub subscript-in : (r : SignedField) → r ≡ withSign false (fieldOf (slotAt f k 17)) → r ≡ numberIn f k 11
+  unfolding slots
+  subscript-in r e = number-plain f k 11 17 r refl refl e
+
+  pub status-is : (x : Signed) (r : SignedField) → r ≡ withSign false (fieldOf (slotAt f k 8)) → r ≡ Number x → NumberIs f k 8 x
+  status-is x r e h = number-is 8 x r (status-in r e) h
+
+  pub subscript-is : (x : Signed) (r : SignedField) → r ≡ withSign false (fieldOf (slotAt f k 17)) → r ≡ Number x → NumberIs f k 11 x
+  subscript-is x r e h = number-is 11 x r (subscript-in r e) h
+
+  pub status-wrong : (r : SignedField) → r ≡ withSign false (fieldOf (slotAt f k 8)) → r ≡ Bad → Wrong ≡ entryAt f k
+  status-wrong r e h = number-wrong 8 r (status-in r e) h (omega arith)
+
+  pub subscript-wrong : (r : SignedField) → r ≡ withSign false (fieldOf (slotAt f k 17)) → r ≡ Bad → Wrong ≡ entryAt f k
+  subscript-wrong r e h = number-wrong 11 r (subscript-in r e) h (omega arith)
+
+  -- all of them
+  pub numbers-are : (entity form structure font level view matrix display status weight colour subscript : Signed)
+      → NumberIs f k 0 entity → NumberIs f k 1 form → NumberIs f k 2 structure → NumberIs f k 3 font → NumberIs f k 4 level → NumberIs f k 5 view → NumberIs f k 6 matrix → NumberIs f k 7 display → NumberIs f k 8 status → NumberIs f k 9 weight → NumberIs f k 10 colour → NumberIs f k 11 subscript
+      → numbersFrom f k 0 12 ≡ numbers (entity ∷ form ∷ structure ∷ font ∷ level ∷ view ∷ matrix ∷ display ∷ status ∷ weight ∷ colour ∷ subscript ∷ [])
+  unfolding numbersFrom
+  numbers-are entity form structure font level view matrix display status weight colour subscript e0 e1 e2 e3 e4 e5 e6 e7 e8 e9 e10 e11 = rw (e0, e1, e2, e3, e4, e5, e6, e7, e8, e9, e10, e11)
+
+  pub numbers-of : (x : Fields) (ns : List Signed) → x ≡ fieldsOf ns → inOrder (fieldsOf ns) ≡ ns → numbersFrom f k 0 12 ≡ numbers ns → numbersFrom f k 0 12 ≡ numbers (inOrder x)
+  numbers-of x ns e h n = n ∙ ap numbers (sym h ∙ ap inOrder (sym e))
+
+  pub entry-good : (x : Fields) (a from count : SignedField) (r : EntryRead) → numbersFrom f k 0 12 ≡ numbers (inOrder x)
+      → a ≡ signedOf (slotAt f k 9) → from ≡ signedOf (slotAt f k 1) → count ≡ signedOf (slotAt f k 12) → r ≡ speltAs x a from count → r ≡ entryAt f k
+  unfolding entryAt slots
+  entry-good x a from count r e ea ef ec er =
+      rw (e, in-at f k again, in-at f k pointer, in-at f k lines) (er ∙ rw (ea, ef, ec))
+
+-- one field alone
+module _ (f : List ℕ) (k r : ℕ) where
+  pub size-at : (j at : ℕ) (t : SignedField) → at ≡ startOf k j → t ≡ signedOf (columns f at (at + 8)) → r ≡ sizeOf t → r ≡ sizeOf (signedOf (slotAt f k j))
+  size-at j at t s e h = h ∙ ap sizeOf (slot-signed f k j at s t e)
+
+  size-in : (x : Slot) → r ≡ sizeOf (signedOf (slotAt f k (seek x slots))) → r ≡ sizeOf (signedOf (slotIn f k x))
+  size-in x e = e ∙ ap (λ (l : List ℕ). sizeOf (signedOf l)) (sym (in-at f k x))
+
+  pub type-size : r ≡ sizeOf (signedOf (slotAt f k 0)) → r ≡ sizeOf (signedOf (slotIn f k (number typeAt)))
+  unfolding slots
+  type-size e = size-in (number typeAt) e
+
+  pub pointer-size : r ≡ sizeOf (signedOf (slotAt f k 1)) → r ≡ sizeOf (signedOf (slotIn f k pointer))
+  unfolding slots
+  pointer-size e = size-in pointer e
+
+  pub lines-size : r ≡ sizeOf (signedOf (slotAt f k 12)) → r ≡ sizeOf (signedOf (slotIn f k lines))
+  unfolding slots
+  lines-size e = size-in lines e
+
+pub size-small : (t : SignedField) (r m : ℕ) → 0 < m → SizeBelow m t → r ≡ sizeOf t → r < m
+size-small (Number x) r m z h e = omega arith
+size-small Bad r m z h e = omega arith
+
+pub ruleset sizes = (size-at, type-size, pointer-size, lines-size, size-small)
+
+pub ruleset entries = (number-is, number-wrong, status-is, subscript-is, status-wrong, subscript-wrong, entry-good)
