@@ -10,7 +10,7 @@ use freeformat::value_at;
 use layouts::Stepped;
 use layouts::Verdict;
 use layouts::list::known;
-use layouts::machine::end;
+use machine::end;
 use records::Got;
 use values::Value;
 ghost use mathlib.Core.Path.{_≡_};

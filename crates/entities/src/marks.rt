@@ -2,9 +2,9 @@
 use crate::naming::named_at;
 use layouts::Stepped;
 use layouts::list::known;
-use layouts::machine::is_reference;
-use layouts::machine::start;
-use layouts::machine::step;
+use machine::is_reference;
+use machine::start;
+use machine::step;
 use values::Value;
 ghost use mathlib.Core.Path.{_≡_};
 ghost use Prim.Native.Nat.{_+_, _*_, _≤_};

@@ -1,6 +1,5 @@
 pub mod Tables
 pub mod Values
-pub mod Taking
 pub mod Moves
 pub mod Steps
 pub mod Runs

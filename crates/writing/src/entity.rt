@@ -14,7 +14,6 @@ use entities::marks::marks_begun;
 use layouts::Stepped;
 use layouts::Verdict;
 use layouts::list::known;
-use layouts::machine;
 use references::NO_ENTRY;
 use sheets::Said;
 use sheets::reading::end_of;
