@@ -7,7 +7,6 @@ use crate::lines;
 use crate::text;
 use cards::LINE_BYTES;
 use sheets::Said;
-use sheets::reading;
 use values::Value;
 ghost use mathlib.Core.Path.{_≡_};
 ghost use mathlib.Core.List.{[], _∷_};
@@ -39,11 +38,11 @@ fn field_at(t: &[u8], at: usize) -> GlobalLine
     requires { ⌜ at ≤ length (now t) ⌝ }
     ensures { λ r. ⌜ FieldAt (now (t .entry)) at r ⌝ }
 {
-    let end = reading::end_of(t, at);
+    let end = said::end_of(t, at);
     if end == t.len() {
         return GlobalLine::Otherwise;
     }
-    let said = reading::line_at(t, at, end);
+    let said = said::line_at(t, at, end);
     match said {
         Said::Global {
             number,

@@ -5,7 +5,6 @@ use crate::PARAMETER;
 use crate::lines;
 use crate::text;
 use cards::LINE_BYTES;
-use sheets::reading;
 use values::Value;
 ghost use mathlib.Core.Path.{_≡_};
 ghost use mathlib.Core.Bool.{false};
@@ -62,8 +61,8 @@ fn put_values(out: &mut [u8], base: usize, t: &[u8], at: usize, p: usize) -> Flo
     let mut next = at;
     let mut end = p;
     loop {
-        let stop = reading::end_of(t, next);
-        if !reading::is_value(t, next, stop) {
+        let stop = said::end_of(t, next);
+        if !said::is_value(t, next, stop) {
             return Flowed { next, end };
         }
         let from = next + 2;

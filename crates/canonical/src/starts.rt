@@ -1,6 +1,6 @@
 // The S lines, from the start lines of a sheet.
 use blocks::lines::put_start_line;
-use sheets::reading::end_of;
+use said::end_of;
 ghost use mathlib.Core.Path.{_≡_};
 ghost use Prim.Native.Nat.{_*_, _≤_, _<_};
 ghost use lib.ListN.{length, drop};

@@ -1,8 +1,8 @@
 // A line with a value that was read in a record's text.
 use crate::characters::put_text;
 use entities::COLUMNS;
-use sheets::writing::put_global_head;
-use sheets::writing::put_value_head;
+use sheetlines::put_global_head;
+use sheetlines::put_value_head;
 use values::Value;
 ghost use mathlib.Core.Path.{_≡_};
 ghost use mathlib.Core.Bool.{cond};

@@ -1,6 +1,6 @@
 // The S lines: the text of columns 1 to 72 without trailing blanks.
 use cards::LINE_BYTES;
-use sheets::writing::put_start;
+use sheetlines::put_start;
 ghost use mathlib.Core.Path.{_≡_};
 ghost use mathlib.Core.List.{[], _∷_, _++_, map};
 ghost use Prim.Native.Nat.{ℕ, _+_, _*_, _^_, _≤_, _<_};

@@ -1,5 +1,4 @@
 pub mod Plains
-pub mod Entries
 pub mod Steps
 pub mod Machine
 pub mod Digits

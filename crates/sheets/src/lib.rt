@@ -1,14 +1,11 @@
 // Sheet lines in and out: what each line says, and the order of lines.
-// `plain` reads the numbers of a sheet, `reading` its lines, `order` is the machine over the lines, `writing` writes lines.
+// `order` is the machine over the lines. Crate `plain` reads the numbers of a sheet, `said` its lines, `sheetlines` writes lines.
 use columns::SheetLine;
 use columns::Signed;
 use directory::Fields;
 use values::Value;
 
 pub mod order;
-pub mod plain;
-pub mod reading;
-pub mod writing;
 
 // What an entry line says: whether it is marked E, the directory number, and the entry's numbers; or a wrong line.
 pub enum EntryLine {

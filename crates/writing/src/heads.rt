@@ -1,6 +1,6 @@
 // The lines that a pass asks: G lines and entry lines. The others are not read.
+use said::line_at;
 use sheets::Said;
-use sheets::reading::line_at;
 ghost use mathlib.Core.Path.{_≡_};
 ghost use Prim.Native.Nat.{_≤_};
 ghost use lib.ListN.{length};

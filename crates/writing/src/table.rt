@@ -1,8 +1,8 @@
 // The class of each entry of a sheet: kept in a table for as many entries as a file can have, read off the sheet past that.
 use crate::heads::head_at;
 use references::NO_ENTRY;
+use said::end_of;
 use sheets::Said;
-use sheets::reading::end_of;
 ghost use mathlib.Core.Path.{_≡_};
 ghost use mathlib.Core.List.{[]};
 ghost use Prim.Native.Nat.{_+_, _^_, _≤_, _<_};

@@ -1,0 +1,226 @@
+// The plain numbers of a sheet, read strictly; past 2,147,483,647 a number says that it is misspelt.
+use columns::Signed;
+ghost use mathlib.Core.Path.{_≡_};
+ghost use mathlib.Core.Bool.{Bool, true, false};
+ghost use Prim.Native.Nat.{ℕ, _+_, _-_, _≤_, _<_};
+ghost use lib.ListN.{length};
+ghost use Rattle.columns.specs.Columns.{columns};
+ghost use Rattle.sheets.specs.Plain.{digitAfter, sizeFrom, plainOf, minusOf, signedPlain, statusFrom};
+ghost use Rattle.sheets.specs.Line.{run, numOf};
+
+// A number of an entry line, and where the tab behind it stands: at the line's end, if there is none.
+pub struct Tabbed {
+    pub number: Signed,
+    pub end: usize,
+}
+
+fn small(b: u8) -> u32
+    ensures { λ r. ⌜ r ≡ b ⌝ }
+{
+    b as u32
+}
+
+fn wide(b: u8) -> u64
+    ensures { λ r. ⌜ r ≡ b ⌝ }
+{
+    b as u64
+}
+
+// One more byte of a number.
+fn add_digit(n: u64, b: u8) -> u64
+    requires { ⌜ n ≤ 2147483649 ⌝ }
+    ensures { λ r. ⌜ r ≡ digitAfter n b ⌝ }
+    ensures { λ r. ⌜ r ≤ 2147483649 ⌝ }
+{
+    if b < 48 {
+        return 2147483648;
+    }
+    if 57 < b {
+        return 2147483648;
+    }
+    if n == 2147483649 {
+        return wide(b - 48);
+    }
+    if n == 0 {
+        return 2147483648;
+    }
+    let m = n * 10 + wide(b - 48);
+    if 2147483647 < m {
+        return 2147483648;
+    }
+    m
+}
+
+// The number that the bytes from `at` up to `end` make of n.
+pub fn size_at(s: &[u8], n: u64, at: usize, end: usize) -> u64
+    requires { ⌜ (n ≤ 2147483649) × (at ≤ end) × (end ≤ length (now s)) ⌝ }
+    ensures { λ r. ⌜ r ≡ sizeFrom n (columns (now (s .entry)) at end) ⌝ }
+    ensures { λ r. ⌜ r ≤ 2147483649 ⌝ }
+{
+    let mut v = n;
+    let mut i = at;
+    while i < end {
+        v = add_digit(v, s[i]);
+        i += 1;
+    }
+    v
+}
+
+// Minus n; minus nought is misspelt.
+fn minus_of(n: u64) -> Signed
+    requires { ⌜ n ≤ 2147483649 ⌝ }
+    ensures { λ r. ⌜ r ≡ minusOf n ⌝ }
+{
+    if 0 < n {
+        return Signed {
+            neg: true,
+            size: n as u32,
+        };
+    }
+    Signed {
+        neg: true,
+        size: 2147483648,
+    }
+}
+
+// The number, with a minus or without, that stands from `at` up to `end`.
+fn signed_at(s: &[u8], at: usize, end: usize) -> Signed
+    requires { ⌜ (at ≤ end) × (end ≤ length (now s)) ⌝ }
+    ensures { λ r. ⌜ r ≡ signedPlain (columns (now (s .entry)) at end) ⌝ }
+{
+    if end <= at {
+        return Signed {
+            neg: false,
+            size: 2147483649,
+        };
+    }
+    if s[at] == 45 {
+        let n = size_at(s, 2147483649, at + 1, end);
+        return minus_of(n);
+    }
+    let n = size_at(s, 2147483649, at, end);
+    Signed {
+        neg: false,
+        size: n as u32,
+    }
+}
+
+// The status whose eight digits, behind a 1, are n.
+fn status_of(n: u64) -> Signed
+    ensures { λ r. ⌜ r ≡ statusFrom n ⌝ }
+{
+    if n < 100000000 {
+        return Signed {
+            neg: false,
+            size: 2147483648,
+        };
+    }
+    if n < 200000000 {
+        return Signed {
+            neg: false,
+            size: (n - 100000000) as u32,
+        };
+    }
+    Signed {
+        neg: false,
+        size: 2147483648,
+    }
+}
+
+// A number of an entry line that `left` others follow.
+pub fn num_at(s: &[u8], left: usize, at: usize, end: usize) -> Signed
+    requires { ⌜ (at ≤ end) × (end ≤ length (now s)) ⌝ }
+    ensures { λ r. ⌜ r ≡ numOf left (columns (now (s .entry)) at end) ⌝ }
+{
+    if left == 3 {
+        let n = size_at(s, 1, at, end);
+        return status_of(n);
+    }
+    signed_at(s, at, end)
+}
+
+// Where the first c from `at` up to `end` stands, or `end`, byte by byte.
+fn find_each(s: &[u8], c: u8, at: usize, end: usize) -> usize
+    requires { ⌜ (at ≤ end) × (end ≤ length (now s)) ⌝ }
+    ensures { λ r. ⌜ r ≡ at + run c (columns (now (s .entry)) at end) ⌝ }
+    ensures { λ r. ⌜ (at ≤ r) × (r ≤ end) ⌝ }
+{
+    let mut i = at;
+    while i < end {
+        if s[i] == c {
+            return i;
+        }
+        i += 1;
+    }
+    i
+}
+
+// Where the first c from `at` up to `end` stands, or `end`: four bytes a turn, so that the end is asked for less often.
+pub fn find(s: &[u8], c: u8, at: usize, end: usize) -> usize
+    requires { ⌜ (at ≤ end) × (end ≤ length (now s)) ⌝ }
+    ensures { λ r. ⌜ r ≡ at + run c (columns (now (s .entry)) at end) ⌝ }
+    ensures { λ r. ⌜ (at ≤ r) × (r ≤ end) ⌝ }
+{
+    let mut i = at;
+    while 4 <= end - i {
+        if s[i] == c {
+            return i;
+        }
+        if s[i + 1] == c {
+            return i + 1;
+        }
+        if s[i + 2] == c {
+            return i + 2;
+        }
+        if s[i + 3] == c {
+            return i + 3;
+        }
+        i += 4;
+    }
+    find_each(s, c, i, end)
+}
+
+// The number of an entry line from `at` on, that `left` others follow, and its tab: found first.
+fn tabbed_by(s: &[u8], left: usize, at: usize, end: usize) -> Tabbed
+    requires { ⌜ (at ≤ end) × (end ≤ length (now s)) ⌝ }
+    ensures { λ r. ⌜ r .end ≡ at + run 9 (columns (now (s .entry)) at end) ⌝ }
+    ensures { λ r. ⌜ r .number ≡ numOf left (columns (now (s .entry)) at (r .end)) ⌝ }
+    ensures { λ r. ⌜ (at ≤ r .end) × (r .end ≤ end) ⌝ }
+{
+    let tab = find(s, 9, at, end);
+    let number = num_at(s, left, at, tab);
+    Tabbed { number, end: tab }
+}
+
+// The number of an entry line from `at` on, that `left` others follow, and its tab. Most are one digit, and no status.
+pub fn tabbed_at(s: &[u8], left: usize, at: usize, end: usize) -> Tabbed
+    requires { ⌜ (at ≤ end) × (end ≤ length (now s)) ⌝ }
+    ensures { λ r. ⌜ r .end ≡ at + run 9 (columns (now (s .entry)) at end) ⌝ }
+    ensures { λ r. ⌜ r .number ≡ numOf left (columns (now (s .entry)) at (r .end)) ⌝ }
+    ensures { λ r. ⌜ (at ≤ r .end) × (r .end ≤ end) ⌝ }
+{
+    if end - at < 2 {
+        return tabbed_by(s, left, at, end);
+    }
+    if s[at + 1] != 9 {
+        return tabbed_by(s, left, at, end);
+    }
+    if left == 3 {
+        return tabbed_by(s, left, at, end);
+    }
+    let b = s[at];
+    if b < 48 {
+        return tabbed_by(s, left, at, end);
+    }
+    if 57 < b {
+        return tabbed_by(s, left, at, end);
+    }
+    let number = Signed {
+        neg: false,
+        size: small(b - 48),
+    };
+    Tabbed {
+        number,
+        end: at + 1,
+    }
+}
