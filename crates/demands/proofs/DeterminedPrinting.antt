@@ -1,7 +1,7 @@
 -- No second result fits the contract of a public function of crate printing. Assumes nothing.
 use mathlib.Core.Path.{refl}
-use Rattle.printing.proofs.carried.put_values.Kinds as carried-put-values-kinds
-use Rattle.printing.proofs.carried.put_values.Reads as carried-put-values-reads
+use Rattle.carried.proofs.put_values.Kinds as carried-put-values-kinds
+use Rattle.carried.proofs.put_values.Reads as carried-put-values-reads
 use Rattle.printing.proofs.characters.put_text.Kinds as characters-put-text-kinds
 use Rattle.printing.proofs.characters.put_text.Reads as characters-put-text-reads
 use Rattle.printing.proofs.globals.put_globals.Kinds as globals-put-globals-kinds
@@ -12,12 +12,12 @@ use Rattle.printing.proofs.lines.put_value_line.Kinds as lines-put-value-line-k
 use Rattle.printing.proofs.lines.put_value_line.Reads as lines-put-value-line-reads
 use Rattle.printing.proofs.lines.put_global_line.Kinds as lines-put-global-line-kinds
 use Rattle.printing.proofs.lines.put_global_line.Reads as lines-put-global-line-reads
-use Rattle.printing.proofs.rows.put_entity.Kinds as rows-put-entity-kinds
-use Rattle.printing.proofs.rows.put_entity.Reads as rows-put-entity-reads
-use Rattle.printing.proofs.rows.put_rows.Kinds as rows-put-rows-kinds
-use Rattle.printing.proofs.rows.put_rows.Reads as rows-put-rows-reads
-use Rattle.printing.proofs.sheet.put_sheet.Kinds as sheet-put-sheet-kinds
-use Rattle.printing.proofs.sheet.put_sheet.Reads as sheet-put-sheet-reads
+use Rattle.printed.proofs.rows.put_entity.Kinds as rows-put-entity-kinds
+use Rattle.printed.proofs.rows.put_entity.Reads as rows-put-entity-reads
+use Rattle.printed.proofs.rows.put_rows.Kinds as rows-put-rows-kinds
+use Rattle.printed.proofs.rows.put_rows.Reads as rows-put-rows-reads
+use Rattle.printed.proofs.put_sheet.Kinds as sheet-put-sheet-kinds
+use Rattle.printed.proofs.put_sheet.Reads as sheet-put-sheet-reads
 use Rattle.printing.proofs.starts.put_starts.Kinds as starts-put-starts-kinds
 use Rattle.printing.proofs.starts.put_starts.Reads as starts-put-starts-reads
 use Rattle.printing.proofs.taking.value_from.Kinds as taking-value-from-kinds

@@ -3,7 +3,6 @@ pub mod Taken
 pub mod Valued
 pub mod Started
 pub mod Given
-pub mod Rowed
 pub mod Wholes
 pub mod Listed
 pub mod Demand

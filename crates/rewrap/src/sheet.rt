@@ -46,7 +46,7 @@ pub fn put_file(
     else {
         return 0;
     };
-    printing::sheet::put_sheet(
+    printed::put_sheet(
         out,
         0,
         list,

@@ -1,8 +1,8 @@
 -- The parts, one after the other.
 use borrow.Author.Needs.{needs}
 use Rattle.printing.proofs.Wholes.{wholes}
-use Rattle.printing.proofs.sheet.put_sheet.Statement.{statement}
-use Rattle.printing.proofs.sheet.put_sheet.Tie as tie
+use Rattle.printed.proofs.put_sheet.Statement.{statement}
+use Rattle.printed.proofs.put_sheet.Tie as tie
 
 pub put-sheet-spec : {M : Type 1} → statement M
 put-sheet-spec =

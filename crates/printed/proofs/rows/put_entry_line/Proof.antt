@@ -1,8 +1,8 @@
 -- The label is a part of the file.
 use borrow.Author.Needs.{needs}
-use Rattle.printing.proofs.Rowed.{rowed}
-use Rattle.printing.proofs.rows.put_entry_line.Statement.{statement}
-use Rattle.printing.proofs.rows.put_entry_line.Tie as tie
+use Rattle.printed.proofs.Rowed.{rowed}
+use Rattle.printed.proofs.rows.put_entry_line.Statement.{statement}
+use Rattle.printed.proofs.rows.put_entry_line.Tie as tie
 
 pub put-entry-line-spec : {M : Type 1} → statement M
 put-entry-line-spec =

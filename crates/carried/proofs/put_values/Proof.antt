@@ -10,16 +10,16 @@ use Rattle.layouts.specs.Entities.{marks}
 use Rattle.model.specs.Model.{marked}
 use Rattle.entities.specs.Taking.{entityWith}
 use Rattle.entities.specs.Marks.{carriedIn}
 use Rattle.printing.specs.Bytes.{valueBytes}
 use borrow.Author.Needs.{needs}
 use native.Mathlib.Omega.{arith}
 use borrow.Author.Tests.{not-true}
 use Rattle.columns.proofs.Writes.{wrote-length}
 use Rattle.layouts.proofs.Steps.{runs-left}
 use Rattle.printing.proofs.Taken.{found-sane}
 use Rattle.printing.proofs.Valued.{Owing, values-refused, values-room, values-owed, found-default, found-given, found-runs, valued}
-use Rattle.printing.proofs.carried.put_values.Statement.{statement}
-use Rattle.printing.proofs.carried.put_values.Tie as tie
+use Rattle.carried.proofs.put_values.Statement.{statement}
+use Rattle.carried.proofs.put_values.Tie as tie
 
 abbrev Inv-loop : tie.InvT-loop
 Inv-loop out₀ at list file base lines c d typ form first n g₀ q₀ last₀ owed₀ next₀ out g q last owed next =

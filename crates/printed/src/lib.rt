@@ -1,16 +1,18 @@
-// The whole sheet.
-use crate::globals::put_globals;
+// The whole sheet. `rows` writes the entries' lines and the Z line.
+pub mod rows;
+
 use crate::rows::put_rows;
-use crate::starts::put_starts;
 use cards::LINE_BYTES;
+use printing::globals::put_globals;
+use printing::starts::put_starts;
 ghost use mathlib.Core.Path.{_≡_};
 ghost use Prim.Native.Nat.{ℕ, _+_, _*_, _^_, _≤_, _<_};
 ghost use lib.ListN.{length};
 ghost use Rattle.columns.specs.Columns.{textOf};
 ghost use Rattle.columns.specs.Laid.{Wrote};
 ghost use Rattle.records.specs.Reading.{Stands};
 ghost use Rattle.printing.specs.Rows.{RowsRead};
 ghost use Rattle.printing.specs.Whole.{fieldBytes, wholeBytes};
 
 // The G lines: none if the record ends with its opening.
 fn put_fields(

@@ -1,9 +1,4 @@
 // The value lines of an entity.
-use crate::Behind;
-use crate::globals::is_missing;
-use crate::lines::put_mostly_real;
-use crate::lines::put_value_line;
-use crate::taking::met_at;
 use entities::COLUMNS;
 use entities::marks::mark_of;
 use entities::marks::mark_step;
@@ -13,6 +8,11 @@ use layouts::Stepped;
 use machine::is_reference;
 use machine::runs_on;
 use machine::with_left;
+use printing::Behind;
+use printing::globals::is_missing;
+use printing::lines::put_mostly_real;
+use printing::lines::put_value_line;
+use printing::taking::met_at;
 use records::Got;
 use values::Value;
 ghost use mathlib.Core.Path.{_≡_};

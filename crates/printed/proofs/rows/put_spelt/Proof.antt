@@ -1,8 +1,8 @@
 -- Where the P lines stand in the file, so does the record.
 use borrow.Author.Needs.{needs}
-use Rattle.printing.proofs.Rowed.{row}
-use Rattle.printing.proofs.rows.put_spelt.Statement.{statement}
-use Rattle.printing.proofs.rows.put_spelt.Tie as tie
+use Rattle.printed.proofs.Rowed.{row}
+use Rattle.printed.proofs.rows.put_spelt.Statement.{statement}
+use Rattle.printed.proofs.rows.put_spelt.Tie as tie
 
 pub put-spelt-spec : {M : Type 1} → statement M
 put-spelt-spec =

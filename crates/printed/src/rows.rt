@@ -1,6 +1,6 @@
 // The lines of the entries: for each the entry line and its values, then the Z line.
-use crate::carried::put_values;
 use cards::LINE_BYTES;
+use carried::put_values;
 use columns::DirectoryNumber;
 use directory::EntryRead;
 use directory::Fields;

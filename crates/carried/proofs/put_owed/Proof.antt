@@ -8,12 +8,12 @@ use Rattle.values.specs.Value.{itemOf}
 use Rattle.directory.specs.Naming.{typesAt}
 use Rattle.layouts.specs.Entities.{run}
 use Rattle.entities.specs.Marks.{markedFrom}
 use Rattle.printing.specs.Bytes.{valueBytes}
 use Rattle.printing.specs.Taking.{owedBefore}
 use borrow.Author.Needs.{needs}
 use Rattle.printing.proofs.Valued.{owed}
-use Rattle.printing.proofs.carried.put_owed.Statement.{statement}
-use Rattle.printing.proofs.carried.put_owed.Tie as tie
+use Rattle.carried.proofs.put_owed.Statement.{statement}
+use Rattle.carried.proofs.put_owed.Tie as tie
 
 abbrev Inv-loop : tie.InvT-loop
 Inv-loop out₀ at file base lines first n owed v s₀ left₀ next₀ out s left next =

@@ -3,11 +3,11 @@ use mathlib.Core.Path.{_≡_}
 use Prim.Native.Nat.{_+_, _-_, _*_, _≤_}
 use lib.ListN.{length}
 use Rattle.columns.specs.Laid.{Owes}
 use Rattle.printing.specs.Rows.{rowsBytes}
 use borrow.Author.Needs.{needs}
-use Rattle.printing.proofs.Rowed.{rows}
-use Rattle.printing.proofs.rows.put_rows.Statement.{statement}
-use Rattle.printing.proofs.rows.put_rows.Tie as tie
+use Rattle.printed.proofs.Rowed.{rows}
+use Rattle.printed.proofs.rows.put_rows.Statement.{statement}
+use Rattle.printed.proofs.rows.put_rows.Tie as tie
 
 abbrev Inv-loop : tie.InvT-loop
 Inv-loop out₀ at list file first n parameters c d next₀ i₀ out next i =

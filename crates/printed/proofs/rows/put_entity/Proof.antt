@@ -1,8 +1,8 @@
 -- The entry line, then the values.
 use borrow.Author.Needs.{needs}
-use Rattle.printing.proofs.Rowed.{rowed}
-use Rattle.printing.proofs.rows.put_entity.Statement.{statement}
-use Rattle.printing.proofs.rows.put_entity.Tie as tie
+use Rattle.printed.proofs.Rowed.{rowed}
+use Rattle.printed.proofs.rows.put_entity.Statement.{statement}
+use Rattle.printed.proofs.rows.put_entity.Tie as tie
 
 pub put-entity-spec : {M : Type 1} → statement M
 put-entity-spec =

@@ -1,8 +1,8 @@
 -- By the two cases of an entry.
 use borrow.Author.Needs.{needs}
-use Rattle.printing.proofs.Rowed.{row}
-use Rattle.printing.proofs.rows.put_row.Statement.{statement}
-use Rattle.printing.proofs.rows.put_row.Tie as tie
+use Rattle.printed.proofs.Rowed.{row}
+use Rattle.printed.proofs.rows.put_row.Statement.{statement}
+use Rattle.printed.proofs.rows.put_row.Tie as tie
 
 pub put-row-spec : {M : Type 1} → statement M
 put-row-spec =

@@ -1,8 +1,8 @@
 -- A record that ends with its opening has no fields.
 use borrow.Author.Needs.{needs}
 use Rattle.printing.proofs.Wholes.{wholes}
-use Rattle.printing.proofs.sheet.put_fields.Statement.{statement}
-use Rattle.printing.proofs.sheet.put_fields.Tie as tie
+use Rattle.printed.proofs.put_fields.Statement.{statement}
+use Rattle.printed.proofs.put_fields.Tie as tie
 
 pub put-fields-spec : {M : Type 1} → statement M
 put-fields-spec =
