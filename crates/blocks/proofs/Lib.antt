@@ -2,9 +2,4 @@ pub mod Filed
 pub mod Lined
 pub mod Ended
 pub mod Said
-pub mod Spelled
-pub mod Valued
 pub mod Tailed
-pub mod Blocked
-pub mod Fielded
-pub mod Opened

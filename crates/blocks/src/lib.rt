@@ -1,9 +1,7 @@
 // The lines of the canonical file, laid over a lent buffer and clipped to it: with an empty buffer they are measured.
-// `lines` writes an S line, an entry's two D lines and the T line, `text` ends a record and its lines, `parameters` writes an entity's P lines,
-// `globals` the G lines.
-pub mod globals;
+// `lines` writes an S line, an entry's two D lines and the T line, `text` ends a record and its lines. Crate `psection`
+// writes an entity's P lines, `gsection` the G lines.
 pub mod lines;
-pub mod parameters;
 pub mod text;
 
 use values::Value;

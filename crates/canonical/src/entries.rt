@@ -1,9 +1,9 @@
 // The D and P lines, entry by entry: D lines in their section, P lines in theirs.
 use crate::Place;
 use blocks::lines::put_entry_lines;
-use blocks::parameters::put_block;
 use cards::LINE_BYTES;
 use directory::Fields;
+use psection::put_block;
 use said::end_of;
 use said::entry_at;
 use sheets::EntryLine;

@@ -2,10 +2,10 @@
 use crate::Place;
 use crate::entries::put_rows;
 use crate::starts::put_starts;
-use blocks::globals::put_globals;
 use blocks::lines::put_last_line;
 use cards::Counts;
 use cards::LINE_BYTES;
+use gsection::put_globals;
 ghost use mathlib.Core.Path.{_≡_};
 ghost use Prim.Native.Nat.{_*_};
 ghost use Rattle.columns.specs.Laid.{Wrote};

@@ -12,10 +12,10 @@ use borrow.Fn.Kind.{PK, RK}
 use borrow.Fn.Kinds.{In, Out, Dens, resT, endedOf}
 use Rattle.sheets.specs.Sheet.{Line, linesIn}
 use Rattle.blocks.specs.declared.Block.{Block}
-use Rattle.blocks.proofs.globals.put_globals.Kinds as put-globals-kinds
-use Rattle.blocks.proofs.globals.put_globals.Reads as put-globals-reads
-use Rattle.blocks.proofs.parameters.put_block.Kinds as put-block-kinds
-use Rattle.blocks.proofs.parameters.put_block.Reads as put-block-reads
+use Rattle.gsection.proofs.put_globals.Kinds as put-globals-kinds
+use Rattle.gsection.proofs.put_globals.Reads as put-globals-reads
+use Rattle.psection.proofs.put_block.Kinds as put-block-kinds
+use Rattle.psection.proofs.put_block.Reads as put-block-reads
 
 -- the lines that stand behind a block
 abbrev pub linesBehind : List ℕ → Block → List Line

@@ -1,0 +1,3 @@
+pub mod Blocked
+pub mod Spelled
+pub mod Valued
