@@ -2,20 +2,20 @@
 use mathlib.Core.Path.{refl}
 use Rattle.writing.proofs.check.Kinds as check-kinds
 use Rattle.writing.proofs.check.Reads as check-reads
-use Rattle.writing.proofs.entity.named_rules.Kinds as entity-named-rules-kinds
-use Rattle.writing.proofs.entity.named_rules.Reads as entity-named-rules-reads
-use Rattle.writing.proofs.heads.head_at.Kinds as heads-head-at-kinds
-use Rattle.writing.proofs.heads.head_at.Reads as heads-head-at-reads
-use Rattle.writing.proofs.refer.reference_of.Kinds as refer-reference-of-kinds
-use Rattle.writing.proofs.refer.reference_of.Reads as refer-reference-of-reads
-use Rattle.writing.proofs.refer.references.Kinds as refer-references-kinds
-use Rattle.writing.proofs.refer.references.Reads as refer-references-reads
-use Rattle.writing.proofs.rules.rule_too.Kinds as rules-rule-too-kinds
-use Rattle.writing.proofs.rules.rule_too.Reads as rules-rule-too-reads
-use Rattle.writing.proofs.table.keep.Kinds as table-keep-kinds
-use Rattle.writing.proofs.table.keep.Reads as table-keep-reads
-use Rattle.writing.proofs.table.class_at.Kinds as table-class-at-kinds
-use Rattle.writing.proofs.table.class_at.Reads as table-class-at-reads
+use Rattle.judging.proofs.named_rules.Kinds as entity-named-rules-kinds
+use Rattle.judging.proofs.named_rules.Reads as entity-named-rules-reads
+use Rattle.asking.proofs.heads.head_at.Kinds as heads-head-at-kinds
+use Rattle.asking.proofs.heads.head_at.Reads as heads-head-at-reads
+use Rattle.asking.proofs.refer.reference_of.Kinds as refer-reference-of-kinds
+use Rattle.asking.proofs.refer.reference_of.Reads as refer-reference-of-reads
+use Rattle.asking.proofs.refer.references.Kinds as refer-references-kinds
+use Rattle.asking.proofs.refer.references.Reads as refer-references-reads
+use Rattle.asking.proofs.rules.rule_too.Kinds as rules-rule-too-kinds
+use Rattle.asking.proofs.rules.rule_too.Reads as rules-rule-too-reads
+use Rattle.asking.proofs.table.keep.Kinds as table-keep-kinds
+use Rattle.asking.proofs.table.keep.Reads as table-keep-reads
+use Rattle.asking.proofs.table.class_at.Kinds as table-class-at-kinds
+use Rattle.asking.proofs.table.class_at.Reads as table-class-at-reads
 use Rattle.demands.specs.Unique.{NoSecond}
 use Rattle.demands.proofs.Unique.{once, wrote-first}
 

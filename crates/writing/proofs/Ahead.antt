@@ -19,9 +19,9 @@ use Rattle.canonical.specs.declared.Tally.{Tally}
 use Rattle.canonical.specs.declared.Lines.{Lines}
 use Rattle.canonical.specs.Counting.{withValue, tallied, within, behindValue, capped}
 use Rattle.canonical.proofs.Counted.{capped-same, value-same}
-use Rattle.writing.specs.declared.Pass.{Pass}
-use Rattle.writing.specs.Lines.{OfGlobal, OfRow, orElse, linesPass}
-use Rattle.writing.specs.Classes.{classesIn}
+use Rattle.asking.specs.declared.Pass.{Pass}
+use Rattle.asking.specs.Lines.{OfGlobal, OfRow, orElse, linesPass}
+use Rattle.asking.specs.Classes.{classesIn}
 use Rattle.writing.specs.Ahead.{Ahead}
 use Rattle.writing.proofs.Walking.{next-place}
 

@@ -20,13 +20,14 @@ use Rattle.model.specs.Model.{Model, typeOf, fieldsIn, carriedOf, modelOf}
 use Rattle.model.specs.Write.{rowTypes, sheetRules, writeModel}
 use Rattle.canonical.specs.declared.Lines.{Lines}
 use Rattle.canonical.specs.Counting.{linesOfSheet}
-use Rattle.writing.specs.declared.Pass.{Pass}
-use Rattle.writing.specs.declared.Pass.the-variants.{Good as GoodPass, Refused as RefusedPass}
+use Rattle.asking.specs.declared.Pass.{Pass}
+use Rattle.asking.specs.declared.Pass.the-variants.{Good as GoodPass, Refused as RefusedPass}
 use Rattle.writing.specs.declared.Ruled.{Ruled}
 use Rattle.writing.specs.declared.Ruled.the-variants.{Good, Refused}
-use Rattle.writing.specs.Lines.{passOf, orElse}
-use Rattle.writing.specs.Classes.{sheetTypes}
-use Rattle.writing.specs.Answers.{told, ruledOf, rulesPass, referencesPass, entitiesPass, sheetPass}
+use Rattle.asking.specs.Lines.{passOf, orElse}
+use Rattle.asking.specs.Classes.{sheetTypes}
+use Rattle.asking.specs.Passes.{rulesPass, referencesPass, entitiesPass, sheetPass}
+use Rattle.writing.specs.Answers.{told, ruledOf}
 use Rattle.writing.proofs.Sheets.{types-are, sheet-pass}
 
 -- ---- the passes

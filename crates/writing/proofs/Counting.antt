@@ -13,7 +13,7 @@ use Rattle.canonical.specs.declared.Tally.{Tally}
 use Rattle.canonical.specs.declared.Lines.{Lines}
 use Rattle.canonical.specs.Counting.{begun, tallyLine, tallySaid, tallied, within, linesOfSheet, Under}
 use Rattle.canonical.proofs.Tallies.{tally-line}
-use Rattle.writing.proofs.Lines.{lines-piece, lines-none}
+use Rattle.asking.proofs.Lines.{lines-piece, lines-none}
 
 -- f is the count
 module _ (f : Lines) (t : List ℕ) (x : Tally) (at n : ℕ) (inv : within (tallied x (linesIn (drop at t))) ≡ f) (all : n ≡ length t) where

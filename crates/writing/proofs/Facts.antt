@@ -18,11 +18,12 @@ use Rattle.model.specs.Model.{Model, modelOf}
 use Rattle.model.specs.Write.{sheetRules, writeModel}
 use Rattle.canonical.specs.declared.Lines.{Lines}
 use Rattle.canonical.specs.Counting.{linesOfSheet}
-use Rattle.writing.specs.declared.Pass.{Pass}
-use Rattle.writing.specs.declared.Pass.the-variants.{Good as GoodPass, Refused as RefusedPass}
+use Rattle.asking.specs.declared.Pass.{Pass}
+use Rattle.asking.specs.declared.Pass.the-variants.{Good as GoodPass, Refused as RefusedPass}
 use Rattle.writing.specs.declared.Ruled.the-variants.{Good, Refused}
-use Rattle.writing.specs.Lines.{passOf}
-use Rattle.writing.specs.Answers.{told, ruledOf, sheetPass}
+use Rattle.asking.specs.Lines.{passOf}
+use Rattle.asking.specs.Passes.{sheetPass}
+use Rattle.writing.specs.Answers.{told, ruledOf}
 use Rattle.writing.proofs.Sheets.{sheet-pass}
 use Rattle.writing.proofs.Checking.{check-list, check-sheet, check-pass, check-good}
 

@@ -1,11 +1,3 @@
-pub mod Lines
-pub mod Others
-pub mod Heading
-pub mod Saying
-pub mod Tables
-pub mod Judging
-pub mod Naming
-pub mod Referring
 pub mod Sheets
 pub mod Checking
 pub mod Walking

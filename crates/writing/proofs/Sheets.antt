@@ -12,12 +12,12 @@ use Rattle.rows.specs.Rows.{typesIn}
 use Rattle.rows.proofs.Rows.{values-first, rowType, types-sheet}
 use Rattle.model.specs.Model.{typeOf, fieldsIn, carriedOf, modelOf}
 use Rattle.model.specs.Write.{one, rowSize, firstGlobal, firstRow, globalRule, rowRules, rowReferences, rowEntityRules, rowTypes, sheetRules}
-use Rattle.writing.specs.declared.Pass.{Pass}
-use Rattle.writing.specs.declared.Pass.the-variants.{Good, Refused}
-use Rattle.writing.specs.Lines.{passOf, orElse, OfGlobal, OfRow, noRule, linesPass}
-use Rattle.writing.specs.Classes.{sheetTypes}
-use Rattle.writing.specs.Answers.{rulesPass, referencesPass, entitiesPass, sheetPass}
-use Rattle.writing.proofs.Lines.{or-assoc}
+use Rattle.asking.specs.declared.Pass.{Pass}
+use Rattle.asking.specs.declared.Pass.the-variants.{Good, Refused}
+use Rattle.asking.specs.Lines.{passOf, orElse, OfGlobal, OfRow, noRule, linesPass}
+use Rattle.asking.specs.Classes.{sheetTypes}
+use Rattle.asking.specs.Passes.{rulesPass, referencesPass, entitiesPass, sheetPass}
+use Rattle.asking.proofs.Lines.{or-assoc}
 
 -- ---- passes one after another
 

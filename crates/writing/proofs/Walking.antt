@@ -22,12 +22,13 @@ use Rattle.sheets.proofs.Walk.{lines-first, none-off, step-said, line-says, lin
 use Rattle.canonical.specs.declared.Tally.{Tally}
 use Rattle.canonical.specs.declared.Lines.{Lines}
 use Rattle.canonical.specs.Counting.{within, linesOfSheet}
-use Rattle.writing.specs.declared.Pass.{Pass}
-use Rattle.writing.specs.Lines.{OfGlobal, OfRow, orElse, linesPass}
-use Rattle.writing.specs.Classes.{classesIn, tableSize, Tabled}
-use Rattle.writing.specs.Answers.{IfGood, rulesPass}
-use Rattle.writing.proofs.Lines.{piece-line, lines-none}
-use Rattle.writing.proofs.Tables.{filled}
+use Rattle.asking.specs.declared.Pass.{Pass}
+use Rattle.asking.specs.Lines.{OfGlobal, OfRow, orElse, linesPass}
+use Rattle.asking.specs.Classes.{classesIn, tableSize, Tabled}
+use Rattle.asking.specs.Passes.{rulesPass}
+use Rattle.writing.specs.Answers.{IfGood}
+use Rattle.asking.proofs.Lines.{piece-line, lines-none}
+use Rattle.asking.proofs.Tables.{filled}
 use Rattle.writing.proofs.Checking.{good-count}
 
 -- what holds holds where the lines are good

@@ -7,8 +7,8 @@ use Rattle.sheets.specs.Sheet.{Line}
 use Rattle.sheets.specs.Order.{goLines}
 use Rattle.canonical.specs.declared.Tally.{Tally}
 use Rattle.canonical.specs.Counting.{withValue, tallied, within}
-use Rattle.writing.specs.Lines.{OfGlobal, OfRow, linesPass}
-use Rattle.writing.specs.Classes.{classesIn}
+use Rattle.asking.specs.Lines.{OfGlobal, OfRow, linesPass}
+use Rattle.asking.specs.Classes.{classesIn}
 
 -- with another state and position, the lines `rest` have the verdict, the answers, the classes and the count that `ls` have with these
 pub record Ahead (st : State) (p : ℕ) (ls : List Line) (st′ : State) (p′ : ℕ) (rest : List Line) : Type 0 where

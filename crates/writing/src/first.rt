@@ -1,10 +1,10 @@
 // The first walk over a sheet: its lines in order (17), what each is asked by itself (8, 9, 13), the class of each entry for the table, and how many
 // lines the file has (19).
-use crate::Pass;
 use crate::Past;
 use crate::Walked;
-use crate::rules::rule_too;
-use crate::table::keep;
+use asking::Pass;
+use asking::rules::rule_too;
+use asking::table::keep;
 use canonical::Tally;
 use canonical::counts::behind_value;
 use canonical::counts::tally_said;
@@ -26,8 +26,9 @@ ghost use Rattle.columns.specs.Laid.{laid};
 ghost use Rattle.sheets.specs.Sheet.{linesIn};
 ghost use Rattle.sheets.specs.Order.{verdictOf};
 ghost use Rattle.canonical.specs.Counting.{within, linesOfSheet, Under};
-ghost use Rattle.writing.specs.Classes.{classesIn};
-ghost use Rattle.writing.specs.Answers.{IfGood, rulesPass};
+ghost use Rattle.asking.specs.Classes.{classesIn};
+ghost use Rattle.asking.specs.Passes.{rulesPass};
+ghost use Rattle.writing.specs.Answers.{IfGood};
 ghost use Rattle.writing.specs.Ahead.{Ahead};
 
 // Past the value lines from `from` on, as far as they are in order: they have no rule and no class. The first value stands at position p of its record.

@@ -2,53 +2,22 @@
 // A sheet is walked twice. The first walk asks 17 of each line, and 8, 9 and 13, the first refusal of which is kept, since 17 comes before all
 // of them; on it the class of each entry is put into a table, and the lines of the file are counted. The second walk asks 10 of each entry, then 14, 15 and 18 with the value
 // lines behind it, and goes on behind these; behind a refused entity only 10 is left to ask.
-// `first` is the first walk, `heads` reads the lines that are asked on the second, `rules` asks 8, 9 and 13, `table` keeps the class of each
-// entry, `refer` asks 10, `entity` asks 14, 15 and 18 and makes the second walk.
-pub mod entity;
+// `first` is the first walk. Crate `asking` has what it asks of a line and keeps of an entry, `judging` makes the second walk.
 mod first;
-pub mod heads;
-pub mod refer;
-pub mod rules;
-pub mod table;
 
+use asking::Pass;
+use asking::table::TABLE;
 use canonical::Lines;
 use canonical::Tally;
 use canonical::counts::lines_of;
 use columns::Fault;
 use columns::SheetLine;
-use layouts::Stepped;
 use sheets::State;
 use sheets::Verdict;
 ghost use mathlib.Core.Path.{_≡_};
-ghost use Rattle.writing.specs.Classes.{Tabled};
-ghost use Rattle.writing.specs.Answers.{ruledOf, rulesPass, sheetPass};
-
-// All is good, or the first refusal and its line.
-pub enum Pass {
-    Good,
-    Refused { fault: Fault, line: SheetLine },
-}
-
-// The layout's state behind an entity's values, and whether all their marks are right.
-pub struct Judged {
-    pub state: Stepped,
-    pub right: bool,
-}
-
-// The same of the value lines behind a line, with the place behind them and how many they are.
-pub struct Values {
-    pub state: Stepped,
-    pub right: bool,
-    pub next: usize,
-    pub lines: usize,
-}
-
-// What comes of a line and the value lines behind it, with the place behind them and how many they are.
-pub struct Asked {
-    pub found: Pass,
-    pub next: usize,
-    pub lines: usize,
-}
+ghost use Rattle.asking.specs.Classes.{Tabled};
+ghost use Rattle.asking.specs.Passes.{rulesPass, sheetPass};
+ghost use Rattle.writing.specs.Answers.{ruledOf};
 
 // Where the first walk stands behind value lines: the state, the place, and the position behind the last value in its record.
 pub struct Past {
@@ -78,7 +47,7 @@ fn passes(list: u64, classes: &[u8], n: usize, t: &[u8], first: Pass) -> Pass
 {
     match first {
         Pass::Refused { fault, line } => Pass::Refused { fault, line },
-        Pass::Good => entity::named_rules(list, classes, n, t),
+        Pass::Good => judging::named_rules(list, classes, n, t),
     }
 }
 
@@ -92,7 +61,7 @@ pub fn check(list: u64, t: &[u8]) -> Ruled
             line: SheetLine(0),
         };
     }
-    let mut classes = [0u8; table::TABLE];
+    let mut classes = [0u8; TABLE];
     let walked = first::walk(&mut classes, t);
     let verdict = walked.verdict;
     let first = walked.pass;

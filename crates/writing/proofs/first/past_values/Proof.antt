@@ -10,7 +10,7 @@ use Rattle.writing.specs.Ahead.{Ahead}
 use borrow.Author.Needs.{needs}
 use borrow.Author.Tests.{not-false}
 use Rattle.sheets.proofs.Valued.{value-long}
-use Rattle.writing.proofs.Lines.{line-given, strict-given}
+use Rattle.asking.proofs.Lines.{line-given, strict-given}
 use Rattle.writing.proofs.Walking.{next-line, next-entries}
 use Rattle.writing.proofs.Ahead.{ahead-none, ahead-on}
 use Rattle.writing.proofs.first.past_values.Statement.{statement}

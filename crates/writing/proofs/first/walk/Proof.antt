@@ -8,14 +8,14 @@ use Rattle.sheets.specs.Sheet.{linesIn}
 use Rattle.sheets.specs.Order.{goLines, verdictOf}
 use Rattle.model.specs.Write.{globalRule, rowRules}
 use Rattle.canonical.specs.Counting.{tallied, within, linesOfSheet, Under}
-use Rattle.writing.specs.Lines.{orElse, linesPass}
-use Rattle.writing.specs.Classes.{classesIn}
-use Rattle.writing.specs.Answers.{rulesPass}
+use Rattle.asking.specs.Lines.{orElse, linesPass}
+use Rattle.asking.specs.Classes.{classesIn}
+use Rattle.asking.specs.Passes.{rulesPass}
 use native.Mathlib.Omega.{arith}
 use borrow.Author.Needs.{needs}
-use Rattle.writing.proofs.Lines.{behind}
-use Rattle.writing.proofs.Saying.{rules-end, rules-piece, rules-said, rules-start, asking}
-use Rattle.writing.proofs.Tables.{fill-said, fill-piece, fill-end, wrote-length, laying}
+use Rattle.asking.proofs.Lines.{behind}
+use Rattle.asking.proofs.Saying.{rules-end, rules-piece, rules-said, rules-start, asking}
+use Rattle.asking.proofs.Tables.{fill-said, fill-piece, fill-end, wrote-length, laying}
 use Rattle.writing.proofs.Walking.{if-good, if-wrong, go-end, go-piece, go-on, go-off, next-line, next-entries, next-asked, ordering}
 use Rattle.writing.proofs.Ahead.{ahead-go, ahead-asked, ahead-laid, ahead-counted}
 use Rattle.canonical.proofs.Tallies.{line-short}

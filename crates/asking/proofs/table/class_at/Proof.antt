@@ -1,0 +1,17 @@
+-- An even number and one past the last entry name none; the table has the others as far as it reaches, the sheet all.
+use borrow.Author.Needs.{needs}
+use Rattle.asking.proofs.Tables.{names}
+use Rattle.asking.proofs.table.class_at.Statement.{statement}
+use Rattle.asking.proofs.table.class_at.Tie as tie
+
+pub class-at-spec : {M : Type 1} → statement M
+class-at-spec =
+    tie.close
+    (tie.spec
+    (λ c. search (needs, names))
+    (λ c. search (needs, names))
+    (λ c. search (needs, names))
+    (λ c. search (needs, names))
+    (λ c. search (needs, names))
+    (λ c κs. search (needs, names))
+    (λ c. search (needs, names)))

@@ -1,0 +1,4 @@
+pub mod Lines
+pub mod Heads
+pub mod Classes
+pub mod Passes

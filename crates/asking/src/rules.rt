@@ -1,0 +1,61 @@
+// What lines are asked by themselves: 8 of a G line, 9 and 13 of an entry line. G lines stand before entries, so this is one walk;
+// on it the class of each entry is put into the table, too.
+use crate::Pass;
+use crate::heads::head_at;
+use crate::table::keep;
+use columns::Fault;
+use columns::SheetLine;
+use directory::Rule;
+use said::end_of;
+use sheets::Said;
+ghost use mathlib.Core.Path.{_≡_};
+ghost use Rattle.columns.specs.Laid.{laid};
+ghost use Rattle.sheets.specs.Sheet.{linesIn};
+ghost use Rattle.asking.specs.Lines.{orElse};
+ghost use Rattle.asking.specs.Heads.{saidRule};
+ghost use Rattle.asking.specs.Classes.{classesIn};
+ghost use Rattle.asking.specs.Passes.{rulesPass};
+
+// What a line says, at its place.
+fn rule_of(said: Said, place: usize) -> Pass
+    ensures { λ r. ⌜ r ≡ saidRule place said ⌝ }
+{
+    let line = SheetLine(place);
+    match said {
+        Said::Global {
+            number,
+            at: _,
+            value,
+        } => {
+            if global::global_fits(number, value) {
+                return Pass::Good;
+            }
+            Pass::Refused {
+                fault: Fault::Global,
+                line,
+            }
+        }
+        Said::Entry {
+            known: _,
+            number: _,
+            fields,
+        } => {
+            let rule = directory::rules::entry_rules(fields);
+            match rule {
+                Rule::Good => Pass::Good,
+                Rule::Refused(fault) => Pass::Refused { fault, line },
+            }
+        }
+        _ => Pass::Good,
+    }
+}
+
+// The first refusal so far, or that of this line.
+pub fn rule_too(first: Pass, said: Said, place: usize) -> Pass
+    ensures { λ r. ⌜ r ≡ orElse first (saidRule place said) ⌝ }
+{
+    match first {
+        Pass::Refused { fault, line } => Pass::Refused { fault, line },
+        Pass::Good => rule_of(said, place),
+    }
+}
