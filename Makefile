@@ -11,12 +11,15 @@ ARCHIVE ?= target/staticlib/libszelmikra.a
 OUT = target/host
 CXXFLAGS ?= -O2 -Wall -Wextra -Wpedantic -Wconversion
 
-# Provers at a time. They are started in groups that are waited for whole, so that a few more than there are cores leave none idle.
-export RT_JOBS ?= 4
+# Provers at a time. They are started in groups that are waited for whole, so that more than there are cores leave none idle; the largest take 1.5 GB each.
+export RT_JOBS ?= 8
+
+# The C++ side is compiled while the library is proved, and its tests run side by side.
+MAKEFLAGS += -j2
 
 include host/host.mk
 
-.PHONY: test fmt lib tools sample check-host check-install bench stack example install
+.PHONY: test fmt lib tools sample check-host check-vectors check-differential check-cli check-install bench stack example install
 .DELETE_ON_ERROR:
 .DEFAULT_GOAL = tools
 
@@ -35,7 +38,7 @@ lib: target/staticlib/libszelmikra.a
 target/staticlib/libszelmikra.a: $(shell find crates -name '*.rt')
 	@mkdir -p target
 	@echo 'proving the library, which takes some minutes; target/szelmikra.log tells how far it is' >&2
-	@{ rt check szelmikra && rt staticlib szelmikra; } >target/szelmikra.log 2>&1 || { cat target/szelmikra.log; exit 1; }
+	@{ rt check rewrap && rt staticlib szelmikra; } >target/szelmikra.log 2>&1 || { cat target/szelmikra.log; exit 1; }
 
 $(OUT)/%.o: host/%.cpp host/host.mk Makefile | toolchain
 	@mkdir -p $(@D)
@@ -51,10 +54,16 @@ PROGRAMS = $(OUT)/szelmikra $(OUT)/bench $(TESTS)/vectors $(TESTS)/differential 
 $(PROGRAMS): $(ARCHIVE) | $(CROSS_LIBM)
 	@$(HOST_CXX) $(CXXFLAGS) -pthread $(HOST_LINK) -o $@ $(filter %.o,$^) $(ARCHIVE)
 
-check-host: $(TESTS)/vectors $(TESTS)/differential $(OUT)/szelmikra
-	@$(HOST_RUN) $(TESTS)/vectors crates/vectors/stdin
-	@$(HOST_RUN) $(TESTS)/differential
-	@host/tests/cli.sh $(HOST_RUN) $(OUT)/szelmikra
+check-host: check-vectors check-differential check-cli
+
+check-vectors: $(TESTS)/vectors
+	@$(HOST_RUN) $< crates/vectors/stdin
+
+check-differential: $(TESTS)/differential
+	@$(HOST_RUN) $<
+
+check-cli: $(OUT)/szelmikra
+	@host/tests/cli.sh $(HOST_RUN) $<
 
 check-install: tools
 	@host/tests/install.sh "$(HOST_CXX)" "$(HOST_RUN)" $(MAKE) -s ARCHIVE=$(ARCHIVE)
