@@ -37,7 +37,7 @@ use Rattle.columns.proofs.look.same.Reads as look-same-reads
 use Rattle.demands.specs.Unique.{NoSecond}
 use Rattle.demands.proofs.Unique.{once, wrote-first}
 
--- ---- columns::emit
+-- ---- emit
 
 pub emit-put : NoSecond emit-put-kinds.ps emit-put-kinds.r emit-put-reads.Post
 emit-put κs a z z′ left left′ p q = wrote-first (left .1) (p .0) (q .0)

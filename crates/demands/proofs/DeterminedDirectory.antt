@@ -31,7 +31,7 @@ use Rattle.directory.proofs.writing.put_second.Reads as writing-put-second-read
 use Rattle.demands.specs.Unique.{NoSecond}
 use Rattle.demands.proofs.Unique.{once, wrote-first}
 
--- ---- directory::lines
+-- ---- dlines
 
 pub lines-entry-at : NoSecond lines-entry-at-kinds.ps lines-entry-at-kinds.r lines-entry-at-reads.Post
 lines-entry-at κs a z z′ left left′ p q = (once (p .0) (q .0), refl)
@@ -48,7 +48,7 @@ lines-lines-at κs a z z′ left left′ p q = (once (p .0) (q .0), refl)
 pub lines-label-at : NoSecond lines-label-at-kinds.ps lines-label-at-kinds.r lines-label-at-reads.Post
 lines-label-at κs a z z′ left left′ p q = (once p q, refl)
 
--- ---- directory::naming
+-- ---- dlines::naming
 
 pub naming-class-at : NoSecond naming-class-at-kinds.ps naming-class-at-kinds.r naming-class-at-reads.Post
 naming-class-at κs a z z′ left left′ p q = (once p q, refl)

@@ -50,7 +50,7 @@ list-known κs a z z′ left left′ p q = (once p q, refl)
 pub list-is-list : NoSecond list-is-list-kinds.ps list-is-list-kinds.r list-is-list-reads.Post
 list-is-list κs a z z′ left left′ p q = (once p q, refl)
 
--- ---- layouts::machine
+-- ---- machine
 
 pub machine-with-left : NoSecond machine-with-left-kinds.ps machine-with-left-kinds.r machine-with-left-reads.Post
 machine-with-left κs a z z′ left left′ p q = (once p q, refl)
@@ -78,7 +78,7 @@ places-look κs a z z′ left left′ p q = (once p q, refl)
 pub places-rests-in : NoSecond places-rests-in-kinds.ps places-rests-in-kinds.r places-rests-in-reads.Post
 places-rests-in κs a z z′ left left′ p q = (once p q, refl)
 
--- ---- layouts::take
+-- ---- machine::take
 
 pub take-takes-in : NoSecond take-takes-in-kinds.ps take-takes-in-kinds.r take-takes-in-reads.Post
 take-takes-in κs a z z′ left left′ p q = (once p q, refl)

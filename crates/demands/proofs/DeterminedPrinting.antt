@@ -29,7 +29,7 @@ use Rattle.printing.proofs.taking.met_at.Reads as taking-met-at-reads
 use Rattle.demands.specs.Unique.{NoSecond}
 use Rattle.demands.proofs.Unique.{once, wrote-first}
 
--- ---- printing::carried
+-- ---- carried
 
 pub carried-put-values : NoSecond carried-put-values-kinds.ps carried-put-values-kinds.r carried-put-values-reads.Post
 carried-put-values κs a z z′ left left′ p q = wrote-first (left .1) (p .0) (q .0)
@@ -58,7 +58,7 @@ lines-put-value-line κs a z z′ left left′ p q = wrote-first (left .1) (p .0
 pub lines-put-global-line : NoSecond lines-put-global-line-kinds.ps lines-put-global-line-kinds.r lines-put-global-line-reads.Post
 lines-put-global-line κs a z z′ left left′ p q = wrote-first (left .1) (p .0) (q .0)
 
--- ---- printing::rows
+-- ---- printed::rows
 
 pub rows-put-entity : NoSecond rows-put-entity-kinds.ps rows-put-entity-kinds.r rows-put-entity-reads.Post
 rows-put-entity κs a z z′ left left′ p q = wrote-first (left .1) (p .0) (q .0)
@@ -66,7 +66,7 @@ rows-put-entity κs a z z′ left left′ p q = wrote-first (left .1) (p .0) (q 
 pub rows-put-rows : NoSecond rows-put-rows-kinds.ps rows-put-rows-kinds.r rows-put-rows-reads.Post
 rows-put-rows κs a z z′ left left′ p q = wrote-first (left .1) (p .0) (q .0)
 
--- ---- printing::sheet
+-- ---- printed
 
 pub sheet-put-sheet : NoSecond sheet-put-sheet-kinds.ps sheet-put-sheet-kinds.r sheet-put-sheet-reads.Post
 sheet-put-sheet κs a z z′ left left′ p q = wrote-first (left .1) (p .0) (q .0)

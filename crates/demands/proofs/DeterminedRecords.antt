@@ -33,7 +33,7 @@ use Rattle.records.proofs.position.column_of.Reads as position-column-of-reads
 use Rattle.demands.specs.Unique.{NoSecond}
 use Rattle.demands.proofs.Unique.{once, put-first}
 
--- ---- records::flow
+-- ---- flow
 
 pub flow-put-char : NoSecond flow-put-char-kinds.ps flow-put-char-kinds.r flow-put-char-reads.Post
 flow-put-char κs a z z′ left left′ p q = put-first (left .1) (p .0) (q .0)
@@ -53,7 +53,7 @@ flow-piece-end κs a z z′ left left′ p q = (once (p .0) (q .0), refl)
 pub flow-spelled-end : NoSecond flow-spelled-end-kinds.ps flow-spelled-end-kinds.r flow-spelled-end-reads.Post
 flow-spelled-end κs a z z′ left left′ p q = (once (p .0) (q .0), refl)
 
--- ---- records::global
+-- ---- global
 
 pub global-opening-of : NoSecond global-opening-of-kinds.ps global-opening-of-kinds.r global-opening-of-reads.Post
 global-opening-of κs a z z′ left left′ p q = (once (p .0) (q .0), refl)
@@ -64,7 +64,7 @@ global-stray κs a z z′ left left′ p q = (once (p .0) (q .0), refl)
 pub global-global-fits : NoSecond global-global-fits-kinds.ps global-global-fits-kinds.r global-global-fits-reads.Post
 global-global-fits κs a z z′ left left′ p q = (once p q, refl)
 
--- ---- records::reading
+-- ---- freeformat
 
 pub reading-char-at : NoSecond reading-char-at-kinds.ps reading-char-at-kinds.r reading-char-at-reads.Post
 reading-char-at κs a z z′ left left′ p q = (once p q, refl)

@@ -67,7 +67,7 @@ order-finish-of κs a z z′ left left′ p q = (once p q, refl)
 pub order-wrong-piece : NoSecond order-wrong-piece-kinds.ps order-wrong-piece-kinds.r order-wrong-piece-reads.Post
 order-wrong-piece κs a z z′ left left′ p q = (once p q, refl)
 
--- ---- sheets::plain
+-- ---- plain
 
 pub plain-size-at : NoSecond plain-size-at-kinds.ps plain-size-at-kinds.r plain-size-at-reads.Post
 plain-size-at κs a z z′ left left′ p q = (once (p .0) (q .0), refl)
@@ -84,7 +84,7 @@ plain-tabbed-at κs a z z′ left left′ p q =
     let e : z .end ≡ z′ .end = once (p .0) (q .0) in
     (ap₂ (λ (x : Signed) (k : ℕ). record { number = x; end = k }) (p .1 .0 ∙ ap (λ (k : ℕ). numOf (a .1 .0) (columns (now (a .0)) (a .1 .1 .0) k)) e ∙ sym (q .1 .0)) e, refl)
 
--- ---- sheets::reading
+-- ---- said
 
 pub reading-end-of : NoSecond reading-end-of-kinds.ps reading-end-of-kinds.r reading-end-of-reads.Post
 reading-end-of κs a z z′ left left′ p q = (once (p .0) (q .0), refl)
@@ -104,7 +104,7 @@ reading-is-mark κs a z z′ left left′ p q = (once p q, refl)
 pub reading-is-value : NoSecond reading-is-value-kinds.ps reading-is-value-kinds.r reading-is-value-reads.Post
 reading-is-value κs a z z′ left left′ p q = (once p q, refl)
 
--- ---- sheets::writing
+-- ---- sheetlines
 
 pub writing-put-start : NoSecond writing-put-start-kinds.ps writing-put-start-kinds.r writing-put-start-reads.Post
 writing-put-start κs a z z′ left left′ p q = wrote-first (left .1) (p .0) (q .0)

@@ -29,7 +29,7 @@ use Rattle.spell.proofs.front_len.Reads as spell-front-len-reads
 use Rattle.demands.specs.Unique.{NoSecond}
 use Rattle.demands.proofs.Unique.{once, wrote-first}
 
--- ---- values::back
+-- ---- strict
 
 pub back-strict : NoSecond back-strict-kinds.ps back-strict-kinds.r back-strict-reads.Post
 back-strict κs a z z′ left left′ p q = (once (p .0) (q .0), refl)
@@ -37,7 +37,7 @@ back-strict κs a z z′ left left′ p q = (once (p .0) (q .0), refl)
 pub back-front-of : NoSecond back-front-of-kinds.ps back-front-of-kinds.r back-front-of-reads.Post
 back-front-of κs a z z′ left left′ p q = (once (p .0) (q .0), refl)
 
--- ---- values::numbers
+-- ---- numbers
 
 pub numbers-scan-at : NoSecond numbers-scan-at-kinds.ps numbers-scan-at-kinds.r numbers-scan-at-reads.Post
 numbers-scan-at κs a z z′ left left′ p q = (once (p .0) (q .0), refl)
@@ -48,7 +48,7 @@ numbers-read κs a z z′ left left′ p q = (once (p .0) (q .0), refl)
 pub numbers-head-of : NoSecond numbers-head-of-kinds.ps numbers-head-of-kinds.r numbers-head-of-reads.Post
 numbers-head-of κs a z z′ left left′ p q = (once (p .0) (q .0), refl)
 
--- ---- values::spell
+-- ---- spell
 
 pub spell-put-whole : NoSecond spell-put-whole-kinds.ps spell-put-whole-kinds.r spell-put-whole-reads.Post
 spell-put-whole κs a z z′ left left′ p q = wrote-first (left .1) (p .0) (q .0)

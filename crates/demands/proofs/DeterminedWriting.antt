@@ -22,17 +22,17 @@ use Rattle.demands.proofs.Unique.{once, wrote-first}
 pub check : NoSecond check-kinds.ps check-kinds.r check-reads.Post
 check κs a z z′ left left′ p q = (once p q, refl)
 
--- ---- writing::entity
+-- ---- judging
 
 pub entity-named-rules : NoSecond entity-named-rules-kinds.ps entity-named-rules-kinds.r entity-named-rules-reads.Post
 entity-named-rules κs a z z′ left left′ p q = (once p q, refl)
 
--- ---- writing::heads
+-- ---- asking::heads
 
 pub heads-head-at : NoSecond heads-head-at-kinds.ps heads-head-at-kinds.r heads-head-at-reads.Post
 heads-head-at κs a z z′ left left′ p q = (once p q, refl)
 
--- ---- writing::refer
+-- ---- asking::refer
 
 pub refer-reference-of : NoSecond refer-reference-of-kinds.ps refer-reference-of-kinds.r refer-reference-of-reads.Post
 refer-reference-of κs a z z′ left left′ p q = (once p q, refl)
@@ -40,12 +40,12 @@ refer-reference-of κs a z z′ left left′ p q = (once p q, refl)
 pub refer-references : NoSecond refer-references-kinds.ps refer-references-kinds.r refer-references-reads.Post
 refer-references κs a z z′ left left′ p q = (once p q, refl)
 
--- ---- writing::rules
+-- ---- asking::rules
 
 pub rules-rule-too : NoSecond rules-rule-too-kinds.ps rules-rule-too-kinds.r rules-rule-too-reads.Post
 rules-rule-too κs a z z′ left left′ p q = (once p q, refl)
 
--- ---- writing::table
+-- ---- asking::table
 
 pub table-keep : NoSecond table-keep-kinds.ps table-keep-kinds.r table-keep-reads.Post
 table-keep κs a z z′ left left′ p q = wrote-first (left .1) (p .0) (q .0)

@@ -1,4 +1,4 @@
--- `values::numbers::before_of`: with no sign the digits are those with which the text begins.
+-- `numbers::before_of`: with no sign the digits are those with which the text begins.
 use borrow.Author.Needs.{needs}
 use Rattle.numbers.proofs.Steps.{numbered}
 use Rattle.numbers.proofs.before_of.Statement.{statement}

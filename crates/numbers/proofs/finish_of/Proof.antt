@@ -1,4 +1,4 @@
--- `values::numbers::finish_of`: by the exponent and the point, as the definition goes.
+-- `numbers::finish_of`: by the exponent and the point, as the definition goes.
 use borrow.Author.Needs.{needs}
 use Rattle.values.proofs.Laws.{laws}
 use Rattle.numbers.proofs.finish_of.Statement.{statement}

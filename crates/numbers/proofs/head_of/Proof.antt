@@ -1,4 +1,4 @@
--- `values::numbers::head_of`: the digits that a line begins with tell a count; a count is too short for the cap to be felt. Else they are the start of its number.
+-- `numbers::head_of`: the digits that a line begins with tell a count; a count is too short for the cap to be felt. Else they are the start of its number.
 use borrow.Author.Needs.{needs}
 use Rattle.values.proofs.Heads.{heads}
 use Rattle.numbers.proofs.head_of.Statement.{statement}

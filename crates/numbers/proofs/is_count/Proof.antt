@@ -1,4 +1,4 @@
--- `values::numbers::is_count`: by H, the number of digits and their worth, as the definition goes.
+-- `numbers::is_count`: by H, the number of digits and their worth, as the definition goes.
 use borrow.Author.Needs.{needs}
 use Rattle.values.proofs.Heads.{heads}
 use Rattle.numbers.proofs.is_count.Statement.{statement}

@@ -1,4 +1,4 @@
--- `values::numbers::point_len`: a point is one character, and anything else is none.
+-- `numbers::point_len`: a point is one character, and anything else is none.
 use borrow.Author.Needs.{needs}
 use Rattle.numbers.proofs.Steps.{parts}
 use Rattle.numbers.proofs.point_len.Statement.{statement}

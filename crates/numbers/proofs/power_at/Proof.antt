@@ -1,4 +1,4 @@
--- `values::numbers::power_at`: by its letter, E, D or none.
+-- `numbers::power_at`: by its letter, E, D or none.
 use borrow.Author.Needs.{needs}
 use Rattle.numbers.proofs.Steps.{powers}
 use Rattle.numbers.proofs.power_at.Statement.{statement}

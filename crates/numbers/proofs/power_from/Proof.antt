@@ -1,4 +1,4 @@
--- `values::numbers::power_from`: one to three digits are an exponent; else the first place that cannot go on with it is told.
+-- `numbers::power_from`: one to three digits are an exponent; else the first place that cannot go on with it is told.
 use borrow.Author.Needs.{needs}
 use Rattle.values.proofs.Laws.{laws}
 use Rattle.numbers.proofs.power_from.Statement.{statement}

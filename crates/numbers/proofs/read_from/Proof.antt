@@ -1,4 +1,4 @@
--- `values::numbers::read_from`: digits, point, digits and exponent are read where the definition looks for them.
+-- `numbers::read_from`: digits, point, digits and exponent are read where the definition looks for them.
 use native.Mathlib.Omega.{arith}
 use borrow.Author.Needs.{needs}
 use Rattle.numbers.proofs.Steps.{numbered}

@@ -1,4 +1,4 @@
--- `values::numbers::real_of`: by its limits: zero, too many digits, too small, too large, or within them.
+-- `numbers::real_of`: by its limits: zero, too many digits, too small, too large, or within them.
 use borrow.Author.Needs.{needs}
 use Rattle.numbers.proofs.Steps.{parts}
 use Rattle.numbers.proofs.real_of.Statement.{statement}

@@ -1,4 +1,4 @@
--- `values::numbers::run_of`: one more digit changes the run as the definition has it; the cap is in v already.
+-- `numbers::run_of`: one more digit changes the run as the definition has it; the cap is in v already.
 use borrow.Author.Needs.{needs}
 use Rattle.numbers.proofs.Steps.{parts}
 use Rattle.numbers.proofs.run_of.Statement.{statement}

@@ -1,4 +1,4 @@
--- `values::numbers::sign_len`: a sign is one character, and anything else is none.
+-- `numbers::sign_len`: a sign is one character, and anything else is none.
 use borrow.Author.Needs.{needs}
 use Rattle.numbers.proofs.Steps.{parts}
 use Rattle.numbers.proofs.sign_len.Statement.{statement}

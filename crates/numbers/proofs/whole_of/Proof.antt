@@ -1,4 +1,4 @@
--- `values::numbers::whole_of`: by its limit, and 0 has no sign.
+-- `numbers::whole_of`: by its limit, and 0 has no sign.
 use borrow.Author.Needs.{needs}
 use Rattle.numbers.proofs.Steps.{parts}
 use Rattle.numbers.proofs.whole_of.Statement.{statement}

@@ -1,4 +1,4 @@
--- `values::spell::exponent_len`: letter, sign and digits, where there is an exponent.
+-- `spell::exponent_len`: letter, sign and digits, where there is an exponent.
 use borrow.Author.Needs.{needs}
 use Rattle.spell.proofs.Lengths.{lengths}
 use Rattle.spell.proofs.exponent_len.Statement.{statement}

@@ -1,4 +1,4 @@
--- `values::spell::front_len`: by what the value is.
+-- `spell::front_len`: by what the value is.
 use borrow.Author.Needs.{needs}
 use Rattle.spell.proofs.Lengths.{lengths}
 use Rattle.spell.proofs.front_len.Statement.{statement}

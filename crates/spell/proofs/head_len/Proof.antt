@@ -1,4 +1,4 @@
--- `values::spell::head_len`: digits and H.
+-- `spell::head_len`: digits and H.
 use borrow.Author.Needs.{needs}
 use Rattle.spell.proofs.Lengths.{lengths}
 use Rattle.spell.proofs.head_len.Statement.{statement}

@@ -1,4 +1,4 @@
--- `values::spell::put_exponent`: a double always has one, a single where e is not 0.
+-- `spell::put_exponent`: a double always has one, a single where e is not 0.
 use borrow.Author.Needs.{needs}
 use Rattle.values.proofs.Spells.{spells}
 use Rattle.spell.proofs.put_exponent.Statement.{statement}

@@ -1,4 +1,4 @@
--- `values::spell::put_front`: by what the value is.
+-- `spell::put_front`: by what the value is.
 use borrow.Author.Needs.{needs}
 use Rattle.values.proofs.Spells.{spells}
 use Rattle.spell.proofs.put_front.Statement.{statement}

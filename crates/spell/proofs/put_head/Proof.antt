@@ -1,4 +1,4 @@
--- `values::spell::put_head`: digits and H, one write after the other.
+-- `spell::put_head`: digits and H, one write after the other.
 use borrow.Author.Needs.{needs}
 use Rattle.values.proofs.Spells.{spells}
 use Rattle.spell.proofs.put_head.Statement.{statement}

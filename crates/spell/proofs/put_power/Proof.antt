@@ -1,4 +1,4 @@
--- `values::spell::put_power`: letter, sign and digits, one write after another.
+-- `spell::put_power`: letter, sign and digits, one write after another.
 use borrow.Author.Needs.{needs}
 use Rattle.values.proofs.Spells.{spells}
 use Rattle.spell.proofs.put_power.Statement.{statement}

@@ -1,4 +1,4 @@
--- `values::spell::put_real`: sign, digits, point and exponent, one write after another.
+-- `spell::put_real`: sign, digits, point and exponent, one write after another.
 use borrow.Author.Needs.{needs}
 use Rattle.values.proofs.Spells.{spells}
 use Rattle.spell.proofs.put_real.Statement.{statement}

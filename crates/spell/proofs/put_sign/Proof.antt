@@ -1,4 +1,4 @@
--- `values::spell::put_sign`: a minus or nothing.
+-- `spell::put_sign`: a minus or nothing.
 use borrow.Author.Needs.{needs}
 use Rattle.values.proofs.Spells.{spells}
 use Rattle.spell.proofs.put_sign.Statement.{statement}

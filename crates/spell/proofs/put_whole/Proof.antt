@@ -1,4 +1,4 @@
--- `values::spell::put_whole`: sign and digits, one write after another.
+-- `spell::put_whole`: sign and digits, one write after another.
 use borrow.Author.Needs.{needs}
 use Rattle.values.proofs.Spells.{spells}
 use Rattle.spell.proofs.put_whole.Statement.{statement}

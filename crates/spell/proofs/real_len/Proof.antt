@@ -1,4 +1,4 @@
--- `values::spell::real_len`: sign, digits, point and exponent.
+-- `spell::real_len`: sign, digits, point and exponent.
 use borrow.Author.Needs.{needs}
 use Rattle.spell.proofs.Lengths.{lengths}
 use Rattle.spell.proofs.real_len.Statement.{statement}

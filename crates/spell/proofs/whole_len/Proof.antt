@@ -1,4 +1,4 @@
--- `values::spell::whole_len`: sign and digits.
+-- `spell::whole_len`: sign and digits.
 use borrow.Author.Needs.{needs}
 use Rattle.spell.proofs.Lengths.{lengths}
 use Rattle.spell.proofs.whole_len.Statement.{statement}

@@ -1,4 +1,4 @@
--- `values::back::behind_count`: by count, length and characters, as the definition goes.
+-- `strict::behind_count`: by count, length and characters, as the definition goes.
 use borrow.Author.Needs.{needs}
 use Rattle.values.proofs.Backs.{behinds}
 use Rattle.strict.proofs.behind_count.Statement.{statement}

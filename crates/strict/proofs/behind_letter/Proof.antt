@@ -1,4 +1,4 @@
--- `values::back::behind_letter`: the exponent is read, and ends with the text.
+-- `strict::behind_letter`: the exponent is read, and ends with the text.
 use borrow.Author.Needs.{needs}
 use Rattle.values.proofs.Backs.{behinds}
 use Rattle.strict.proofs.behind_letter.Statement.{statement}

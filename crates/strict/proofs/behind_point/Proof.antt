@@ -1,4 +1,4 @@
--- `values::back::behind_point`: nothing, or the letter of an exponent.
+-- `strict::behind_point`: nothing, or the letter of an exponent.
 use borrow.Author.Needs.{needs}
 use Rattle.values.proofs.Backs.{behinds}
 use Rattle.strict.proofs.behind_point.Statement.{statement}

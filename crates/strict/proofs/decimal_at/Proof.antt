@@ -1,4 +1,4 @@
--- `values::back::decimal_at`: the digits so far and those left are all of the number, and it has as many as were passed.
+-- `strict::decimal_at`: the digits so far and those left are all of the number, and it has as many as were passed.
 use mathlib.Core.Path.{_≡_}
 use Prim.Native.Nat.{_+_, _-_, _^_, _≤_, _<_}
 use lib.ListN.{length, drop}

@@ -1,4 +1,4 @@
--- `values::back::front_of`: the first H is where it is found.
+-- `strict::front_of`: the first H is where it is found.
 use borrow.Author.Needs.{needs}
 use Rattle.values.proofs.Fronts.{front-short, front-one, front-two, front-whole, front-three, front-all}
 use Rattle.strict.proofs.front_of.Statement.{statement}

@@ -1,4 +1,4 @@
--- `values::back::is_whole`: one test after the other.
+-- `strict::is_whole`: one test after the other.
 use borrow.Author.Needs.{needs}
 use Rattle.values.proofs.Backs.{limits}
 use Rattle.strict.proofs.is_whole.Statement.{statement}

@@ -1,4 +1,4 @@
--- `values::back::strict`: by what stands behind the digits; reading straight is strict reading.
+-- `strict::strict`: by what stands behind the digits; reading straight is strict reading.
 use borrow.Author.Needs.{needs}
 use Rattle.values.proofs.Backs.{backs}
 use Rattle.strict.proofs.strict.Statement.{statement}
