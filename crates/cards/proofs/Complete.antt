@@ -55,19 +55,19 @@ module _ (f : List ℕ) (b : ℕ) (C : ℕ → Counts) (ok : (n left : ℕ) → 
 
 -- what each letter does where it stands
 ok-s : (n left : ℕ) → (left ≡ 0 → ⊥) → placeOf (counts n 0 0 0 0) left 83 ≡ Here (counts (n + 1) 0 0 0 0) (n + 1)
-ok-s n left m = sym (place-s (counts n 0 0 0 0) left 83 (λ z. omega arith) m _ refl refl)
+ok-s n left m = sym (place-s (counts n 0 0 0 0) left 83 (λ z. omega arith) m _ _ refl refl refl)
 
 ok-g : (s : ℕ) → 1 ≤ s → (n left : ℕ) → (left ≡ 0 → ⊥) → placeOf (counts s n 0 0 0) left 71 ≡ Here (counts s (n + 1) 0 0 0) (n + 1)
-ok-g s h n left m = sym (place-g (counts s n 0 0 0) left 71 (λ z. omega arith) m (λ z. omega arith) _ refl (here-here s 0 (n + 1) (counts s (n + 1) 0 0 0) (λ z. omega arith) refl))
+ok-g s h n left m = sym (place-g (counts s n 0 0 0) left 71 (λ z. omega arith) m (λ z. omega arith) _ _ refl refl (here-here s 0 (n + 1) (counts s (n + 1) 0 0 0) (λ z. omega arith) refl))
 
 ok-d : (s g : ℕ) → 1 ≤ g → (n left : ℕ) → (left ≡ 0 → ⊥) → placeOf (counts s g n 0 0) left 68 ≡ Here (counts s g (n + 1) 0 0) (n + 1)
-ok-d s g h n left m = sym (place-d (counts s g n 0 0) left 68 (λ z. omega arith) m (λ z. omega arith) (λ z. omega arith) _ refl (here-here g 0 (n + 1) (counts s g (n + 1) 0 0) (λ z. omega arith) refl))
+ok-d s g h n left m = sym (place-d (counts s g n 0 0) left 68 (λ z. omega arith) m (λ z. omega arith) (λ z. omega arith) _ _ refl refl (here-here g 0 (n + 1) (counts s g (n + 1) 0 0) (λ z. omega arith) refl))
 
 ok-p : (s g d : ℕ) → 1 ≤ g → (n left : ℕ) → (left ≡ 0 → ⊥) → placeOf (counts s g d n 0) left 80 ≡ Here (counts s g d (n + 1) 0) (n + 1)
-ok-p s g d h n left m = sym (place-p (counts s g d n 0) left 80 (λ z. omega arith) m (λ z. omega arith) (λ z. omega arith) (λ z. omega arith) _ refl (here-here g 0 (n + 1) (counts s g d (n + 1) 0) (λ z. omega arith) refl))
+ok-p s g d h n left m = sym (place-p (counts s g d n 0) left 80 (λ z. omega arith) m (λ z. omega arith) (λ z. omega arith) (λ z. omega arith) _ _ refl refl (here-here g 0 (n + 1) (counts s g d (n + 1) 0) (λ z. omega arith) refl))
 
 ok-t : (s g d p : ℕ) → 1 ≤ g → placeOf (counts s g d p 0) 0 84 ≡ Here (counts s g d p 1) 1
-ok-t s g d p h = sym (place-t (counts s g d p 0) 0 84 _ refl (here-here g 0 1 (counts s g d p 1) (λ z. omega arith) refl))
+ok-t s g d p h = sym (place-t (counts s g d p 0) 0 84 _ _ refl refl (here-here g 0 1 (counts s g d p 1) (λ z. omega arith) refl))
 
 -- ---- the whole file
 

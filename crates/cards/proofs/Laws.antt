@@ -47,9 +47,9 @@ pub here-here : (before later n : ℕ) (c : Counts) → (before ≡ 0 → ⊥) �
 here-here before later n c h k = rw (lt-ltb 0 before (omega arith), eq-eqb _ _ k)
 
 module _ (c : Counts) (left b : ℕ) where
-  pub place-t : (r : Placed) → b ≡ 84 → r ≡ here (c .g) (c .t) (counts (c .s) (c .g) (c .d) (c .p) (c .t + 1)) (c .t + 1) → r ≡ placeOf c left b
+  pub place-t : (r : Placed) (q : Counts) → b ≡ 84 → q ≡ counts (c .s) (c .g) (c .d) (c .p) (c .t + 1) → r ≡ here (c .g) (c .t) q (c .t + 1) → r ≡ placeOf c left b
   unfolding placeOf
-  place-t r h e = rw (eq-eqb _ _ h) e
+  place-t r q h k e = rw (eq-eqb _ _ h, ← k) e
 
   module _ (n84 : b ≡ 84 → ⊥) where
     pub place-last : left ≡ 0 → Nowhere ≡ placeOf c left b
@@ -57,24 +57,24 @@ module _ (c : Counts) (left b : ℕ) where
     place-last h = rw (ne-eqb _ _ n84, h)
 
     module _ (more : left ≡ 0 → ⊥) where
-      pub place-s : (r : Placed) → b ≡ 83 → r ≡ here 1 (c .g + c .d + c .p + c .t) (counts (c .s + 1) (c .g) (c .d) (c .p) (c .t)) (c .s + 1) → r ≡ placeOf c left b
+      pub place-s : (r : Placed) (q : Counts) → b ≡ 83 → q ≡ counts (c .s + 1) (c .g) (c .d) (c .p) (c .t) → r ≡ here 1 (c .g + c .d + c .p + c .t) q (c .s + 1) → r ≡ placeOf c left b
       unfolding placeOf
-      place-s r h e = rw (ne-eqb _ _ n84, ne-eqb _ _ more, eq-eqb _ _ h) e
+      place-s r q h k e = rw (ne-eqb _ _ n84, ne-eqb _ _ more, eq-eqb _ _ h, ← k) e
 
       module _ (n83 : b ≡ 83 → ⊥) where
-        pub place-g : (r : Placed) → b ≡ 71 → r ≡ here (c .s) (c .d + c .p + c .t) (counts (c .s) (c .g + 1) (c .d) (c .p) (c .t)) (c .g + 1) → r ≡ placeOf c left b
+        pub place-g : (r : Placed) (q : Counts) → b ≡ 71 → q ≡ counts (c .s) (c .g + 1) (c .d) (c .p) (c .t) → r ≡ here (c .s) (c .d + c .p + c .t) q (c .g + 1) → r ≡ placeOf c left b
         unfolding placeOf
-        place-g r h e = rw (ne-eqb _ _ n84, ne-eqb _ _ more, ne-eqb _ _ n83, eq-eqb _ _ h) e
+        place-g r q h k e = rw (ne-eqb _ _ n84, ne-eqb _ _ more, ne-eqb _ _ n83, eq-eqb _ _ h, ← k) e
 
         module _ (n71 : b ≡ 71 → ⊥) where
-          pub place-d : (r : Placed) → b ≡ 68 → r ≡ here (c .g) (c .p + c .t) (counts (c .s) (c .g) (c .d + 1) (c .p) (c .t)) (c .d + 1) → r ≡ placeOf c left b
+          pub place-d : (r : Placed) (q : Counts) → b ≡ 68 → q ≡ counts (c .s) (c .g) (c .d + 1) (c .p) (c .t) → r ≡ here (c .g) (c .p + c .t) q (c .d + 1) → r ≡ placeOf c left b
           unfolding placeOf
-          place-d r h e = rw (ne-eqb _ _ n84, ne-eqb _ _ more, ne-eqb _ _ n83, ne-eqb _ _ n71, eq-eqb _ _ h) e
+          place-d r q h k e = rw (ne-eqb _ _ n84, ne-eqb _ _ more, ne-eqb _ _ n83, ne-eqb _ _ n71, eq-eqb _ _ h, ← k) e
 
           module _ (n68 : b ≡ 68 → ⊥) where
-            pub place-p : (r : Placed) → b ≡ 80 → r ≡ here (c .g) (c .t) (counts (c .s) (c .g) (c .d) (c .p + 1) (c .t)) (c .p + 1) → r ≡ placeOf c left b
+            pub place-p : (r : Placed) (q : Counts) → b ≡ 80 → q ≡ counts (c .s) (c .g) (c .d) (c .p + 1) (c .t) → r ≡ here (c .g) (c .t) q (c .p + 1) → r ≡ placeOf c left b
             unfolding placeOf
-            place-p r h e = rw (ne-eqb _ _ n84, ne-eqb _ _ more, ne-eqb _ _ n83, ne-eqb _ _ n71, ne-eqb _ _ n68, eq-eqb _ _ h) e
+            place-p r q h k e = rw (ne-eqb _ _ n84, ne-eqb _ _ more, ne-eqb _ _ n83, ne-eqb _ _ n71, ne-eqb _ _ n68, eq-eqb _ _ h, ← k) e
 
             pub place-none : (b ≡ 80 → ⊥) → Nowhere ≡ placeOf c left b
             unfolding placeOf

@@ -8,7 +8,7 @@ ghost use mathlib.Core.Path.{_≡_};
 ghost use Prim.Native.Nat.{_+_, _*_, _<_, _≤_};
 ghost use lib.ListN.{length};
 ghost use Rattle.columns.specs.Columns.{columns, lineBytes, lineAt};
-ghost use Rattle.cards.specs.Cards.{mostLines, lineOk, here, placeOf, stepOf, total};
+ghost use Rattle.cards.specs.Cards.{mostLines, lineOk, counts, here, placeOf, stepOf, total};
 
 // Whether the line from `at` on has 80 bytes from 32 to 126, then LF.
 fn line_ok(file: &[u8], at: usize) -> bool
@@ -34,6 +34,12 @@ fn here_if(before: u32, later: u32, counts: Counts, number: u32) -> Placed
     Placed::Here { counts, number }
 }
 
+fn counted(s: u32, g: u32, d: u32, p: u32, t: u32) -> Counts
+    ensures { λ r. ⌜ r ≡ counts s g d p t ⌝ }
+{
+    Counts { s, g, d, p, t }
+}
+
 // Where a line of this letter stands, of which `left` more lines follow.
 fn place(c: Counts, left: usize, letter: u8) -> Placed
     requires { ⌜ total c < mostLines ⌝ }
@@ -45,77 +51,22 @@ fn place(c: Counts, left: usize, letter: u8) -> Placed
     let p = c.p;
     let t = c.t;
     if letter == 84 {
-        return here_if(
-            g,
-            t,
-            Counts {
-                s,
-                g,
-                d,
-                p,
-                t: t + 1,
-            },
-            t + 1,
-        );
+        return here_if(g, t, counted(s, g, d, p, t + 1), t + 1);
     }
     if left == 0 {
         return Placed::Nowhere;
     }
     if letter == 83 {
-        return here_if(
-            1,
-            g + d + p + t,
-            Counts {
-                s: s + 1,
-                g,
-                d,
-                p,
-                t,
-            },
-            s + 1,
-        );
+        return here_if(1, g + d + p + t, counted(s + 1, g, d, p, t), s + 1);
     }
     if letter == 71 {
-        return here_if(
-            s,
-            d + p + t,
-            Counts {
-                s,
-                g: g + 1,
-                d,
-                p,
-                t,
-            },
-            g + 1,
-        );
+        return here_if(s, d + p + t, counted(s, g + 1, d, p, t), g + 1);
     }
     if letter == 68 {
-        return here_if(
-            g,
-            p + t,
-            Counts {
-                s,
-                g,
-                d: d + 1,
-                p,
-                t,
-            },
-            d + 1,
-        );
+        return here_if(g, p + t, counted(s, g, d + 1, p, t), d + 1);
     }
     if letter == 80 {
-        return here_if(
-            g,
-            t,
-            Counts {
-                s,
-                g,
-                d,
-                p: p + 1,
-                t,
-            },
-            p + 1,
-        );
+        return here_if(g, t, counted(s, g, d, p + 1, t), p + 1);
     }
     Placed::Nowhere
 }
