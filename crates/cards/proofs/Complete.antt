@@ -7,7 +7,7 @@ use native.Mathlib.Nat.{zero-add, add-zero}
 use native.Mathlib.Omega.{arith}
 use mathlib.Core.List.{List, [], _∷_, _++_}
 use lib.ListN.{length, length-append}
-use borrow.Author.Tests.{eq-eqb}
+use borrow.Author.Tests.{le-leb, eq-eqb}
 use Rattle.cards.specs.declared.Counts.{Counts}
 use Rattle.cards.specs.declared.Placed.the-variants.{Here}
 use Rattle.cards.specs.declared.Step.the-variants.{Next}
@@ -16,7 +16,7 @@ use Rattle.columns.specs.Columns.{lineAt}
 use Rattle.cards.specs.Cards.{mostLines, linesFrom, linesOf, counts, placeOf, numberedOf, stepOf, pass, totals, closes, start, cardsOf, total}
 use Rattle.cards.specs.Rules.{Holds, LineIs, letterAt, numberAt, Meets}
 use Rattle.cards.proofs.Growth.{at-s, at-g, at-d, at-p, at-t, sound}
-use Rattle.cards.proofs.Laws.{here-here, place-s, place-g, place-d, place-p, place-t, file-good}
+use Rattle.cards.proofs.Laws.{here-here, place-s, place-g, place-d, place-p, place-t, whole-lines, file-good}
 
 line-steps : {b n : ℕ} {l : List ℕ} → LineIs b n l → (c q : Counts) (left : ℕ) → placeOf c left b ≡ Here q n → stepOf c left l ≡ Next q
 unfolding stepOf numberedOf
@@ -120,7 +120,7 @@ module _ (f : List ℕ) (s g d p : ℕ) (h : Sections f s g d p) where
       let size : length f ≡ 81 * (s + g + d + p + 1) = h .size in
       let most : s + g + d + p + 1 ≤ mostLines = h .most in
       let at : length f / 81 - 1 ≡ s + g + d + p = omega arith in
-      sym (file-good f (omega arith) (omega arith) (omega arith) (counts s g d p 1) true (sym pass-file) (sym (rw at closing)) refl)
+      sym (file-good f true (whole-lines (length f) true (omega arith) (omega arith) (sym (le-leb (length f / 81) mostLines (omega arith)))) refl (counts s g d p 1) true (sym pass-file) (sym (rw at closing)) refl)
 
 -- ---- a file is accepted exactly if it meets the rules
 

@@ -1,15 +1,17 @@
 -- The laws of the pass over lines.
-use mathlib.Core.Path.{_≡_, sym}
+use mathlib.Core.Path.{_≡_, sym, _∙_}
 use mathlib.Core.Bool.{Bool, true, false, _&&_}
 use Prim.Native.Nat.{ℕ, suc, _+_, _-_, _*_, _/_, _%_, _≤_, _<_}
 use native.Mathlib.Nat.{add-zero, add-assoc, sub-zero, sub-self}
 use native.Mathlib.Omega.{arith}
 use mathlib.Core.List.{List, _∷_}
 use lib.ListN.{length, getD}
-use borrow.Author.Tests.{le-leb, lt-leb, lt-ltb, eq-eqb, ne-eqb, not-true, not-false}
+use lib.Dec.{leb, eqb}
+use borrow.Author.Tests.{le-leb, leb-true, lt-leb, lt-ltb, eq-eqb, ne-eqb, not-true, not-false}
 use Rattle.columns.specs.Columns.{columns, printable, blank, lineAt}
 use Rattle.columns.specs.Fixed.{fieldOf, isNumber}
 use Rattle.columns.proofs.Columns.{byte-of, columns-of}
+use Rattle.columns.proofs.Tests.{both-left, both-right}
 use Rattle.cards.specs.Shared.{fileLine}
 use Rattle.cards.specs.declared.Counts.{Counts}
 use Rattle.cards.specs.declared.Placed.{Placed}
@@ -201,44 +203,54 @@ module _ (r : CardsRead) (f : List ℕ) (c : Counts) (k n : ℕ) (inv : pass c (
 
 -- ---- the whole file
 
+-- a length that is no good
+pub not-whole : (n : ℕ) → (n % 81 ≡ 0 → ⊥) → false ≡ lengthOk n
+unfolding lengthOk
+not-whole n h = rw (ne-eqb _ _ h)
+
+pub no-lines : (n : ℕ) → n % 81 ≡ 0 → n / 81 < 1 → false ≡ lengthOk n
+unfolding lengthOk
+no-lines n w h = rw (eq-eqb _ _ w, lt-leb _ _ h)
+
+pub whole-lines : (n : ℕ) (r : Bool) → n % 81 ≡ 0 → 1 ≤ n / 81 → r ≡ leb (n / 81) mostLines → r ≡ lengthOk n
+unfolding lengthOk
+whole-lines n r w lo e = rw (eq-eqb _ _ w, le-leb _ _ lo) e
+
+pub ruleset lengths = (not-whole, no-lines, whole-lines)
+
+-- a length that is good
+pub some-lines : (n : ℕ) (x : Bool) → x ≡ lengthOk n → x ≡ true → 1 ≤ n / 81
+unfolding lengthOk
+some-lines n x ex h = leb-true _ _ (both-left (leb 1 (n / 81)) (leb (n / 81) mostLines) (both-right (eqb (n % 81) 0) _ (sym ex ∙ h)))
+
+pub few-lines : (n : ℕ) (x : Bool) → x ≡ lengthOk n → x ≡ true → n / 81 ≤ mostLines
+unfolding lengthOk
+few-lines n x ex h = leb-true _ _ (both-right (leb 1 (n / 81)) (leb (n / 81) mostLines) (both-right (eqb (n % 81) 0) _ (sym ex ∙ h)))
+
 module _ (f : List ℕ) where
-  pub not-whole : (length f % 81 ≡ 0 → ⊥) → Refused ListOrLength (fileLine 0) ≡ cardsOf f
-  unfolding cardsOf lengthOk
-  not-whole h = rw (ne-eqb _ _ h)
+  pub not-long : (x : Bool) → x ≡ lengthOk (length f) → x ≡ false → Refused ListOrLength (fileLine 0) ≡ cardsOf f
+  unfolding cardsOf
+  not-long x ex h = rw (← ex, h)
 
-  module _ (w : length f % 81 ≡ 0) where
-    pub no-lines : length f / 81 < 1 → Refused ListOrLength (fileLine 0) ≡ cardsOf f
-    unfolding cardsOf lengthOk
-    no-lines h = rw (eq-eqb _ _ w, lt-leb _ _ h)
+  module _ (y : Bool) (ey : y ≡ lengthOk (length f)) (ok : y ≡ true) where
+    inside : (r : CardsRead) → r ≡ pass start 1 (linesOf f) → cardsOf f ≡ closed f (length f / 81) r
+    unfolding cardsOf
+    inside r e = rw (← ey, ok, ← e)
 
-    module _ (lo : 1 ≤ length f / 81) where
-      pub too-many : mostLines < length f / 81 → Refused ListOrLength (fileLine 0) ≡ cardsOf f
-      unfolding cardsOf lengthOk
-      too-many h = rw (eq-eqb _ _ w, le-leb _ _ lo, lt-leb _ _ h)
+    pub file-wrong : (w : Fault) (k : ℕ) → Refused w (fileLine k) ≡ pass start 1 (linesOf f) → Refused w (fileLine k) ≡ cardsOf f
+    unfolding closed
+    file-wrong w k e = sym (inside _ e)
 
-      module _ (hi : length f / 81 ≤ mostLines) where
-        inside : (r : CardsRead) → r ≡ pass start 1 (linesOf f) → cardsOf f ≡ closed f (length f / 81) r
-        unfolding cardsOf lengthOk
-        inside r e = rw (eq-eqb _ _ w, le-leb _ _ lo, le-leb _ _ hi, ← e)
+    pub file-open : (c : Counts) (x : Bool) → Counted c ≡ pass start 1 (linesOf f) → x ≡ closes c (lineAt f (length f / 81 - 1)) → x ≡ false → Refused Terminate (fileLine (length f / 81)) ≡ cardsOf f
+    unfolding closed
+    file-open c x e ex h = rw (inside _ e, ← ex, h)
 
-        pub file-wrong : (w : Fault) (k : ℕ) → Refused w (fileLine k) ≡ pass start 1 (linesOf f) → Refused w (fileLine k) ≡ cardsOf f
-        unfolding closed
-        file-wrong w k e = sym (inside _ e)
-
-        pub wrong-line : (c : Counts) (k : ℕ) (x : Step) → pass c (k + 1) (linesFrom f k (length f / 81 - k)) ≡ pass start 1 (linesOf f) → k < length f / 81
-            → x ≡ stepOf c (length f / 81 - (k + 1)) (lineAt f k) → (w : Fault) → x ≡ Wrong w → Refused w (fileLine (k + 1)) ≡ cardsOf f
-        wrong-line c k x inv lt ex w e = file-wrong w (k + 1) (pass-wrong _ f c k (length f / 81) inv lt x ex w e)
-
-        pub file-open : (c : Counts) (x : Bool) → Counted c ≡ pass start 1 (linesOf f) → x ≡ closes c (lineAt f (length f / 81 - 1)) → x ≡ false → Refused Terminate (fileLine (length f / 81)) ≡ cardsOf f
-        unfolding closed
-        file-open c x e ex h = rw (inside _ e, ← ex, h)
-
-        pub file-good : (c : Counts) (x : Bool) → Counted c ≡ pass start 1 (linesOf f) → x ≡ closes c (lineAt f (length f / 81 - 1)) → x ≡ true → Counted c ≡ cardsOf f
-        unfolding closed
-        file-good c x e ex h = rw (inside _ e, ← ex, h)
+    pub file-good : (c : Counts) (x : Bool) → Counted c ≡ pass start 1 (linesOf f) → x ≡ closes c (lineAt f (length f / 81 - 1)) → x ≡ true → Counted c ≡ cardsOf f
+    unfolding closed
+    file-good c x e ex h = rw (inside _ e, ← ex, h)
 
 pub at-start : (f : List ℕ) → pass start (0 + 1) (linesFrom f 0 (length f / 81 - 0)) ≡ pass start 1 (linesOf f)
 unfolding linesOf
 at-start f = rw sub-zero
 
-pub ruleset files = (not-true, not-false, pass-wrong, pass-next, pass-end, one-more, not-whole, no-lines, too-many, file-wrong, file-open, file-good, at-start)
+pub ruleset files = (not-true, not-false, pass-wrong, pass-next, pass-end, one-more, some-lines, few-lines, not-long, file-wrong, file-open, file-good, at-start)

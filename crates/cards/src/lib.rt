@@ -7,7 +7,7 @@ use columns::Fault;
 use columns::FileLine;
 ghost use mathlib.Core.Path.{_≡_};
 ghost use Prim.Native.Nat.{_+_, _*_, _^_, _<_, _≤_};
-ghost use Rattle.cards.specs.Cards.{cardsOf, entryLine, parameterLine};
+ghost use Rattle.cards.specs.Cards.{lengthOk, cardsOf, entryLine, parameterLine};
 ghost use Rattle.cards.specs.Rules.{Known};
 
 // A line's bytes with its LF, and the most lines that a file may have.
@@ -42,30 +42,32 @@ pub enum CardsRead {
     Refused { fault: Fault, line: FileLine },
 }
 
+// Whether a length is one of whole lines, from 1 to the most.
+fn length_ok(len: usize) -> bool
+    ensures { λ r. ⌜ r ≡ lengthOk len ⌝ }
+{
+    if len % LINE_BYTES != 0 {
+        return false;
+    }
+    let n = len / LINE_BYTES;
+    if n < 1 {
+        return false;
+    }
+    n <= MOST_LINES
+}
+
 // The counts of a file's sections, or the first refusal of its lines.
 pub fn cards(file: &[u8]) -> CardsRead
     ensures { λ r. ⌜ r ≡ cardsOf (now (file .entry)) ⌝ }
     ensures { λ r. ⌜ Known (now (file .entry)) r ⌝ }
 {
-    if file.len() % LINE_BYTES != 0 {
+    if !length_ok(file.len()) {
         return CardsRead::Refused {
             fault: Fault::ListOrLength,
             line: FileLine(0),
         };
     }
     let n = file.len() / LINE_BYTES;
-    if n < 1 {
-        return CardsRead::Refused {
-            fault: Fault::ListOrLength,
-            line: FileLine(0),
-        };
-    }
-    if MOST_LINES < n {
-        return CardsRead::Refused {
-            fault: Fault::ListOrLength,
-            line: FileLine(0),
-        };
-    }
     let mut c = Counts {
         s: 0,
         g: 0,

@@ -1,25 +1,19 @@
 -- `cards::cards`: the pass from the counts so far over the lines left is the pass over all lines; the total of the counts is the line reached.
 use mathlib.Core.Path.{_≡_}
 use Prim.Native.Nat.{_+_, _-_, _≤_}
-use Rattle.cards.specs.Cards.{linesFrom, linesOf, pass, start, total}
+use Rattle.cards.specs.Cards.{mostLines, linesFrom, linesOf, pass, start, total}
 use borrow.Author.Needs.{needs}
 use Rattle.cards.proofs.Growth.{answer-known}
-use Rattle.cards.proofs.Laws.{files, wrong-line}
+use Rattle.cards.proofs.Laws.{files}
 use Rattle.cards.proofs.cards.Statement.{statement}
 use Rattle.cards.proofs.cards.Tie as tie
 
 abbrev Inv-loop : tie.InvT-loop
 Inv-loop file n c₀ k₀ c k =
-    (k ≤ n) × (total c ≡ k) × (pass c (k + 1) (linesFrom file k (n - k)) ≡ pass start 1 (linesOf file))
+    (k ≤ n) × (1 ≤ n) × (n ≤ mostLines) × (total c ≡ k) × (pass c (k + 1) (linesFrom file k (n - k)) ≡ pass start 1 (linesOf file))
 
 abbrev μ-loop : tie.MeasureT-loop
 μ-loop file n c₀ k₀ c k = n - k
-
--- the first wrong line
-returns-4 : tie.Need-returns-4 Inv-loop μ-loop
-returns-4 c =
-    let at = c .before .before .before .before .before in
-    answer-known _ _ (wrong-line _ (search needs) (search needs) (search needs) (at .loop .c) (at .loop .k) (c .before .before .before .step-line .result) (search needs) (search needs) (search needs) _ (c .before .done .given .1))
 
 pub cards-spec : {M : Type 1} → statement M
 cards-spec =
@@ -27,15 +21,15 @@ cards-spec =
     (tie.spec
     Inv-loop
     μ-loop
-    (λ c. answer-known _ _ (search (needs, files)))
-    (λ c. answer-known _ _ (search (needs, files)))
+    (λ c κs. search (needs, files))
     (λ c. answer-known _ _ (search (needs, files)))
     (λ c. search (needs, files))
     (λ c. search (needs, files))
     (λ c. search (needs, files))
     (λ c κs. search (needs, files))
     (λ c. search (needs, files))
-    returns-4
+    (λ c. answer-known _ _ (search (needs, files)))
+    (λ c. search (needs, files))
     (λ c. search (needs, files))
     (λ c. search (needs, files))
     (λ c. search (needs, files))
