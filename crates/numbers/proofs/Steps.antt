@@ -15,7 +15,7 @@ use Rattle.values.specs.declared.Power.{Power}
 use Rattle.values.specs.declared.Power.the-variants.{None, Wrong, Of}
 use Rattle.values.specs.Number.{signLen, pointLen, token, powerOf, power, powerAt, wholeOf, normal, numberOf}
 use Rattle.values.specs.Reading.{start, more, scan, capRun, Small, finishRun}
-use Rattle.values.proofs.Laws.{real-tiny, real-neg, real-huge, real-pos, scan-low, scan-high, scan-end, small-more, stop, turn, power-parts, power-E, power-D, power-none, number-parts}
+use Rattle.values.proofs.Laws.{scan-low, scan-high, scan-end, small-more, stop, turn, power-parts, power-E, power-D, power-none, number-parts}
 use Rattle.values.proofs.Ends.{number-in}
 
 -- ---- signs, points, digits
@@ -70,7 +70,14 @@ module _ (neg : Bool) (m up down : ℕ) (double : Bool) (end : ℕ) where
   pub real-long : (m ≡ 0 → ⊥) → 10 ^ 17 ≤ m → token Beyond end ≡ normal neg m up down double end
   real-long n h = simp (ne-eqb m 0 n, le-ltb m (10 ^ 17) h)
 
-pub ruleset parts = (sign-plus, sign-minus, sign-none, point-some, point-none, more-zero, more-digit, more-capped, more-few, whole-beyond, whole-nought, whole-some, real-nought, real-long, real-tiny, real-neg, real-huge, real-pos)
+  module _ (n : m ≡ 0 → ⊥) (l : m < 10 ^ 17) (e : ℕ) (k : e ≡ (up - down) + (down - up)) where
+    pub real-far : 400 < e → token Beyond end ≡ normal neg m up down double end
+    real-far h = simp (ne-eqb m 0 n, lt-ltb m (10 ^ 17) l, ← k, lt-leb e 400 h)
+
+    pub real-near : (b : Bool) → b ≡ ltb up down → e ≤ 400 → token (Real neg m b e double) end ≡ normal neg m up down double end
+    real-near b q h = simp (ne-eqb m 0 n, lt-ltb m (10 ^ 17) l, ← k, ← q, le-leb e 400 h)
+
+pub ruleset parts = (sign-plus, sign-minus, sign-none, point-some, point-none, more-zero, more-digit, more-capped, more-few, whole-beyond, whole-nought, whole-some, real-nought, real-long, real-far, real-near)
 
 -- ---- digits of a text
 

@@ -224,6 +224,16 @@ fn whole_of(neg: bool, v: u64, end: usize) -> Token
     }
 }
 
+// How far two numbers are apart.
+fn gap(a: usize, b: usize) -> usize
+    ensures { λ r. ⌜ r ≡ (a - b) + (b - a) ⌝ }
+{
+    if a < b {
+        return b - a;
+    }
+    a - b
+}
+
 // m times ten to up less down, within its limits.
 fn real_of(neg: bool, m: u64, up: usize, down: usize, double: bool, end: usize) -> Token
     ensures { λ r. ⌜ r ≡ normal neg m up down double end ⌝ }
@@ -240,32 +250,13 @@ fn real_of(neg: bool, m: u64, up: usize, down: usize, double: bool, end: usize) 
             len: end,
         };
     }
+    let e = gap(up, down);
     if 100_000_000_000_000_000 <= m {
         return Token {
             number: Number::Beyond,
             len: end,
         };
     }
-    if up < down {
-        let e = down - up;
-        if 400 < e {
-            return Token {
-                number: Number::Beyond,
-                len: end,
-            };
-        }
-        return Token {
-            number: Number::Real {
-                neg,
-                m,
-                eneg: true,
-                e: e as u32,
-                double,
-            },
-            len: end,
-        };
-    }
-    let e = up - down;
     if 400 < e {
         return Token {
             number: Number::Beyond,
@@ -276,7 +267,7 @@ fn real_of(neg: bool, m: u64, up: usize, down: usize, double: bool, end: usize) 
         number: Number::Real {
             neg,
             m,
-            eneg: false,
+            eneg: up < down,
             e: e as u32,
             double,
         },

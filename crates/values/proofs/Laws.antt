@@ -107,14 +107,8 @@ gap-down a b h = omega arith
 
 -- ---- the cases of `real`, m not 0 and below the limit
 module _ (neg : Bool) (m up down : ℕ) (double : Bool) (end : ℕ) (z : m ≡ 0 → ⊥) (l : m < 10 ^ 17) where
-  pub real-tiny : up < down → 400 < down - up → token Beyond end ≡ normal neg m up down double end
-  real-tiny a b = simp (ne-eqb m 0 z, lt-ltb m (10 ^ 17) l, gap-up up down a, lt-leb (down - up) 400 b)
-
   pub real-neg : up < down → down - up ≤ 400 → token (Real neg m true (down - up) double) end ≡ normal neg m up down double end
   real-neg a b = simp (ne-eqb m 0 z, lt-ltb m (10 ^ 17) l, lt-ltb up down a, gap-up up down a, le-leb (down - up) 400 b)
-
-  pub real-huge : down ≤ up → 400 < up - down → token Beyond end ≡ normal neg m up down double end
-  real-huge a b = simp (ne-eqb m 0 z, lt-ltb m (10 ^ 17) l, gap-down up down a, lt-leb (up - down) 400 b)
 
   pub real-pos : down ≤ up → up - down ≤ 400 → token (Real neg m false (up - down) double) end ≡ normal neg m up down double end
   real-pos a b = simp (ne-eqb m 0 z, lt-ltb m (10 ^ 17) l, le-ltb up down a, gap-down up down a, le-leb (up - down) 400 b)

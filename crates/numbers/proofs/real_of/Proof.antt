@@ -1,4 +1,4 @@
--- `numbers::real_of`: by its limits: zero, too many digits, too small, too large, or within them.
+-- `numbers::real_of`: by its limits: zero, too many digits, an exponent too far from 0, or within them.
 use borrow.Author.Needs.{needs}
 use Rattle.numbers.proofs.Steps.{parts}
 use Rattle.numbers.proofs.real_of.Statement.{statement}
@@ -9,10 +9,7 @@ real-of-spec =
     tie.close
     (tie.spec
     (λ c. search (needs, parts))
-    (λ c. search (needs, parts))
-    (λ c. search (needs, parts))
-    (λ c. search (needs, parts))
-    (λ c. search (needs, parts))
+    (λ c κs. search (needs, parts))
     (λ c. search (needs, parts))
     (λ c. search (needs, parts))
     (λ c. search (needs, parts))
