@@ -63,19 +63,13 @@ good-first (accepted a) b h = refl
 good-first (refused m p) b h = let z : _≡_ {A = ℕ} 0 1 = cc in absurd (omega arith)
 
 module _ (f : List ℕ) (c : Counts) (x : Pass) (ex : x ≡ passOf (entriesOutcome f c)) where
-  then-owners : directoryOutcome f c ≡ (entriesOutcome f c then λ _. outcome c (ownersIn f c))
-  unfolding directoryOutcome entriesOutcome
-  then-owners = by (entriesIn f c)
-    where
-      by : (o : Outcome (List Listed)) → (o then λ es. referencesIn c es then λ _. outcome c (ownersIn f c)) ≡ ((o then λ es. referencesIn c es) then λ _. outcome c (ownersIn f c))
-      by (accepted es) = refl
-      by (refused n p) = refl
-
   pub entries-refuse : (n : Fault) (l : FileLine) → x ≡ Refused n l → Refused n l ≡ passOf (directoryOutcome f c)
-  entries-refuse n l e = sym (ap passOf then-owners ∙ refused-first (entriesOutcome f c) (λ _. outcome c (ownersIn f c)) n l (sym ex ∙ e))
+  unfolding directoryOutcome
+  entries-refuse n l e = sym (refused-first (entriesOutcome f c) (λ _. outcome c (ownersIn f c)) n l (sym ex ∙ e))
 
   pub owners-decide : (r : Pass) → x ≡ Good → r ≡ passOf (outcome c (ownersIn f c)) → r ≡ passOf (directoryOutcome f c)
-  owners-decide r e er = er ∙ sym (ap passOf then-owners ∙ good-first (entriesOutcome f c) (outcome c (ownersIn f c)) (sym ex ∙ e))
+  unfolding directoryOutcome
+  owners-decide r e er = er ∙ sym (good-first (entriesOutcome f c) (outcome c (ownersIn f c)) (sym ex ∙ e))
 
 pub ruleset directories = (owned-all, owned-entry, owned-line, entries-refuse, owners-decide)
 
@@ -97,7 +91,7 @@ module _ (c : Counts) (g : GlobalRead) where
   two-parts (refused n p) o es = refl
 
   three-parts : {U W : Type 0} (e : Outcome (List Listed)) (r : List Listed → Outcome U) (o : Outcome W)
-      → beforeAnswer (e then λ es. r es then λ _. o then λ _. accepted (record { counts = c; global = g; listed = es })) ≡ answerWith (passOf (e then λ es. r es then λ _. o)) c (g .parameter) (g .record-end)
+      → beforeAnswer (e then λ es. r es then λ _. o then λ _. accepted (record { counts = c; global = g; listed = es })) ≡ answerWith (passOf ((e then λ es. r es) then λ _. o)) c (g .parameter) (g .record-end)
   three-parts (accepted es) r o = two-parts (r es) o es
   three-parts (refused n p) r o = refl
 
@@ -115,7 +109,7 @@ module _ (f : List ℕ) (c : Counts) (x : GlobalAnswer) (ex : x ≡ globalAnswer
 
   module _ (p d : ℕ) (e : x ≡ GlobalGood p d) (y : Pass) (ey : y ≡ passOf (directoryOutcome f c)) where
     decided : answerWith y c p d ≡ beforeAnswer (behindCards f c)
-    unfolding behindCards directoryOutcome
+    unfolding behindCards directoryOutcome entriesOutcome
     decided = by (globalIn f c) (sym ex ∙ e)
       where
         by : (o : Outcome GlobalRead) → globalAnswer o ≡ GlobalGood p d → answerWith y c p d ≡ beforeAnswer (o then λ g. entriesIn f c then λ es. referencesIn c es then λ _. outcome c (ownersIn f c) then λ _. accepted (record { counts = c; global = g; listed = es }))

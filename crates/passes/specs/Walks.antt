@@ -73,7 +73,7 @@ entriesOutcome f c = entriesIn f c then λ es. referencesIn c es
 
 -- each entry 9, 13; all 10; then 11
 unfoldable pub directoryOutcome : List ℕ → Counts → Outcome (Unit {0})
-directoryOutcome f c = entriesIn f c then λ es. referencesIn c es then λ _. ownershipOutcome c (ownersIn f c)
+directoryOutcome f c = entriesOutcome f c then λ _. ownershipOutcome c (ownersIn f c)
 
 -- all that is asked behind the lines, given their counts
 unfoldable pub behindCards : List ℕ → Counts → Outcome Before
