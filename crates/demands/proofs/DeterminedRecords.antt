@@ -8,6 +8,8 @@ use Rattle.flow.proofs.put_run.Kinds as flow-put-run-kinds
 use Rattle.flow.proofs.put_run.Reads as flow-put-run-reads
 use Rattle.flow.proofs.put_piece.Kinds as flow-put-piece-kinds
 use Rattle.flow.proofs.put_piece.Reads as flow-put-piece-reads
+use Rattle.flow.proofs.gap_of.Kinds as flow-gap-of-kinds
+use Rattle.flow.proofs.gap_of.Reads as flow-gap-of-reads
 use Rattle.flow.proofs.piece_end.Kinds as flow-piece-end-kinds
 use Rattle.flow.proofs.piece_end.Reads as flow-piece-end-reads
 use Rattle.flow.proofs.spelled_end.Kinds as flow-spelled-end-kinds
@@ -18,14 +20,14 @@ use Rattle.global.proofs.stray.Kinds as global-stray-kinds
 use Rattle.global.proofs.stray.Reads as global-stray-reads
 use Rattle.global.proofs.global_fits.Kinds as global-global-fits-kinds
 use Rattle.global.proofs.global_fits.Reads as global-global-fits-reads
-use Rattle.freeformat.proofs.char_at.Kinds as reading-char-at-kinds
-use Rattle.freeformat.proofs.char_at.Reads as reading-char-at-reads
-use Rattle.freeformat.proofs.behind_blanks.Kinds as reading-behind-blanks-kinds
-use Rattle.freeformat.proofs.behind_blanks.Reads as reading-behind-blanks-reads
-use Rattle.freeformat.proofs.value_at.Kinds as reading-value-at-kinds
-use Rattle.freeformat.proofs.value_at.Reads as reading-value-at-reads
-use Rattle.freeformat.proofs.check_from.Kinds as reading-check-from-kinds
-use Rattle.freeformat.proofs.check_from.Reads as reading-check-from-reads
+use Rattle.freeformat.proofs.char_at.Kinds as freeformat-char-at-kinds
+use Rattle.freeformat.proofs.char_at.Reads as freeformat-char-at-reads
+use Rattle.freeformat.proofs.behind_blanks.Kinds as freeformat-behind-blanks-kinds
+use Rattle.freeformat.proofs.behind_blanks.Reads as freeformat-behind-blanks-reads
+use Rattle.freeformat.proofs.value_at.Kinds as freeformat-value-at-kinds
+use Rattle.freeformat.proofs.value_at.Reads as freeformat-value-at-reads
+use Rattle.freeformat.proofs.check_from.Kinds as freeformat-check-from-kinds
+use Rattle.freeformat.proofs.check_from.Reads as freeformat-check-from-reads
 use Rattle.records.proofs.position.index_of.Kinds as position-index-of-kinds
 use Rattle.records.proofs.position.index_of.Reads as position-index-of-reads
 use Rattle.records.proofs.position.column_of.Kinds as position-column-of-kinds
@@ -47,6 +49,9 @@ flow-put-run κs a z z′ left left′ p q = put-first (left .1) (p .0) (q .0)
 pub flow-put-piece : NoSecond flow-put-piece-kinds.ps flow-put-piece-kinds.r flow-put-piece-reads.Post
 flow-put-piece κs a z z′ left left′ p q = put-first (left .1) (p .0) (q .0)
 
+pub flow-gap-of : NoSecond flow-gap-of-kinds.ps flow-gap-of-kinds.r flow-gap-of-reads.Post
+flow-gap-of κs a z z′ left left′ p q = (once (p .0) (q .0), refl)
+
 pub flow-piece-end : NoSecond flow-piece-end-kinds.ps flow-piece-end-kinds.r flow-piece-end-reads.Post
 flow-piece-end κs a z z′ left left′ p q = (once (p .0) (q .0), refl)
 
@@ -66,17 +71,17 @@ global-global-fits κs a z z′ left left′ p q = (once p q, refl)
 
 -- ---- freeformat
 
-pub reading-char-at : NoSecond reading-char-at-kinds.ps reading-char-at-kinds.r reading-char-at-reads.Post
-reading-char-at κs a z z′ left left′ p q = (once p q, refl)
+pub freeformat-char-at : NoSecond freeformat-char-at-kinds.ps freeformat-char-at-kinds.r freeformat-char-at-reads.Post
+freeformat-char-at κs a z z′ left left′ p q = (once p q, refl)
 
-pub reading-behind-blanks : NoSecond reading-behind-blanks-kinds.ps reading-behind-blanks-kinds.r reading-behind-blanks-reads.Post
-reading-behind-blanks κs a z z′ left left′ p q = (once (p .0) (q .0), refl)
+pub freeformat-behind-blanks : NoSecond freeformat-behind-blanks-kinds.ps freeformat-behind-blanks-kinds.r freeformat-behind-blanks-reads.Post
+freeformat-behind-blanks κs a z z′ left left′ p q = (once (p .0) (q .0), refl)
 
-pub reading-value-at : NoSecond reading-value-at-kinds.ps reading-value-at-kinds.r reading-value-at-reads.Post
-reading-value-at κs a z z′ left left′ p q = (once (p .0) (q .0), refl)
+pub freeformat-value-at : NoSecond freeformat-value-at-kinds.ps freeformat-value-at-kinds.r freeformat-value-at-reads.Post
+freeformat-value-at κs a z z′ left left′ p q = (once (p .0) (q .0), refl)
 
-pub reading-check-from : NoSecond reading-check-from-kinds.ps reading-check-from-kinds.r reading-check-from-reads.Post
-reading-check-from κs a z z′ left left′ p q = (once (p .0) (q .0), refl)
+pub freeformat-check-from : NoSecond freeformat-check-from-kinds.ps freeformat-check-from-kinds.r freeformat-check-from-reads.Post
+freeformat-check-from κs a z z′ left left′ p q = (once (p .0) (q .0), refl)
 
 -- ---- records::position
 

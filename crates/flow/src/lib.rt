@@ -93,7 +93,7 @@ pub fn put_run(out: &mut [u8], base: usize, w: usize, p: usize, b: u8, count: us
 }
 
 // The blanks before n characters that have to stand on one line.
-fn gap_of(w: usize, p: usize, n: usize) -> usize
+pub fn gap_of(w: usize, p: usize, n: usize) -> usize
     requires { ⌜ (1 ≤ w) × (w ≤ 80) × (n ≤ 2 ^ 40) ⌝ }
     ensures { λ r. ⌜ (r ≡ gap w p n) × (r ≤ 80) ⌝ }
 {

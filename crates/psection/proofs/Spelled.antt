@@ -2,8 +2,7 @@
 use mathlib.Core.Path.{_≡_, refl, sym, ap, _∙_}
 use mathlib.Core.Bool.{false}
 use mathlib.Core.List.{List, [], _∷_}
-use Prim.Native.Nat.{ℕ, _+_, _-_, _%_, _^_, _≤_, _<_}
-use native.Mathlib.Nat.{mod-lt}
+use Prim.Native.Nat.{ℕ, _+_, _^_, _≤_, _<_}
 use native.Mathlib.Omega.{arith}
 use lib.ListN.{length, replicate}
 use Rattle.values.specs.declared.Strict.the-variants.{Is}
@@ -14,32 +13,8 @@ use Rattle.values.proofs.OneSpelling.{sound}
 use Rattle.records.specs.Flow.{firm, gap, piece}
 use Rattle.records.specs.Written.{Put}
 use Rattle.records.proofs.Round.{spelled-short}
-use Rattle.records.proofs.Puts.{firm-front, then, put-length, gap-none, gap-some}
+use Rattle.records.proofs.Puts.{firm-front, then, put-length}
 use Rattle.sheets.proofs.Bounds.{strict-inside}
-
--- ---- the blanks before it
-
-module _ (p n : ℕ) where
-  pub gap-column : p % 64 ≤ 64
-  gap-column =
-      let z : 1 ≤ 64 = omega arith in
-      omega (arith, mod-lt p z)
-
-  pub gap-sum : n ≤ 2 ^ 40 → p % 64 + n < 2 ^ 64
-  gap-sum h = omega (arith, gap-column)
-
-  pub gap-here : p % 64 + n ≤ 64 → 0 ≡ gap 64 p n
-  gap-here h = gap-none 64 p n refl h
-
-  pub gap-next : 64 < p % 64 + n → 64 - p % 64 ≡ gap 64 p n
-  gap-next h = gap-some 64 p n refl h
-
-  pub gap-low : 64 - p % 64 ≤ 80
-  gap-low = omega arith
-
-pub ruleset gaps = (gap-column, gap-sum, gap-here, gap-next, gap-low)
-
--- ---- the piece
 
 module _ (l : List ℕ) (s : strictOf l ≡ Is (meant l)) where
   strict-short : length l ≤ 1003

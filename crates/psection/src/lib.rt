@@ -16,7 +16,7 @@ ghost use Rattle.columns.specs.Laid.{laid, Wrote};
 ghost use Rattle.values.specs.declared.Strict.the-variants.{Is};
 ghost use Rattle.values.specs.Value.{itemOf};
 ghost use Rattle.values.specs.Strict.{strictOf, meant};
-ghost use Rattle.records.specs.Flow.{gap, piece, lineCount};
+ghost use Rattle.records.specs.Flow.{piece, lineCount};
 ghost use Rattle.records.specs.Written.{Put};
 ghost use Rattle.cards.specs.Written.{section};
 ghost use Rattle.sheets.specs.Sheet.{linesIn};
@@ -30,22 +30,13 @@ const NUMBER: usize = 7;
 
 const COMMA: u8 = 44;
 
-// The blanks at position p before n characters that have to stand on one line.
-fn gap_of(p: usize, n: usize) -> usize
-    requires { ⌜ n ≤ 2 ^ 40 ⌝ }
-    ensures { λ r. ⌜ (r ≡ gap 64 p n) × (r ≤ 80) ⌝ }
-{
-    let j = p % COLUMNS;
-    if j + n <= COLUMNS { 0 } else { COLUMNS - j }
-}
-
 // Writes the value that l spells at position p with ',' behind it: its spelling is its canonical form.
 fn put_spelled(out: &mut [u8], base: usize, p: usize, l: &[u8]) -> usize
     requires { ⌜ (base ≤ 2 ^ 40) × (p ≤ 2 ^ 40) × (strictOf (now l) ≡ Is (meant (now l))) ⌝ }
     ensures { λ r. ⌜ Put base 64 (now (out .entry)) p (piece 64 p (itemOf (now (l .entry)) (meant (now (l .entry)))) false) (now (out .exit)) r ⌝ }
 {
     let n = strict::front_of(l);
-    let g = gap_of(p, n + 1);
+    let g = flow::gap_of(COLUMNS, p, n + 1);
     let q = flow::put_run(out, base, COLUMNS, p, 32, g);
     let e = flow::put_all(out, base, COLUMNS, q, l);
     flow::put_char(out, base, COLUMNS, e, COMMA)
