@@ -1,17 +1,17 @@
 -- No second result fits the contract of a public function of crate directory. Assumes nothing.
 use mathlib.Core.Path.{refl}
-use Rattle.dlines.proofs.entry_at.Kinds as lines-entry-at-kinds
-use Rattle.dlines.proofs.entry_at.Reads as lines-entry-at-reads
-use Rattle.dlines.proofs.type_at.Kinds as lines-type-at-kinds
-use Rattle.dlines.proofs.type_at.Reads as lines-type-at-reads
-use Rattle.dlines.proofs.pointer_at.Kinds as lines-pointer-at-kinds
-use Rattle.dlines.proofs.pointer_at.Reads as lines-pointer-at-reads
-use Rattle.dlines.proofs.lines_at.Kinds as lines-lines-at-kinds
-use Rattle.dlines.proofs.lines_at.Reads as lines-lines-at-reads
-use Rattle.dlines.proofs.label_at.Kinds as lines-label-at-kinds
-use Rattle.dlines.proofs.label_at.Reads as lines-label-at-reads
-use Rattle.dlines.proofs.naming.class_at.Kinds as naming-class-at-kinds
-use Rattle.dlines.proofs.naming.class_at.Reads as naming-class-at-reads
+use Rattle.dlines.proofs.entry_at.Kinds as dlines-entry-at-kinds
+use Rattle.dlines.proofs.entry_at.Reads as dlines-entry-at-reads
+use Rattle.dlines.proofs.type_at.Kinds as dlines-type-at-kinds
+use Rattle.dlines.proofs.type_at.Reads as dlines-type-at-reads
+use Rattle.dlines.proofs.pointer_at.Kinds as dlines-pointer-at-kinds
+use Rattle.dlines.proofs.pointer_at.Reads as dlines-pointer-at-reads
+use Rattle.dlines.proofs.lines_at.Kinds as dlines-lines-at-kinds
+use Rattle.dlines.proofs.lines_at.Reads as dlines-lines-at-reads
+use Rattle.dlines.proofs.label_at.Kinds as dlines-label-at-kinds
+use Rattle.dlines.proofs.label_at.Reads as dlines-label-at-reads
+use Rattle.dlines.proofs.naming.class_at.Kinds as dlines-naming-class-at-kinds
+use Rattle.dlines.proofs.naming.class_at.Reads as dlines-naming-class-at-reads
 use Rattle.directory.proofs.rules.number_of.Kinds as rules-number-of-kinds
 use Rattle.directory.proofs.rules.number_of.Reads as rules-number-of-reads
 use Rattle.directory.proofs.rules.entry_of.Kinds as rules-entry-of-kinds
@@ -33,25 +33,25 @@ use Rattle.demands.proofs.Unique.{once, wrote-first}
 
 -- ---- dlines
 
-pub lines-entry-at : NoSecond lines-entry-at-kinds.ps lines-entry-at-kinds.r lines-entry-at-reads.Post
-lines-entry-at κs a z z′ left left′ p q = (once (p .0) (q .0), refl)
+pub dlines-entry-at : NoSecond dlines-entry-at-kinds.ps dlines-entry-at-kinds.r dlines-entry-at-reads.Post
+dlines-entry-at κs a z z′ left left′ p q = (once (p .0) (q .0), refl)
 
-pub lines-type-at : NoSecond lines-type-at-kinds.ps lines-type-at-kinds.r lines-type-at-reads.Post
-lines-type-at κs a z z′ left left′ p q = (once (p .0) (q .0), refl)
+pub dlines-type-at : NoSecond dlines-type-at-kinds.ps dlines-type-at-kinds.r dlines-type-at-reads.Post
+dlines-type-at κs a z z′ left left′ p q = (once (p .0) (q .0), refl)
 
-pub lines-pointer-at : NoSecond lines-pointer-at-kinds.ps lines-pointer-at-kinds.r lines-pointer-at-reads.Post
-lines-pointer-at κs a z z′ left left′ p q = (once (p .0) (q .0), refl)
+pub dlines-pointer-at : NoSecond dlines-pointer-at-kinds.ps dlines-pointer-at-kinds.r dlines-pointer-at-reads.Post
+dlines-pointer-at κs a z z′ left left′ p q = (once (p .0) (q .0), refl)
 
-pub lines-lines-at : NoSecond lines-lines-at-kinds.ps lines-lines-at-kinds.r lines-lines-at-reads.Post
-lines-lines-at κs a z z′ left left′ p q = (once (p .0) (q .0), refl)
+pub dlines-lines-at : NoSecond dlines-lines-at-kinds.ps dlines-lines-at-kinds.r dlines-lines-at-reads.Post
+dlines-lines-at κs a z z′ left left′ p q = (once (p .0) (q .0), refl)
 
-pub lines-label-at : NoSecond lines-label-at-kinds.ps lines-label-at-kinds.r lines-label-at-reads.Post
-lines-label-at κs a z z′ left left′ p q = (once p q, refl)
+pub dlines-label-at : NoSecond dlines-label-at-kinds.ps dlines-label-at-kinds.r dlines-label-at-reads.Post
+dlines-label-at κs a z z′ left left′ p q = (once p q, refl)
 
 -- ---- dlines::naming
 
-pub naming-class-at : NoSecond naming-class-at-kinds.ps naming-class-at-kinds.r naming-class-at-reads.Post
-naming-class-at κs a z z′ left left′ p q = (once p q, refl)
+pub dlines-naming-class-at : NoSecond dlines-naming-class-at-kinds.ps dlines-naming-class-at-kinds.r dlines-naming-class-at-reads.Post
+dlines-naming-class-at κs a z z′ left left′ p q = (once p q, refl)
 
 -- ---- directory::rules
 

@@ -22,8 +22,8 @@ use Rattle.layouts.proofs.places.look.Kinds as places-look-kinds
 use Rattle.layouts.proofs.places.look.Reads as places-look-reads
 use Rattle.layouts.proofs.places.rests_in.Kinds as places-rests-in-kinds
 use Rattle.layouts.proofs.places.rests_in.Reads as places-rests-in-reads
-use Rattle.machine.proofs.take.takes_in.Kinds as take-takes-in-kinds
-use Rattle.machine.proofs.take.takes_in.Reads as take-takes-in-reads
+use Rattle.machine.proofs.take.takes_in.Kinds as machine-take-takes-in-kinds
+use Rattle.machine.proofs.take.takes_in.Reads as machine-take-takes-in-reads
 use Rattle.layouts.proofs.told.missing_in.Kinds as told-missing-in-kinds
 use Rattle.layouts.proofs.told.missing_in.Reads as told-missing-in-reads
 use Rattle.layouts.proofs.told.real_in.Kinds as told-real-in-kinds
@@ -80,8 +80,8 @@ places-rests-in κs a z z′ left left′ p q = (once p q, refl)
 
 -- ---- machine::take
 
-pub take-takes-in : NoSecond take-takes-in-kinds.ps take-takes-in-kinds.r take-takes-in-reads.Post
-take-takes-in κs a z z′ left left′ p q = (once p q, refl)
+pub machine-take-takes-in : NoSecond machine-take-takes-in-kinds.ps machine-take-takes-in-kinds.r machine-take-takes-in-reads.Post
+machine-take-takes-in κs a z z′ left left′ p q = (once p q, refl)
 
 -- ---- layouts::told
 

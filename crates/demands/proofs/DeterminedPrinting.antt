@@ -12,12 +12,12 @@ use Rattle.printing.proofs.lines.put_value_line.Kinds as lines-put-value-line-k
 use Rattle.printing.proofs.lines.put_value_line.Reads as lines-put-value-line-reads
 use Rattle.printing.proofs.lines.put_global_line.Kinds as lines-put-global-line-kinds
 use Rattle.printing.proofs.lines.put_global_line.Reads as lines-put-global-line-reads
-use Rattle.printed.proofs.rows.put_entity.Kinds as rows-put-entity-kinds
-use Rattle.printed.proofs.rows.put_entity.Reads as rows-put-entity-reads
-use Rattle.printed.proofs.rows.put_rows.Kinds as rows-put-rows-kinds
-use Rattle.printed.proofs.rows.put_rows.Reads as rows-put-rows-reads
-use Rattle.printed.proofs.put_sheet.Kinds as sheet-put-sheet-kinds
-use Rattle.printed.proofs.put_sheet.Reads as sheet-put-sheet-reads
+use Rattle.printed.proofs.rows.put_entity.Kinds as printed-rows-put-entity-kinds
+use Rattle.printed.proofs.rows.put_entity.Reads as printed-rows-put-entity-reads
+use Rattle.printed.proofs.rows.put_rows.Kinds as printed-rows-put-rows-kinds
+use Rattle.printed.proofs.rows.put_rows.Reads as printed-rows-put-rows-reads
+use Rattle.printed.proofs.put_sheet.Kinds as printed-put-sheet-kinds
+use Rattle.printed.proofs.put_sheet.Reads as printed-put-sheet-reads
 use Rattle.printing.proofs.starts.put_starts.Kinds as starts-put-starts-kinds
 use Rattle.printing.proofs.starts.put_starts.Reads as starts-put-starts-reads
 use Rattle.printing.proofs.taking.value_from.Kinds as taking-value-from-kinds
@@ -60,16 +60,16 @@ lines-put-global-line κs a z z′ left left′ p q = wrote-first (left .1) (p .
 
 -- ---- printed::rows
 
-pub rows-put-entity : NoSecond rows-put-entity-kinds.ps rows-put-entity-kinds.r rows-put-entity-reads.Post
-rows-put-entity κs a z z′ left left′ p q = wrote-first (left .1) (p .0) (q .0)
+pub printed-rows-put-entity : NoSecond printed-rows-put-entity-kinds.ps printed-rows-put-entity-kinds.r printed-rows-put-entity-reads.Post
+printed-rows-put-entity κs a z z′ left left′ p q = wrote-first (left .1) (p .0) (q .0)
 
-pub rows-put-rows : NoSecond rows-put-rows-kinds.ps rows-put-rows-kinds.r rows-put-rows-reads.Post
-rows-put-rows κs a z z′ left left′ p q = wrote-first (left .1) (p .0) (q .0)
+pub printed-rows-put-rows : NoSecond printed-rows-put-rows-kinds.ps printed-rows-put-rows-kinds.r printed-rows-put-rows-reads.Post
+printed-rows-put-rows κs a z z′ left left′ p q = wrote-first (left .1) (p .0) (q .0)
 
 -- ---- printed
 
-pub sheet-put-sheet : NoSecond sheet-put-sheet-kinds.ps sheet-put-sheet-kinds.r sheet-put-sheet-reads.Post
-sheet-put-sheet κs a z z′ left left′ p q = wrote-first (left .1) (p .0) (q .0)
+pub printed-put-sheet : NoSecond printed-put-sheet-kinds.ps printed-put-sheet-kinds.r printed-put-sheet-reads.Post
+printed-put-sheet κs a z z′ left left′ p q = wrote-first (left .1) (p .0) (q .0)
 
 -- ---- printing::starts
 

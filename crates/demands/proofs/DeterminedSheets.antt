@@ -21,30 +21,30 @@ use Rattle.plain.proofs.num_at.Kinds as plain-num-at-kinds
 use Rattle.plain.proofs.num_at.Reads as plain-num-at-reads
 use Rattle.plain.proofs.find.Kinds as plain-find-kinds
 use Rattle.plain.proofs.find.Reads as plain-find-reads
-use Rattle.said.proofs.end_of.Kinds as reading-end-of-kinds
-use Rattle.said.proofs.end_of.Reads as reading-end-of-reads
-use Rattle.said.proofs.entry_at.Kinds as reading-entry-at-kinds
-use Rattle.said.proofs.entry_at.Reads as reading-entry-at-reads
-use Rattle.said.proofs.strict_at.Kinds as reading-strict-at-kinds
-use Rattle.said.proofs.strict_at.Reads as reading-strict-at-reads
-use Rattle.said.proofs.line_at.Kinds as reading-line-at-kinds
-use Rattle.said.proofs.line_at.Reads as reading-line-at-reads
-use Rattle.sheetlines.proofs.put_start.Kinds as writing-put-start-kinds
-use Rattle.sheetlines.proofs.put_start.Reads as writing-put-start-reads
-use Rattle.sheetlines.proofs.put_global_head.Kinds as writing-put-global-head-kinds
-use Rattle.sheetlines.proofs.put_global_head.Reads as writing-put-global-head-reads
-use Rattle.sheetlines.proofs.put_value_head.Kinds as writing-put-value-head-kinds
-use Rattle.sheetlines.proofs.put_value_head.Reads as writing-put-value-head-reads
-use Rattle.sheetlines.proofs.put_entry.Kinds as writing-put-entry-kinds
-use Rattle.sheetlines.proofs.put_entry.Reads as writing-put-entry-reads
-use Rattle.sheetlines.proofs.entry_len.Kinds as writing-entry-len-kinds
-use Rattle.sheetlines.proofs.entry_len.Reads as writing-entry-len-reads
-use Rattle.sheetlines.proofs.put_last.Kinds as writing-put-last-kinds
-use Rattle.sheetlines.proofs.put_last.Reads as writing-put-last-reads
-use Rattle.said.proofs.is_mark.Kinds as reading-is-mark-kinds
-use Rattle.said.proofs.is_mark.Reads as reading-is-mark-reads
-use Rattle.said.proofs.is_value.Kinds as reading-is-value-kinds
-use Rattle.said.proofs.is_value.Reads as reading-is-value-reads
+use Rattle.said.proofs.end_of.Kinds as said-end-of-kinds
+use Rattle.said.proofs.end_of.Reads as said-end-of-reads
+use Rattle.said.proofs.entry_at.Kinds as said-entry-at-kinds
+use Rattle.said.proofs.entry_at.Reads as said-entry-at-reads
+use Rattle.said.proofs.strict_at.Kinds as said-strict-at-kinds
+use Rattle.said.proofs.strict_at.Reads as said-strict-at-reads
+use Rattle.said.proofs.line_at.Kinds as said-line-at-kinds
+use Rattle.said.proofs.line_at.Reads as said-line-at-reads
+use Rattle.sheetlines.proofs.put_start.Kinds as sheetlines-put-start-kinds
+use Rattle.sheetlines.proofs.put_start.Reads as sheetlines-put-start-reads
+use Rattle.sheetlines.proofs.put_global_head.Kinds as sheetlines-put-global-head-kinds
+use Rattle.sheetlines.proofs.put_global_head.Reads as sheetlines-put-global-head-reads
+use Rattle.sheetlines.proofs.put_value_head.Kinds as sheetlines-put-value-head-kinds
+use Rattle.sheetlines.proofs.put_value_head.Reads as sheetlines-put-value-head-reads
+use Rattle.sheetlines.proofs.put_entry.Kinds as sheetlines-put-entry-kinds
+use Rattle.sheetlines.proofs.put_entry.Reads as sheetlines-put-entry-reads
+use Rattle.sheetlines.proofs.entry_len.Kinds as sheetlines-entry-len-kinds
+use Rattle.sheetlines.proofs.entry_len.Reads as sheetlines-entry-len-reads
+use Rattle.sheetlines.proofs.put_last.Kinds as sheetlines-put-last-kinds
+use Rattle.sheetlines.proofs.put_last.Reads as sheetlines-put-last-reads
+use Rattle.said.proofs.is_mark.Kinds as said-is-mark-kinds
+use Rattle.said.proofs.is_mark.Reads as said-is-mark-reads
+use Rattle.said.proofs.is_value.Kinds as said-is-value-kinds
+use Rattle.said.proofs.is_value.Reads as said-is-value-reads
 use Rattle.plain.proofs.tabbed_at.Kinds as plain-tabbed-at-kinds
 use Rattle.plain.proofs.tabbed_at.Reads as plain-tabbed-at-reads
 use Rattle.demands.specs.Unique.{NoSecond}
@@ -86,40 +86,40 @@ plain-tabbed-at κs a z z′ left left′ p q =
 
 -- ---- said
 
-pub reading-end-of : NoSecond reading-end-of-kinds.ps reading-end-of-kinds.r reading-end-of-reads.Post
-reading-end-of κs a z z′ left left′ p q = (once (p .0) (q .0), refl)
+pub said-end-of : NoSecond said-end-of-kinds.ps said-end-of-kinds.r said-end-of-reads.Post
+said-end-of κs a z z′ left left′ p q = (once (p .0) (q .0), refl)
 
-pub reading-entry-at : NoSecond reading-entry-at-kinds.ps reading-entry-at-kinds.r reading-entry-at-reads.Post
-reading-entry-at κs a z z′ left left′ p q = (once p q, refl)
+pub said-entry-at : NoSecond said-entry-at-kinds.ps said-entry-at-kinds.r said-entry-at-reads.Post
+said-entry-at κs a z z′ left left′ p q = (once p q, refl)
 
-pub reading-strict-at : NoSecond reading-strict-at-kinds.ps reading-strict-at-kinds.r reading-strict-at-reads.Post
-reading-strict-at κs a z z′ left left′ p q = (once (p .0) (q .0), refl)
+pub said-strict-at : NoSecond said-strict-at-kinds.ps said-strict-at-kinds.r said-strict-at-reads.Post
+said-strict-at κs a z z′ left left′ p q = (once (p .0) (q .0), refl)
 
-pub reading-line-at : NoSecond reading-line-at-kinds.ps reading-line-at-kinds.r reading-line-at-reads.Post
-reading-line-at κs a z z′ left left′ p q = (once (p .0) (q .0), refl)
+pub said-line-at : NoSecond said-line-at-kinds.ps said-line-at-kinds.r said-line-at-reads.Post
+said-line-at κs a z z′ left left′ p q = (once (p .0) (q .0), refl)
 
-pub reading-is-mark : NoSecond reading-is-mark-kinds.ps reading-is-mark-kinds.r reading-is-mark-reads.Post
-reading-is-mark κs a z z′ left left′ p q = (once p q, refl)
+pub said-is-mark : NoSecond said-is-mark-kinds.ps said-is-mark-kinds.r said-is-mark-reads.Post
+said-is-mark κs a z z′ left left′ p q = (once p q, refl)
 
-pub reading-is-value : NoSecond reading-is-value-kinds.ps reading-is-value-kinds.r reading-is-value-reads.Post
-reading-is-value κs a z z′ left left′ p q = (once p q, refl)
+pub said-is-value : NoSecond said-is-value-kinds.ps said-is-value-kinds.r said-is-value-reads.Post
+said-is-value κs a z z′ left left′ p q = (once p q, refl)
 
 -- ---- sheetlines
 
-pub writing-put-start : NoSecond writing-put-start-kinds.ps writing-put-start-kinds.r writing-put-start-reads.Post
-writing-put-start κs a z z′ left left′ p q = wrote-first (left .1) (p .0) (q .0)
+pub sheetlines-put-start : NoSecond sheetlines-put-start-kinds.ps sheetlines-put-start-kinds.r sheetlines-put-start-reads.Post
+sheetlines-put-start κs a z z′ left left′ p q = wrote-first (left .1) (p .0) (q .0)
 
-pub writing-put-global-head : NoSecond writing-put-global-head-kinds.ps writing-put-global-head-kinds.r writing-put-global-head-reads.Post
-writing-put-global-head κs a z z′ left left′ p q = wrote-first (left .1) (p .0) (q .0)
+pub sheetlines-put-global-head : NoSecond sheetlines-put-global-head-kinds.ps sheetlines-put-global-head-kinds.r sheetlines-put-global-head-reads.Post
+sheetlines-put-global-head κs a z z′ left left′ p q = wrote-first (left .1) (p .0) (q .0)
 
-pub writing-put-value-head : NoSecond writing-put-value-head-kinds.ps writing-put-value-head-kinds.r writing-put-value-head-reads.Post
-writing-put-value-head κs a z z′ left left′ p q = wrote-first (left .1) (p .0) (q .0)
+pub sheetlines-put-value-head : NoSecond sheetlines-put-value-head-kinds.ps sheetlines-put-value-head-kinds.r sheetlines-put-value-head-reads.Post
+sheetlines-put-value-head κs a z z′ left left′ p q = wrote-first (left .1) (p .0) (q .0)
 
-pub writing-put-entry : NoSecond writing-put-entry-kinds.ps writing-put-entry-kinds.r writing-put-entry-reads.Post
-writing-put-entry κs a z z′ left left′ p q = wrote-first (left .1) (p .0) (q .0)
+pub sheetlines-put-entry : NoSecond sheetlines-put-entry-kinds.ps sheetlines-put-entry-kinds.r sheetlines-put-entry-reads.Post
+sheetlines-put-entry κs a z z′ left left′ p q = wrote-first (left .1) (p .0) (q .0)
 
-pub writing-entry-len : NoSecond writing-entry-len-kinds.ps writing-entry-len-kinds.r writing-entry-len-reads.Post
-writing-entry-len κs a z z′ left left′ p q = (once (p .0) (q .0), refl)
+pub sheetlines-entry-len : NoSecond sheetlines-entry-len-kinds.ps sheetlines-entry-len-kinds.r sheetlines-entry-len-reads.Post
+sheetlines-entry-len κs a z z′ left left′ p q = (once (p .0) (q .0), refl)
 
-pub writing-put-last : NoSecond writing-put-last-kinds.ps writing-put-last-kinds.r writing-put-last-reads.Post
-writing-put-last κs a z z′ left left′ p q = wrote-first (left .1) (p .0) (q .0)
+pub sheetlines-put-last : NoSecond sheetlines-put-last-kinds.ps sheetlines-put-last-kinds.r sheetlines-put-last-reads.Post
+sheetlines-put-last κs a z z′ left left′ p q = wrote-first (left .1) (p .0) (q .0)

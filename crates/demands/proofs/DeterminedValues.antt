@@ -1,9 +1,9 @@
 -- No second result fits the contract of a public function of crate values. Assumes nothing.
 use mathlib.Core.Path.{refl}
-use Rattle.strict.proofs.strict.Kinds as back-strict-kinds
-use Rattle.strict.proofs.strict.Reads as back-strict-reads
-use Rattle.strict.proofs.front_of.Kinds as back-front-of-kinds
-use Rattle.strict.proofs.front_of.Reads as back-front-of-reads
+use Rattle.strict.proofs.strict.Kinds as strict-strict-kinds
+use Rattle.strict.proofs.strict.Reads as strict-strict-reads
+use Rattle.strict.proofs.front_of.Kinds as strict-front-of-kinds
+use Rattle.strict.proofs.front_of.Reads as strict-front-of-reads
 use Rattle.numbers.proofs.scan_at.Kinds as numbers-scan-at-kinds
 use Rattle.numbers.proofs.scan_at.Reads as numbers-scan-at-reads
 use Rattle.numbers.proofs.read.Kinds as numbers-read-kinds
@@ -31,11 +31,11 @@ use Rattle.demands.proofs.Unique.{once, wrote-first}
 
 -- ---- strict
 
-pub back-strict : NoSecond back-strict-kinds.ps back-strict-kinds.r back-strict-reads.Post
-back-strict κs a z z′ left left′ p q = (once (p .0) (q .0), refl)
+pub strict-strict : NoSecond strict-strict-kinds.ps strict-strict-kinds.r strict-strict-reads.Post
+strict-strict κs a z z′ left left′ p q = (once (p .0) (q .0), refl)
 
-pub back-front-of : NoSecond back-front-of-kinds.ps back-front-of-kinds.r back-front-of-reads.Post
-back-front-of κs a z z′ left left′ p q = (once (p .0) (q .0), refl)
+pub strict-front-of : NoSecond strict-front-of-kinds.ps strict-front-of-kinds.r strict-front-of-reads.Post
+strict-front-of κs a z z′ left left′ p q = (once (p .0) (q .0), refl)
 
 -- ---- numbers
 
