@@ -11,8 +11,8 @@ ARCHIVE ?= target/staticlib/libszelmikra.a
 OUT = target/host
 CXXFLAGS ?= -O2 -Wall -Wextra -Wpedantic -Wconversion
 
-# Provers at a time. They are started in groups that are waited for whole, so that more than there are cores leave none idle; the largest take 1.5 GB each.
-export RT_JOBS ?= 8
+# Provers at a time: more than there are cores take each other's caches, and cost more than they fill.
+export RT_JOBS ?= 2
 
 # The C++ side is compiled while the library is proved, and its tests run side by side.
 MAKEFLAGS += -j2
