@@ -15,7 +15,9 @@ CXXFLAGS ?= -O2 -Wall -Wextra -Wpedantic -Wconversion
 export RT_JOBS ?= 2
 
 # The C++ side is compiled while the library is proved, and its tests run side by side.
+ifeq ($(MAKELEVEL),0)
 MAKEFLAGS += -j2
+endif
 
 include host/host.mk
 
