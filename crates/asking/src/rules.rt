@@ -1,20 +1,12 @@
-// What lines are asked by themselves: 8 of a G line, 9 and 13 of an entry line. G lines stand before entries, so this is one walk;
-// on it the class of each entry is put into the table, too.
+// What lines are asked by themselves: 8 of a G line, 9 and 13 of an entry line. G lines stand before entries, so one walk asks them all.
 use crate::Pass;
-use crate::heads::head_at;
-use crate::table::keep;
 use columns::Fault;
 use columns::SheetLine;
 use directory::Rule;
-use said::end_of;
 use sheets::Said;
 ghost use mathlib.Core.Path.{_≡_};
-ghost use Rattle.columns.specs.Laid.{laid};
-ghost use Rattle.sheets.specs.Sheet.{linesIn};
 ghost use Rattle.asking.specs.Lines.{orElse};
 ghost use Rattle.asking.specs.Heads.{saidRule};
-ghost use Rattle.asking.specs.Classes.{classesIn};
-ghost use Rattle.asking.specs.Passes.{rulesPass};
 
 // What a line says, at its place.
 fn rule_of(said: Said, place: usize) -> Pass
