@@ -1,4 +1,5 @@
 // The lines of which each is written whole: S, D and T.
+use columns::wide;
 use crate::DIRECTORY;
 use crate::GLOBAL;
 use crate::PARAMETER;
@@ -74,12 +75,6 @@ pub fn put_entry_lines(
     let b = put_tail(out, a, DIRECTORY, n);
     let c = writing::put_second(out, b, x, count, label);
     put_tail(out, c, DIRECTORY, n + 1)
-}
-
-fn wide(n: u32) -> usize
-    ensures { λ r. ⌜ r ≡ n ⌝ }
-{
-    n as usize
 }
 
 // The columns of T.

@@ -1,4 +1,5 @@
 // The canonical file of a sheet: S, G, D and P lines and the T line, laid over a lent buffer and clipped to it.
+use columns::wide;
 use crate::Place;
 use crate::entries::put_rows;
 use crate::starts::put_starts;
@@ -19,12 +20,6 @@ ghost use Rattle.model.specs.Canonical.{canonical};
 ghost use Rattle.canonical.specs.declared.Lines.the-variants.{Are};
 ghost use Rattle.canonical.specs.Counting.{linesOfSheet};
 ghost use Rattle.canonical.specs.Laying.{fileBytes, TextsFit, TextsLaid, Ranged, Ready};
-
-fn wide(x: u32) -> usize
-    ensures { λ r. ⌜ r ≡ x ⌝ }
-{
-    x as usize
-}
 
 // Lays the S and G lines of a sheet with so many start lines, and tells where the sheet goes on.
 fn put_texts(out: &mut [u8], t: &[u8], s: usize) -> usize

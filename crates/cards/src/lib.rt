@@ -5,6 +5,7 @@ mod terminate;
 
 use columns::Fault;
 use columns::FileLine;
+use columns::wide;
 ghost use mathlib.Core.Path.{_≡_};
 ghost use Prim.Native.Nat.{_+_, _*_, _^_, _<_, _≤_};
 ghost use Rattle.cards.specs.Cards.{lengthOk, cardsOf, entryLine, parameterLine};
@@ -99,12 +100,6 @@ pub fn cards(file: &[u8]) -> CardsRead
         fault: Fault::Terminate,
         line: FileLine(n),
     }
-}
-
-fn wide(x: u32) -> usize
-    ensures { λ r. ⌜ r ≡ x ⌝ }
-{
-    x as usize
 }
 
 // The index of entry i's first line; entries are counted from 0.

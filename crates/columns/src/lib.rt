@@ -3,6 +3,9 @@
 pub mod fields;
 pub mod look;
 
+ghost use mathlib.Core.Path.{_≡_};
+ghost use Prim.Native.Nat.{_^_, _<_};
+
 // Why an input is refused, in the order of the paper's table; specs/Refusal.antt gives the number of each.
 pub enum Fault {
     ListOrLength,
@@ -51,4 +54,11 @@ pub struct Signed {
 pub enum SignedField {
     Number(Signed),
     Bad,
+}
+
+// A count or a number of the file as a length.
+pub fn wide(x: u32) -> usize
+    ensures { λ r. ⌜ (r ≡ x) × (r < 2 ^ 32) ⌝ }
+{
+    x as usize
 }

@@ -2,6 +2,7 @@
 use cards::Counts;
 use columns::DirectoryNumber;
 use columns::look;
+use columns::wide;
 use directory::SLOT_COLUMNS;
 use reading::Checked;
 ghost use mathlib.Core.Path.{_≡_};
@@ -16,12 +17,6 @@ enum Found {
     Label(usize),
     Blank,
     Nobody,
-}
-
-fn wide(x: u32) -> usize
-    ensures { λ r. ⌜ (r ≡ x) × (r < 2 ^ 32) ⌝ }
-{
-    x as usize
 }
 
 // In a file with these counts: a directory number names an entry if it is odd and in the file.

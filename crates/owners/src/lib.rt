@@ -6,6 +6,7 @@ use cards::Counts;
 use columns::DirectoryNumber;
 use columns::FileLine;
 use columns::ParameterLine;
+use columns::wide;
 ghost use mathlib.Core.Path.{_≡_};
 ghost use mathlib.Core.Bool.{Bool, true, false};
 ghost use Prim.Native.Nat.{_+_, _*_, _/_, _^_, _<_, _≤_};
@@ -21,12 +22,6 @@ pub enum Owned {
     Everyone,
     Entry(DirectoryNumber),
     Line(ParameterLine),
-}
-
-fn wide(x: u32) -> usize
-    ensures { λ r. ⌜ r ≡ x ⌝ }
-{
-    x as usize
 }
 
 fn narrow(x: usize) -> u32

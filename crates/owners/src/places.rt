@@ -3,6 +3,7 @@ use cards::Counts;
 use cards::LINE_BYTES;
 use columns::Field;
 use columns::SignedField;
+use columns::wide;
 ghost use mathlib.Core.Path.{_≡_};
 ghost use mathlib.Core.Bool.{Bool, true, false};
 ghost use Prim.Native.Nat.{_+_, _*_, _^_, _<_, _≤_};
@@ -11,12 +12,6 @@ ghost use Rattle.columns.specs.Columns.{lineBytes, lineAt};
 ghost use Rattle.cards.specs.Cards.{entries};
 ghost use Rattle.cards.specs.Rules.{Holds};
 ghost use Rattle.owners.specs.InFile.{numberOr0, sizeOr0, sizeAt, nameOf, ownerIn, fromIn, countIn};
-
-fn wide(x: u32) -> usize
-    ensures { λ r. ⌜ (r ≡ x) × (r < 2 ^ 32) ⌝ }
-{
-    x as usize
-}
 
 fn number_or_0(f: Field) -> usize
     ensures { λ r. ⌜ (r ≡ numberOr0 f) × (r < 2 ^ 32) ⌝ }

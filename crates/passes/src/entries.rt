@@ -1,11 +1,11 @@
 // Each entry in turn, read once: 9, then 13; and on the way 10, whose first refusal is kept for the end: it counts if all entries pass 9 and 13.
-use crate::Pass;
-use crate::Turn;
-use crate::refer::reference_check;
-use crate::wide;
 use cards::Counts;
 use columns::Fault;
 use columns::FileLine;
+use columns::wide;
+use crate::Pass;
+use crate::Turn;
+use crate::refer::reference_check;
 use directory::EntryRead;
 use directory::Rule;
 ghost use mathlib.Core.Path.{_≡_};

@@ -1,11 +1,11 @@
 // G: 6 and 7 in text order, stray text, then 8.
-use crate::GlobalAnswer;
-use crate::Pass;
-use crate::wide;
 use cards::Counts;
 use cards::LINE_BYTES;
 use columns::Fault;
 use columns::FileLine;
+use columns::wide;
+use crate::GlobalAnswer;
+use crate::Pass;
 use records::Check;
 use records::Got;
 use records::Opening;

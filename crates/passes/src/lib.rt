@@ -8,6 +8,7 @@ use cards::CardsRead;
 use cards::Counts;
 use columns::Fault;
 use columns::FileLine;
+use columns::wide;
 use owners::Owned;
 ghost use mathlib.Core.Path.{_≡_};
 ghost use Prim.Native.Nat.{_^_, _<_};
@@ -46,12 +47,6 @@ pub enum BeforeAnswer {
         fault: Fault,
         line: FileLine,
     },
-}
-
-fn wide(x: u32) -> usize
-    ensures { λ r. ⌜ (r ≡ x) × (r < 2 ^ 32) ⌝ }
-{
-    x as usize
 }
 
 // 11: over entries, then over P lines.

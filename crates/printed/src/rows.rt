@@ -2,6 +2,7 @@
 use cards::LINE_BYTES;
 use carried::put_values;
 use columns::DirectoryNumber;
+use columns::wide;
 use directory::EntryRead;
 use directory::Fields;
 use dlines::entry_at;
@@ -109,12 +110,6 @@ fn before(number: u32) -> usize
         return 0;
     }
     (number - 1) as usize
-}
-
-fn wide(n: u32) -> usize
-    ensures { λ r. ⌜ (r ≡ n) × (r < 2 ^ 32) ⌝ }
-{
-    n as usize
 }
 
 // Entry i as its D lines tell it, if its P lines stand in the file.

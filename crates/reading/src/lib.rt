@@ -6,6 +6,7 @@ use columns::DirectoryNumber;
 use columns::Fault;
 use columns::FileLine;
 use columns::ParameterLine;
+use columns::wide;
 use directory::EntryRead;
 use directory::Fields;
 use directory::SLOT_COLUMNS;
@@ -58,12 +59,6 @@ pub enum Weight {
 pub enum Rows {
     Good(usize),
     Refused { fault: Fault, line: FileLine },
-}
-
-fn wide(x: u32) -> usize
-    ensures { λ r. ⌜ (r ≡ x) × (r < 2 ^ 32) ⌝ }
-{
-    x as usize
 }
 
 // The entity of this type and form, whose record stands in so many P lines from its pointer on.

@@ -1,15 +1,10 @@
 // How long the canonical file of a sheet is.
 use cards::Counts;
 use cards::LINE_BYTES;
+use columns::wide;
 ghost use mathlib.Core.Path.{_≡_};
 ghost use Prim.Native.Nat.{_*_, _^_, _<_};
 ghost use Rattle.cards.specs.Cards.{total};
-
-fn wide(x: u32) -> usize
-    ensures { λ r. ⌜ (r ≡ x) × (r < 2 ^ 32) ⌝ }
-{
-    x as usize
-}
 
 // The bytes of a file with these counts.
 pub fn bytes(c: Counts) -> usize

@@ -1,6 +1,7 @@
 // The sheet of a file that passes all checks, and how long it is.
 use cards::Counts;
 use cards::LINE_BYTES;
+use columns::wide;
 use records::Opening;
 ghost use mathlib.Core.Path.{_≡_};
 ghost use Prim.Native.Nat.{_*_, _^_, _≤_, _<_};
@@ -13,12 +14,6 @@ ghost use Rattle.reading.specs.declared.Checked.the-variants.{Good};
 ghost use Rattle.reading.specs.Checks.{checkOf};
 ghost use Rattle.reading.specs.Weights.{rowsLength};
 ghost use Rattle.rewrap.specs.Reading.{sheetIn};
-
-fn wide(x: u32) -> usize
-    ensures { λ r. ⌜ (r ≡ x) × (r < 2 ^ 32) ⌝ }
-{
-    x as usize
-}
 
 // Writes the sheet from the start of out on, clipped to it.
 pub fn put_file(

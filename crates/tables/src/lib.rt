@@ -4,6 +4,7 @@ mod slot;
 
 use cards::Counts;
 use columns::Fault;
+use columns::wide;
 use reading::Checked;
 use rewrap::Answer;
 use rewrap::Record;
@@ -19,12 +20,6 @@ struct Plan {
     answer: Answer,
     first: usize,
     count: usize,
-}
-
-fn wide(x: u32) -> usize
-    ensures { λ r. ⌜ (r ≡ x) × (r < 2 ^ 32) ⌝ }
-{
-    x as usize
 }
 
 // For a file with these counts: 16 if the slots are too few.

@@ -1,5 +1,6 @@
 // A pack of vectors: for each seven numbers of eight digits (0 to read and 1 to write; list; number and place of the answer; how long its name,
 // its input and its expected output are), an LF, and those three.
+use columns::wide;
 use crate::Packed;
 use columns::Field;
 use columns::fields::read_field;
@@ -19,12 +20,6 @@ fn number_at(p: &[u8], at: usize) -> u32
         return 0;
     };
     n
-}
-
-fn wide(n: u32) -> usize
-    ensures { λ r. ⌜ r < 2 ^ 32 ⌝ }
-{
-    n as usize
 }
 
 // The vector from `at` on.
