@@ -21,7 +21,7 @@ endif
 
 include host/host.mk
 
-.PHONY: test fmt lib tools sample check-host check-vectors check-differential check-cli check-install bench stack example install
+.PHONY: test fmt lib tools sample check-host check-vectors check-random check-large check-cli check-install bench stack example install
 .DELETE_ON_ERROR:
 .DEFAULT_GOAL = tools
 
@@ -56,13 +56,16 @@ PROGRAMS = $(OUT)/szelmikra $(OUT)/bench $(TESTS)/vectors $(TESTS)/differential 
 $(PROGRAMS): $(ARCHIVE) | $(CROSS_LIBM)
 	@$(HOST_CXX) $(CXXFLAGS) -pthread $(HOST_LINK) -o $@ $(filter %.o,$^) $(ARCHIVE)
 
-check-host: check-vectors check-differential check-cli
+check-host: check-large check-random check-vectors check-cli
 
 check-vectors: $(TESTS)/vectors
 	@$(HOST_RUN) $< crates/vectors/stdin
 
-check-differential: $(TESTS)/differential
+check-random: $(TESTS)/differential
 	@$(HOST_RUN) $<
+
+check-large: $(TESTS)/differential
+	@$(HOST_RUN) $< --large
 
 check-cli: $(OUT)/szelmikra
 	@host/tests/cli.sh $(HOST_RUN) $<

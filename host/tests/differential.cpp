@@ -1,10 +1,11 @@
-// The archive against plain, on random files and sheets, good and damaged, and on a few large ones.
+// The archive against plain, on random files and sheets, good and damaged, or on a few large ones.
 //
 //     differential [--seed N] [--first N] [--count N] [--keep FOLDER]
+//     differential --large
 //
-// Each case has its own seed, made of --seed and its number, so `--first N --count 1` runs one again; --keep saves inputs on which
+// Each random case has its own seed, made of --seed and its number, so `--first N --count 1` runs one again; --keep saves inputs on which
 // the two sides differ. It fails on any difference; a whole run, which starts at 0 and has the usual count or more, also fails if a
-// refusal number that can be reached was never seen.
+// refusal number that can be reached was never seen. Refusal 19 of writing takes a large sheet: it is among the large cases.
 #include <cstdio>
 #include <cstdlib>
 #include <cstring>
@@ -34,6 +35,7 @@ struct Options {
     std::uint64_t first = 0;
     std::uint64_t count = usualCount;
     std::string keep;
+    bool large = false;
     bool wholeRun() const { return first == 0 && count >= usualCount; }
 };
 
@@ -66,7 +68,7 @@ public:
         if (wholeRun) {
             for (const int number : {1, 2, 3, 4, 5, 6, 7, 8, 9, 10, 11, 12, 13, 14, 15, 16})
                 missing += missed(Operation::Read, number);
-            for (const int number : {1, 8, 9, 10, 13, 14, 15, 16, 17, 18, 19}) missing += missed(Operation::Write, number);
+            for (const int number : {1, 8, 9, 10, 13, 14, 15, 16, 17, 18}) missing += missed(Operation::Write, number);
         }
         std::printf("differential: %zu cases, %zu refusal numbers seen, %zu differences\n", cases_, seen, differences_);
         return differences_ == 0 && missing == 0 ? 0 : 1;
@@ -188,6 +190,10 @@ std::uint64_t numberOf(const char *word) {
 
 Options parse(int count, char **words) {
     Options options;
+    if (count == 2 && std::strcmp(words[1], "--large") == 0) {
+        options.large = true;
+        return options;
+    }
     for (int i = 1; i + 1 < count; i += 2) {
         if (std::strcmp(words[i], "--seed") == 0)
             options.seed = numberOf(words[i + 1]);
@@ -201,7 +207,7 @@ Options parse(int count, char **words) {
             count = 0;
     }
     if (count % 2 == 0) {
-        std::fprintf(stderr, "usage: differential [--seed N] [--first N] [--count N] [--keep FOLDER]\n");
+        std::fprintf(stderr, "usage: differential [--seed N] [--first N] [--count N] [--keep FOLDER]\n       differential --large\n");
         std::exit(2);
     }
     return options;
@@ -212,11 +218,14 @@ Options parse(int count, char **words) {
 int main(int count, char **words) {
     const Options options = parse(count, words);
     Comparison comparison(options.keep);
+    if (options.large) {
+        largeCases(comparison);
+        return comparison.report(false);
+    }
     for (std::uint64_t i = options.first; i < options.first + options.count; ++i) {
         comparison.label(std::to_string(i));
         Random random(Random(options.seed ^ (i << 20)).bits());
         randomCase(comparison, random);
     }
-    if (options.wholeRun()) largeCases(comparison);
     return comparison.report(options.wholeRun());
 }
