@@ -40,7 +40,7 @@ lib: target/staticlib/libszelmikra.a
 target/staticlib/libszelmikra.a: $(shell find crates -name '*.rt')
 	@mkdir -p target
 	@echo 'proving the library, which takes some minutes; target/szelmikra.log tells how far it is' >&2
-	@{ rt check rewrap && rt staticlib szelmikra; } >target/szelmikra.log 2>&1 || { cat target/szelmikra.log; exit 1; }
+	@{ rt check unwrap wrap && rt staticlib szelmikra; } >target/szelmikra.log 2>&1 || { cat target/szelmikra.log; exit 1; }
 
 $(OUT)/%.o: host/%.cpp host/host.mk Makefile | toolchain
 	@mkdir -p $(@D)

@@ -14,11 +14,11 @@ use Rattle.model.specs.Write.{rowReferences, rowEntityRules}
 use Rattle.rows.specs.Rows.{valuesFirst}
 use Rattle.asking.specs.declared.Pass.{Pass}
 use Rattle.asking.specs.declared.Pass.the-variants.{Good, Refused}
-use Rattle.asking.specs.Lines.{OfRow, orElse, noRule, linesPass, Skipped}
+use Rattle.asking.specs.Lines.{orElse, noRule, linesPass, Skipped}
 use Rattle.asking.specs.Heads.{headOf, saidReferences, saidEntity}
 use Rattle.asking.specs.Classes.{sheetTypes}
 use Rattle.asking.specs.Passes.{referencesPass, entitiesPass}
-use Rattle.asking.proofs.Lines.{or-good, pass-end, pass-piece, pass-line, behind}
+use Rattle.asking.proofs.Lines.{pass-end, pass-piece, pass-line, behind}
 use Rattle.asking.proofs.Heading.{references-line, entity-line}
 
 -- ---- behind a refused entity

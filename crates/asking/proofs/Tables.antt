@@ -15,7 +15,7 @@ use Rattle.directory.specs.declared.Fields.{Fields}
 use Rattle.sheets.specs.declared.Said.{Said}
 use Rattle.sheets.specs.declared.Said.the-variants.{Start, Global, Entry, Value as Given, Last, Nothing}
 use Rattle.sheets.specs.Line.{run}
-use Rattle.sheets.specs.Sheet.{Line, none, saysOf, lineFrom, saidBy, linesIn}
+use Rattle.sheets.specs.Sheet.{Line, saysOf, lineFrom, saidBy, linesIn}
 use Rattle.sheets.proofs.Walk.{lines-first}
 use Rattle.rows.specs.Rows.{typesIn}
 use Rattle.asking.specs.Heads.{headOf}

@@ -41,7 +41,7 @@ fn all_ask_ok(classes: &[u8], n: usize, t: &[u8], e: Entry) -> bool
 {
     let mut j = 0;
     while j < REFERENCES {
-        let w = directory::rules::wanted(e, j);
+        let w = entryrules::wanted(e, j);
         if !asks_ok(classes, n, t, w) {
             return false;
         }
@@ -63,7 +63,7 @@ pub fn reference_of(classes: &[u8], n: usize, t: &[u8], said: Said, place: usize
     else {
         return Pass::Good;
     };
-    let e = directory::rules::entry_of(fields);
+    let e = entryrules::entry_of(fields);
     if all_ask_ok(classes, n, t, e) {
         return Pass::Good;
     }

@@ -32,7 +32,7 @@ fn rule_of(said: Said, place: usize) -> Pass
             number: _,
             fields,
         } => {
-            let rule = directory::rules::entry_rules(fields);
+            let rule = entryrules::entry_rules(fields);
             match rule {
                 Rule::Good => Pass::Good,
                 Rule::Refused(fault) => Pass::Refused { fault, line },

@@ -9,7 +9,7 @@ use lib.ListN.{length, set, replicate, length-append}
 use lib.Seq.{set-set}
 use Rattle.columns.specs.Columns.{joined}
 use Rattle.values.specs.Value.{Item, spelled}
-use Rattle.records.specs.Flow.{firm, gap, delimiter, piece, flow, lineCount, inLines}
+use Rattle.records.specs.Flow.{firm, gap, piece, flow, lineCount, inLines}
 use Rattle.records.specs.Written.{indexOf, over, Put}
 use Rattle.records.proofs.Puts.{over-over, put-length, Owed, owed-less}
 use Rattle.records.proofs.Lines.{lines-hold, lines-few, join-lines}

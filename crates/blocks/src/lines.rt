@@ -1,13 +1,12 @@
 // The lines of which each is written whole: S, D and T.
-use columns::wide;
 use crate::DIRECTORY;
 use crate::GLOBAL;
 use crate::PARAMETER;
 use crate::START;
 use crate::TERMINATE;
 use cards::Counts;
+use columns::wide;
 use directory::Fields;
-use directory::writing;
 ghost use mathlib.Core.Path.{_≡_};
 ghost use mathlib.Core.List.{_∷_, _++_};
 ghost use Prim.Native.Nat.{_+_, _^_, _≤_, _<_};
@@ -34,7 +33,7 @@ fn put_count(out: &mut [u8], at: usize, letter: u8, n: usize) -> usize
     ensures { λ r. ⌜ r ≡ at + 8 ⌝ }
 {
     let a = emit::put(out, at, letter);
-    emit::put_right(out, a, 48, DIGITS, n as u64)
+    decimals::put_right(out, a, 48, DIGITS, n as u64)
 }
 
 // The columns 73 to 80 and LF: a line's letter and its number in its section.
@@ -53,7 +52,7 @@ pub fn put_start_line(out: &mut [u8], at: usize, text: &[u8], n: usize) -> usize
     ensures { λ r. ⌜ Wrote (now (out .entry)) at (lineOf (toLeft 72 (now (text .entry))) 83 n) (now (out .exit)) r ⌝ }
     ensures { λ r. ⌜ r ≡ at + 81 ⌝ }
 {
-    let a = emit::put_left(out, at, TEXT, text);
+    let a = decimals::put_left(out, at, TEXT, text);
     put_tail(out, a, START, n)
 }
 
@@ -71,9 +70,9 @@ pub fn put_entry_lines(
     ensures { λ r. ⌜ Wrote (now (out .entry)) at (joined (section 68 n (entryLines x from count (now (label .entry))))) (now (out .exit)) r ⌝ }
     ensures { λ r. ⌜ r ≤ at + 522 ⌝ }
 {
-    let a = writing::put_first(out, at, x, from);
+    let a = dsection::put_first(out, at, x, from);
     let b = put_tail(out, a, DIRECTORY, n);
-    let c = writing::put_second(out, b, x, count, label);
+    let c = dsection::put_second(out, b, x, count, label);
     put_tail(out, c, DIRECTORY, n + 1)
 }
 

@@ -13,7 +13,7 @@ use Rattle.values.specs.declared.Value.{Value}
 use Rattle.values.specs.declared.Value.the-variants.{Default, Whole, Real, Text}
 use Rattle.values.specs.declared.Strict.{Strict}
 use Rattle.values.specs.declared.Strict.the-variants.{Is, Not}
-use Rattle.values.specs.Value.{text, itemOf, Normal, nought, times, over, Fine, fine-whole, fine-real, fine-text}
+use Rattle.values.specs.Value.{itemOf, Normal, nought, times, over, Fine, fine-whole, fine-real, fine-text}
 use Rattle.values.specs.Writing.{Inside}
 use Rattle.values.specs.Strict.{strictOf}
 use Rattle.values.proofs.OneSpelling.{sound}

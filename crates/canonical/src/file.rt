@@ -1,11 +1,11 @@
 // The canonical file of a sheet: S, G, D and P lines and the T line, laid over a lent buffer and clipped to it.
-use columns::wide;
 use crate::Place;
 use crate::entries::put_rows;
 use crate::starts::put_starts;
 use blocks::lines::put_last_line;
 use cards::Counts;
 use cards::LINE_BYTES;
+use columns::wide;
 use gsection::put_globals;
 ghost use mathlib.Core.Path.{_≡_};
 ghost use Prim.Native.Nat.{_*_};

@@ -1,6 +1,5 @@
-// The canonical file of a sheet: how many lines it has, and its bytes.
-// `counts` counts them line by line for a walk over the sheet, `starts` lays the S lines, `entries` the D and P lines entry by entry, `file` the whole file.
-pub mod counts;
+// The canonical file of a sheet: its bytes.
+// `starts` lays the S lines, `entries` the D and P lines entry by entry, `file` the whole file. Crate `tally` counts its lines before.
 mod entries;
 pub mod file;
 mod starts;

@@ -1,15 +1,12 @@
 // The lines of a file: their bytes, section letters, sequence numbers, and the T line; and where each section starts.
-// `line` looks at one line, `terminate` at the last; `cards` is the pass over all.
-mod line;
-mod terminate;
+// Crate `oneline` looks at one line, `sections` goes over all.
 
 use columns::Fault;
 use columns::FileLine;
 use columns::wide;
 ghost use mathlib.Core.Path.{_≡_};
 ghost use Prim.Native.Nat.{_+_, _*_, _^_, _<_, _≤_};
-ghost use Rattle.cards.specs.Cards.{lengthOk, cardsOf, entryLine, parameterLine};
-ghost use Rattle.cards.specs.Rules.{Known};
+ghost use Rattle.cards.specs.Cards.{lengthOk, entryLine, parameterLine};
 
 // A line's bytes with its LF, and the most lines that a file may have.
 pub const LINE_BYTES: usize = 81;
@@ -44,7 +41,7 @@ pub enum CardsRead {
 }
 
 // Whether a length is one of whole lines, from 1 to the most.
-fn length_ok(len: usize) -> bool
+pub fn length_ok(len: usize) -> bool
     ensures { λ r. ⌜ r ≡ lengthOk len ⌝ }
 {
     if len % LINE_BYTES != 0 {
@@ -55,51 +52,6 @@ fn length_ok(len: usize) -> bool
         return false;
     }
     n <= MOST_LINES
-}
-
-// The counts of a file's sections, or the first refusal of its lines.
-pub fn cards(file: &[u8]) -> CardsRead
-    ensures { λ r. ⌜ r ≡ cardsOf (now (file .entry)) ⌝ }
-    ensures { λ r. ⌜ Known (now (file .entry)) r ⌝ }
-{
-    if !length_ok(file.len()) {
-        return CardsRead::Refused {
-            fault: Fault::ListOrLength,
-            line: FileLine(0),
-        };
-    }
-    let n = file.len() / LINE_BYTES;
-    let mut c = Counts {
-        s: 0,
-        g: 0,
-        d: 0,
-        p: 0,
-        t: 0,
-    };
-    let mut k = 0;
-    while k < n {
-        let next = k + 1;
-        let done = line::step_line(file, k, n - next, c);
-        match done {
-            Step::Wrong(fault) => {
-                return CardsRead::Refused {
-                    fault,
-                    line: FileLine(next),
-                };
-            }
-            Step::Next(counts) => {
-                c = counts;
-            }
-        }
-        k = next;
-    }
-    if terminate::closes_at(file, n - 1, c) {
-        return CardsRead::Counted(c);
-    }
-    CardsRead::Refused {
-        fault: Fault::Terminate,
-        line: FileLine(n),
-    }
 }
 
 // The index of entry i's first line; entries are counted from 0.

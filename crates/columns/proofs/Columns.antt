@@ -1,11 +1,11 @@
 -- Columns of a text: one by one, of a text put together of parts, and of columns.
-use mathlib.Core.Path.{_≡_, refl, sym, ap, _∙_}
+use mathlib.Core.Path.{_≡_, sym, ap, _∙_}
 use Prim.Native.Nat.{ℕ, zero, suc, _+_, _-_, _*_, _≤_, _<_}
-use native.Mathlib.Nat.{sub-self, sub-zero, add-zero}
+use native.Mathlib.Nat.{sub-self, sub-zero}
 use native.Mathlib.Numerals.{add-one}
 use native.Mathlib.Omega.{arith}
 use mathlib.Core.List.{List, [], _∷_, _++_}
-use lib.ListN.{length, getD, take, drop, length-append, length-drop}
+use lib.ListN.{length, getD, take, drop, length-drop}
 use lib.Seq.{drop-cons, drop-append-add, take-at, take-all, take-append-le, drop-append-le, getD-take, getD-drop, take-take, drop-drop, length-take-le, take-nil, take-add}
 use Rattle.columns.specs.Columns.{columns, lineAt}
 

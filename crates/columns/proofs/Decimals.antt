@@ -1,10 +1,10 @@
 -- Decimal digits: the two equations of `dec`, its induction, how many digits and which bytes they are.
 use mathlib.Core.Path.{_≡_, refl, sym, ap, _∙_}
-use Prim.Native.Nat.{ℕ, zero, suc, _+_, _-_, _*_, _/_, _%_, _^_, _≤_, _<_}
+use Prim.Native.Nat.{ℕ, zero, suc, _+_, _-_, _/_, _%_, _^_, _≤_, _<_}
 use native.Mathlib.Nat.{div-one, div-div-eq-div-mul, pow-succ'}
 use native.Mathlib.Omega.{arith}
-use native.Mathlib.Decide.{decLt, ℕ-discrete}
-use mathlib.Core.Bool.{Bool, true, false, cond}
+use native.Mathlib.Decide.{decLt}
+use mathlib.Core.Bool.{Bool, true, false}
 use mathlib.Core.List.{List, [], _∷_, _++_}
 use lib.ListN.{length, getD, set, replicate, length-append, length-replicate, List·getD-append}
 use borrow.Author.Tests.{lt-ltb, le-ltb}

@@ -1,13 +1,13 @@
 -- One column of a fixed number field, at an index of the text.
-use mathlib.Core.Path.{_≡_, refl, sym, ap, _∙_}
-use mathlib.Core.Bool.{Bool, true, false, cond, _&&_}
+use mathlib.Core.Path.{_≡_, sym, ap, _∙_}
+use mathlib.Core.Bool.{Bool, true, false}
 use Prim.Native.Nat.{ℕ, suc, _+_, _-_, _*_, _^_, _≤_, _<_}
 use native.Mathlib.Nat.{sub-self, pow-le-pow-right}
 use native.Mathlib.Omega.{arith}
 use native.Mathlib.Decide.{decLt}
-use mathlib.Core.List.{List, [], _∷_, _++_}
+use mathlib.Core.List.{List, _∷_}
 use lib.ListN.{length, getD}
-use lib.Dec.{leb, eqb}
+use lib.Dec.{eqb}
 use borrow.Author.Tests.{le-leb, lt-leb, eq-eqb, ne-eqb}
 use Rattle.columns.specs.declared.Field.{Field}
 use Rattle.columns.specs.declared.Field.the-variants.{Number, Bad}
@@ -17,7 +17,6 @@ use Rattle.columns.specs.declared.SignedField.the-variants.{Number as Si
 use Rattle.columns.specs.Columns.{columns}
 use Rattle.columns.specs.Fixed.{digitsOf, fieldOf, isNumber, signed, withSign, behindSign, signedOf}
 use Rattle.columns.specs.Reading.{Below, SizeBelow, Behind}
-use Rattle.columns.proofs.Tests.{digit-byte}
 use Rattle.columns.proofs.Columns.{column, columns-end}
 
 -- ---- one step of each

@@ -1,15 +1,15 @@
 -- What stands in columns: the loops that look, and what their answers mean.
 use mathlib.Core.Path.{_≡_, refl, sym, ap, _∙_}
-use mathlib.Core.Bool.{Bool, true, false, cond, _&&_}
+use mathlib.Core.Bool.{Bool, true, false, _&&_}
 use Prim.Native.Nat.{ℕ, zero, suc, _+_, _-_, _≤_, _<_, min, max}
 use native.Mathlib.Omega.{arith}
 use mathlib.Core.List.{List, [], _∷_, _++_}
-use lib.ListN.{length, getD, take, drop, replicate, List·getD-eq-default}
+use lib.ListN.{length, getD, replicate, List·getD-eq-default}
 use lib.Dec.{leb, eqb}
 use borrow.Author.Tests.{le-leb, lt-leb, eq-eqb, ne-eqb, eqb-true, leb-true, leb-false}
 use Rattle.columns.specs.Columns.{columns, printable, blank, sameBytes}
 use Rattle.columns.proofs.Tests.{both, both-left, both-right, both-true, and-true, and-assoc}
-use Rattle.columns.proofs.Columns.{column, columns-none, columns-all, columns-end}
+use Rattle.columns.proofs.Columns.{column, columns-all, columns-end}
 
 pub past-end : (s : List ℕ) (i : ℕ) → length s ≤ i → 0 ≡ getD s i 0
 past-end s i h = sym (List·getD-eq-default s 0 h)

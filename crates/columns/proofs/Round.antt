@@ -1,14 +1,14 @@
 -- Round trips of fixed fields: what was written into columns is read back, at any width; and what was read fits the columns that it was read from.
 use mathlib.Core.Path.{_≡_, refl, sym, ap, _∙_}
 use mathlib.Core.Bool.{Bool, true, false, cond, _&&_}
-use Prim.Native.Nat.{ℕ, zero, suc, _+_, _-_, _*_, _/_, _%_, _^_, _≤_, _<_}
-use native.Mathlib.Nat.{add-zero, zero-add, add-assoc, pow-le-pow-right}
+use Prim.Native.Nat.{ℕ, zero, suc, _+_, _-_, _*_, _^_, _≤_, _<_}
+use native.Mathlib.Nat.{add-zero, zero-add}
 use native.Mathlib.Omega.{arith}
 use native.Mathlib.Decide.{ℕ-discrete}
 use mathlib.Core.List.{List, [], _∷_, _++_, append-assoc, append-nil}
-use lib.ListN.{length, replicate, length-append}
+use lib.ListN.{length, replicate}
 use lib.Dec.{leb, eqb}
-use borrow.Author.Tests.{eq-eqb, ne-eqb, eqb-true, eqb-false}
+use borrow.Author.Tests.{eq-eqb, eqb-true}
 use Rattle.columns.specs.declared.Field.{Field}
 use Rattle.columns.specs.declared.Field.the-variants.{Number, Bad}
 use Rattle.columns.specs.declared.Signed.{Signed}
@@ -16,10 +16,10 @@ use Rattle.columns.specs.declared.SignedField.{SignedField}
 use Rattle.columns.specs.declared.SignedField.the-variants.{Number as SignedNumber, Bad as SignedBad}
 use Rattle.columns.specs.Fixed.{digitsOf, fieldOf, isNumber, signed, NormalSign, withSign, behindSign, signedOf}
 use Rattle.columns.specs.Decimal.{dec, minus, signedDec, toRight}
-use Rattle.columns.specs.Reading.{Below, SizeBelow}
-use Rattle.columns.proofs.Tests.{cond-cases, cond-same, digit-bounds}
-use Rattle.columns.proofs.Fixed.{digits-more, digits-low, field-blank, field-other, signed-blank, signed-minus, signed-plus, signed-other, below-number}
-use Rattle.columns.proofs.Decimals.{by-digits, dec-small, dec-big, dec-cons, dec-some, length-dec-below, length-signed, length-minus, dec-nought}
+use Rattle.columns.specs.Reading.{Below}
+use Rattle.columns.proofs.Tests.{cond-cases, digit-bounds}
+use Rattle.columns.proofs.Fixed.{digits-more, digits-low, field-blank, field-other, signed-blank, signed-minus, signed-other, below-number}
+use Rattle.columns.proofs.Decimals.{by-digits, dec-small, dec-big, dec-cons, length-dec-below, length-signed, length-minus, dec-nought}
 
 -- ---- numbers
 

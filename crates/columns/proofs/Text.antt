@@ -1,12 +1,12 @@
 -- The text of a file's lines, character by character and line by line, in its file.
 use mathlib.Core.Path.{_≡_, refl, sym, ap, _∙_}
-use mathlib.Core.List.{List, [], _∷_, _++_, append-assoc}
+use mathlib.Core.List.{List, _++_, append-assoc}
 use Prim.Native.Nat.{ℕ, zero, suc, _+_, _-_, _*_, _/_, _%_, _≤_, _<_}
-use native.Mathlib.Nat.{add-zero, mod-lt, div-add-mod', div-lt-iff-lt-mul, mul-le-mul-left, mul-le-mul-right}
+use native.Mathlib.Nat.{add-zero, mod-lt, div-add-mod', div-lt-iff-lt-mul, mul-le-mul-right}
 use native.Mathlib.Omega.{arith}
 use lib.ListN.{length, getD, drop, take, length-append, length-take, length-drop, List·getD-eq-default}
 use lib.Seq.{take-at, drop-append-le, drop-append-add, drop-drop, getD-drop, getD-take}
-use Rattle.columns.specs.Columns.{columns, textOf}
+use Rattle.columns.specs.Columns.{textOf}
 use Rattle.columns.proofs.Columns.{drop-take}
 
 module _ (file : List ℕ) (w : ℕ) (narrow : w ≤ 81) where

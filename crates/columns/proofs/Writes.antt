@@ -6,7 +6,7 @@ use native.Mathlib.Numerals.{add-one}
 use native.Mathlib.Omega.{arith}
 use mathlib.Core.List.{List, [], _∷_, _++_}
 use lib.ListN.{length, take, drop, getD, set, replicate, length-append, length-replicate, replicate-append-replicate}
-use lib.Seq.{take-suc, take-all, drop-cons, set-comm, set-out}
+use lib.Seq.{take-suc, take-all, set-comm, set-out}
 use Rattle.columns.specs.Laid.{laid, length-laid, laid-one, laid-out, laid-nil, laid-laid, laid-eq, Wrote, Owes}
 
 pub wrote-one : (o : List ℕ) (at b r : ℕ) → r ≡ at + 1 → Wrote o at (b ∷ []) (set o at b) r

@@ -1,8 +1,8 @@
 -- Columns of a line, and the lines of a file: 81 bytes each, 80 columns and LF.
-use Prim.Native.Nat.{ℕ, zero, suc, _+_, _-_, _*_, _/_}
-use mathlib.Core.Bool.{Bool, true, false, cond, _&&_}
+use Prim.Native.Nat.{ℕ, zero, suc, _+_, _-_, _*_}
+use mathlib.Core.Bool.{Bool, true, false, _&&_}
 use mathlib.Core.List.{List, [], _∷_, _++_}
-use lib.ListN.{length, getD, take, drop}
+use lib.ListN.{take, drop}
 use lib.Dec.{leb, eqb}
 
 -- the columns of s from at up to, not including, end; columns are counted from 0

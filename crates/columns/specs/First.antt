@@ -1,6 +1,6 @@
 -- The first of some numbers that fails a test.
 use Prim.Native.Nat.{ℕ, zero, suc, _+_}
-use mathlib.Core.Bool.{Bool, true, false, cond}
+use mathlib.Core.Bool.{Bool, cond}
 use mathlib.Core.List.{List, [], _∷_}
 
 -- the first from i on, of n, at which the test fails; i + n if there is none

@@ -1,10 +1,9 @@
 -- Bytes laid over a list from a place on, clipped to the list's length: `lib.Seq`'s `sets`, in which a store past the end changes nothing.
-use mathlib.Core.Path.{_≡_, refl, sym, ap, _∙_}
-use Prim.Native.Nat.{ℕ, suc, _+_, _≤_, _<_}
+use mathlib.Core.Path.{_≡_, refl, _∙_}
+use Prim.Native.Nat.{ℕ, suc, _+_, _≤_}
 use native.Mathlib.Nat.{add-zero, add-suc, suc-add}
-use native.Mathlib.Omega.{arith}
 use mathlib.Core.List.{List, [], _∷_, _++_, append-assoc}
-use lib.ListN.{length, take, drop, set, length-append}
+use lib.ListN.{length, take, drop, set}
 use lib.Seq.{sets, sets-eq, length-sets, set-out}
 
 -- bs laid over o from at on

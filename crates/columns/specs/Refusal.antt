@@ -1,5 +1,5 @@
 -- Refusals: the paper's number of each, and "the first refusal wins".
-use mathlib.Core.Bool.{Bool, true, false, cond}
+use mathlib.Core.Bool.{Bool, true, false}
 use mathlib.Core.List.{List, [], _∷_}
 use Prim.Native.Nat.{ℕ, _+_}
 use Rattle.columns.specs.declared.Fault.{Fault}

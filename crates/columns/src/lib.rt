@@ -1,6 +1,5 @@
 // The ground floor: the refusals of document 01, its three kinds of numbers that count lines or entries, fixed columns.
-// A module has one idea: `fields` reads numbers in fixed columns, `look` asks of columns what stands there. Crate `emit` lays bytes.
-pub mod fields;
+// `look` asks of columns what stands there. Crate `fixed` reads numbers in fixed columns, `emit` lays bytes, `decimals` numbers.
 pub mod look;
 
 ghost use mathlib.Core.Path.{_≡_};

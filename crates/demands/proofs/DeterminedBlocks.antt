@@ -1,5 +1,4 @@
 -- No second result fits the contract of a public function of crate blocks. Assumes nothing.
-use mathlib.Core.Path.{refl}
 use Rattle.blocks.proofs.lines.put_tail.Kinds as lines-put-tail-kinds
 use Rattle.blocks.proofs.lines.put_tail.Reads as lines-put-tail-reads
 use Rattle.blocks.proofs.lines.put_start_line.Kinds as lines-put-start-line-kinds

@@ -6,26 +6,26 @@ use Rattle.emit.proofs.put_all.Kinds as emit-put-all-kinds
 use Rattle.emit.proofs.put_all.Reads as emit-put-all-reads
 use Rattle.emit.proofs.put_run.Kinds as emit-put-run-kinds
 use Rattle.emit.proofs.put_run.Reads as emit-put-run-reads
-use Rattle.emit.proofs.count_digits.Kinds as emit-count-digits-kinds
-use Rattle.emit.proofs.count_digits.Reads as emit-count-digits-reads
-use Rattle.emit.proofs.put_decimal.Kinds as emit-put-decimal-kinds
-use Rattle.emit.proofs.put_decimal.Reads as emit-put-decimal-reads
-use Rattle.emit.proofs.put_right.Kinds as emit-put-right-kinds
-use Rattle.emit.proofs.put_right.Reads as emit-put-right-reads
-use Rattle.emit.proofs.put_signed.Kinds as emit-put-signed-kinds
-use Rattle.emit.proofs.put_signed.Reads as emit-put-signed-reads
-use Rattle.emit.proofs.count_signed.Kinds as emit-count-signed-kinds
-use Rattle.emit.proofs.count_signed.Reads as emit-count-signed-reads
-use Rattle.emit.proofs.put_signed_right.Kinds as emit-put-signed-right-kinds
-use Rattle.emit.proofs.put_signed_right.Reads as emit-put-signed-right-reads
-use Rattle.emit.proofs.put_left.Kinds as emit-put-left-kinds
-use Rattle.emit.proofs.put_left.Reads as emit-put-left-reads
-use Rattle.columns.proofs.fields.read_field.Kinds as fields-read-field-kinds
-use Rattle.columns.proofs.fields.read_field.Reads as fields-read-field-reads
-use Rattle.columns.proofs.fields.holds.Kinds as fields-holds-kinds
-use Rattle.columns.proofs.fields.holds.Reads as fields-holds-reads
-use Rattle.columns.proofs.fields.read_signed.Kinds as fields-read-signed-kinds
-use Rattle.columns.proofs.fields.read_signed.Reads as fields-read-signed-reads
+use Rattle.decimals.proofs.count_digits.Kinds as decimals-count-digits-kinds
+use Rattle.decimals.proofs.count_digits.Reads as decimals-count-digits-reads
+use Rattle.decimals.proofs.put_decimal.Kinds as decimals-put-decimal-kinds
+use Rattle.decimals.proofs.put_decimal.Reads as decimals-put-decimal-reads
+use Rattle.decimals.proofs.put_right.Kinds as decimals-put-right-kinds
+use Rattle.decimals.proofs.put_right.Reads as decimals-put-right-reads
+use Rattle.decimals.proofs.put_signed.Kinds as decimals-put-signed-kinds
+use Rattle.decimals.proofs.put_signed.Reads as decimals-put-signed-reads
+use Rattle.decimals.proofs.count_signed.Kinds as decimals-count-signed-kinds
+use Rattle.decimals.proofs.count_signed.Reads as decimals-count-signed-reads
+use Rattle.decimals.proofs.put_signed_right.Kinds as decimals-put-signed-right-kinds
+use Rattle.decimals.proofs.put_signed_right.Reads as decimals-put-signed-right-reads
+use Rattle.decimals.proofs.put_left.Kinds as decimals-put-left-kinds
+use Rattle.decimals.proofs.put_left.Reads as decimals-put-left-reads
+use Rattle.fixed.proofs.read_field.Kinds as fixed-read-field-kinds
+use Rattle.fixed.proofs.read_field.Reads as fixed-read-field-reads
+use Rattle.fixed.proofs.holds.Kinds as fixed-holds-kinds
+use Rattle.fixed.proofs.holds.Reads as fixed-holds-reads
+use Rattle.fixed.proofs.read_signed.Kinds as fixed-read-signed-kinds
+use Rattle.fixed.proofs.read_signed.Reads as fixed-read-signed-reads
 use Rattle.columns.proofs.look.byte_at.Kinds as look-byte-at-kinds
 use Rattle.columns.proofs.look.byte_at.Reads as look-byte-at-reads
 use Rattle.columns.proofs.look.is_blank.Kinds as look-is-blank-kinds
@@ -34,6 +34,8 @@ use Rattle.columns.proofs.look.is_printable.Kinds as look-is-printable-kinds
 use Rattle.columns.proofs.look.is_printable.Reads as look-is-printable-reads
 use Rattle.columns.proofs.look.same.Kinds as look-same-kinds
 use Rattle.columns.proofs.look.same.Reads as look-same-reads
+use Rattle.columns.proofs.wide.Kinds as wide-kinds
+use Rattle.columns.proofs.wide.Reads as wide-reads
 use Rattle.demands.specs.Unique.{NoSecond}
 use Rattle.demands.proofs.Unique.{once, wrote-first}
 
@@ -48,37 +50,39 @@ emit-put-all κs a z z′ left left′ p q = wrote-first (left .1) (p .0) (q .0)
 pub emit-put-run : NoSecond emit-put-run-kinds.ps emit-put-run-kinds.r emit-put-run-reads.Post
 emit-put-run κs a z z′ left left′ p q = wrote-first (left .1) (p .0) (q .0)
 
-pub emit-count-digits : NoSecond emit-count-digits-kinds.ps emit-count-digits-kinds.r emit-count-digits-reads.Post
-emit-count-digits κs a z z′ left left′ p q = (once (p .0) (q .0), refl)
+-- ---- decimals
 
-pub emit-put-decimal : NoSecond emit-put-decimal-kinds.ps emit-put-decimal-kinds.r emit-put-decimal-reads.Post
-emit-put-decimal κs a z z′ left left′ p q = wrote-first (left .1) (p .0) (q .0)
+pub decimals-count-digits : NoSecond decimals-count-digits-kinds.ps decimals-count-digits-kinds.r decimals-count-digits-reads.Post
+decimals-count-digits κs a z z′ left left′ p q = (once (p .0) (q .0), refl)
 
-pub emit-put-right : NoSecond emit-put-right-kinds.ps emit-put-right-kinds.r emit-put-right-reads.Post
-emit-put-right κs a z z′ left left′ p q = wrote-first (left .1) (p .0) (q .0)
+pub decimals-put-decimal : NoSecond decimals-put-decimal-kinds.ps decimals-put-decimal-kinds.r decimals-put-decimal-reads.Post
+decimals-put-decimal κs a z z′ left left′ p q = wrote-first (left .1) (p .0) (q .0)
 
-pub emit-put-signed : NoSecond emit-put-signed-kinds.ps emit-put-signed-kinds.r emit-put-signed-reads.Post
-emit-put-signed κs a z z′ left left′ p q = wrote-first (left .1) (p .0) (q .0)
+pub decimals-put-right : NoSecond decimals-put-right-kinds.ps decimals-put-right-kinds.r decimals-put-right-reads.Post
+decimals-put-right κs a z z′ left left′ p q = wrote-first (left .1) (p .0) (q .0)
 
-pub emit-count-signed : NoSecond emit-count-signed-kinds.ps emit-count-signed-kinds.r emit-count-signed-reads.Post
-emit-count-signed κs a z z′ left left′ p q = (once (p .0) (q .0), refl)
+pub decimals-put-signed : NoSecond decimals-put-signed-kinds.ps decimals-put-signed-kinds.r decimals-put-signed-reads.Post
+decimals-put-signed κs a z z′ left left′ p q = wrote-first (left .1) (p .0) (q .0)
 
-pub emit-put-signed-right : NoSecond emit-put-signed-right-kinds.ps emit-put-signed-right-kinds.r emit-put-signed-right-reads.Post
-emit-put-signed-right κs a z z′ left left′ p q = wrote-first (left .1) (p .0) (q .0)
+pub decimals-count-signed : NoSecond decimals-count-signed-kinds.ps decimals-count-signed-kinds.r decimals-count-signed-reads.Post
+decimals-count-signed κs a z z′ left left′ p q = (once (p .0) (q .0), refl)
 
-pub emit-put-left : NoSecond emit-put-left-kinds.ps emit-put-left-kinds.r emit-put-left-reads.Post
-emit-put-left κs a z z′ left left′ p q = wrote-first (left .1) (p .0) (q .0)
+pub decimals-put-signed-right : NoSecond decimals-put-signed-right-kinds.ps decimals-put-signed-right-kinds.r decimals-put-signed-right-reads.Post
+decimals-put-signed-right κs a z z′ left left′ p q = wrote-first (left .1) (p .0) (q .0)
 
--- ---- columns::fields
+pub decimals-put-left : NoSecond decimals-put-left-kinds.ps decimals-put-left-kinds.r decimals-put-left-reads.Post
+decimals-put-left κs a z z′ left left′ p q = wrote-first (left .1) (p .0) (q .0)
 
-pub fields-read-field : NoSecond fields-read-field-kinds.ps fields-read-field-kinds.r fields-read-field-reads.Post
-fields-read-field κs a z z′ left left′ p q = (once (p .0) (q .0), refl)
+-- ---- fixed
 
-pub fields-holds : NoSecond fields-holds-kinds.ps fields-holds-kinds.r fields-holds-reads.Post
-fields-holds κs a z z′ left left′ p q = (once p q, refl)
+pub fixed-read-field : NoSecond fixed-read-field-kinds.ps fixed-read-field-kinds.r fixed-read-field-reads.Post
+fixed-read-field κs a z z′ left left′ p q = (once (p .0) (q .0), refl)
 
-pub fields-read-signed : NoSecond fields-read-signed-kinds.ps fields-read-signed-kinds.r fields-read-signed-reads.Post
-fields-read-signed κs a z z′ left left′ p q = (once (p .0) (q .0), refl)
+pub fixed-holds : NoSecond fixed-holds-kinds.ps fixed-holds-kinds.r fixed-holds-reads.Post
+fixed-holds κs a z z′ left left′ p q = (once p q, refl)
+
+pub fixed-read-signed : NoSecond fixed-read-signed-kinds.ps fixed-read-signed-kinds.r fixed-read-signed-reads.Post
+fixed-read-signed κs a z z′ left left′ p q = (once (p .0) (q .0), refl)
 
 -- ---- columns::look
 
@@ -93,3 +97,8 @@ look-is-printable κs a z z′ left left′ p q = (once p q, refl)
 
 pub look-same : NoSecond look-same-kinds.ps look-same-kinds.r look-same-reads.Post
 look-same κs a z z′ left left′ p q = (once p q, refl)
+
+-- ---- columns
+
+pub wide : NoSecond wide-kinds.ps wide-kinds.r wide-reads.Post
+wide κs a z z′ left left′ p q = (once (p .0) (q .0), refl)

@@ -10,24 +10,24 @@ use Rattle.dlines.proofs.lines_at.Kinds as dlines-lines-at-kinds
 use Rattle.dlines.proofs.lines_at.Reads as dlines-lines-at-reads
 use Rattle.dlines.proofs.label_at.Kinds as dlines-label-at-kinds
 use Rattle.dlines.proofs.label_at.Reads as dlines-label-at-reads
-use Rattle.dlines.proofs.naming.class_at.Kinds as dlines-naming-class-at-kinds
-use Rattle.dlines.proofs.naming.class_at.Reads as dlines-naming-class-at-reads
-use Rattle.directory.proofs.rules.number_of.Kinds as rules-number-of-kinds
-use Rattle.directory.proofs.rules.number_of.Reads as rules-number-of-reads
-use Rattle.directory.proofs.rules.entry_of.Kinds as rules-entry-of-kinds
-use Rattle.directory.proofs.rules.entry_of.Reads as rules-entry-of-reads
-use Rattle.directory.proofs.rules.in_order.Kinds as rules-in-order-kinds
-use Rattle.directory.proofs.rules.in_order.Reads as rules-in-order-reads
-use Rattle.directory.proofs.rules.ranges_ok.Kinds as rules-ranges-ok-kinds
-use Rattle.directory.proofs.rules.ranges_ok.Reads as rules-ranges-ok-reads
-use Rattle.directory.proofs.rules.entry_rules.Kinds as rules-entry-rules-kinds
-use Rattle.directory.proofs.rules.entry_rules.Reads as rules-entry-rules-reads
-use Rattle.directory.proofs.rules.wanted.Kinds as rules-wanted-kinds
-use Rattle.directory.proofs.rules.wanted.Reads as rules-wanted-reads
-use Rattle.directory.proofs.writing.put_first.Kinds as writing-put-first-kinds
-use Rattle.directory.proofs.writing.put_first.Reads as writing-put-first-reads
-use Rattle.directory.proofs.writing.put_second.Kinds as writing-put-second-kinds
-use Rattle.directory.proofs.writing.put_second.Reads as writing-put-second-reads
+use Rattle.classes.proofs.class_at.Kinds as classes-class-at-kinds
+use Rattle.classes.proofs.class_at.Reads as classes-class-at-reads
+use Rattle.entryrules.proofs.number_of.Kinds as entryrules-number-of-kinds
+use Rattle.entryrules.proofs.number_of.Reads as entryrules-number-of-reads
+use Rattle.entryrules.proofs.entry_of.Kinds as entryrules-entry-of-kinds
+use Rattle.entryrules.proofs.entry_of.Reads as entryrules-entry-of-reads
+use Rattle.entryrules.proofs.in_order.Kinds as entryrules-in-order-kinds
+use Rattle.entryrules.proofs.in_order.Reads as entryrules-in-order-reads
+use Rattle.entryrules.proofs.ranges_ok.Kinds as entryrules-ranges-ok-kinds
+use Rattle.entryrules.proofs.ranges_ok.Reads as entryrules-ranges-ok-reads
+use Rattle.entryrules.proofs.entry_rules.Kinds as entryrules-entry-rules-kinds
+use Rattle.entryrules.proofs.entry_rules.Reads as entryrules-entry-rules-reads
+use Rattle.entryrules.proofs.wanted.Kinds as entryrules-wanted-kinds
+use Rattle.entryrules.proofs.wanted.Reads as entryrules-wanted-reads
+use Rattle.dsection.proofs.put_first.Kinds as dsection-put-first-kinds
+use Rattle.dsection.proofs.put_first.Reads as dsection-put-first-reads
+use Rattle.dsection.proofs.put_second.Kinds as dsection-put-second-kinds
+use Rattle.dsection.proofs.put_second.Reads as dsection-put-second-reads
 use Rattle.demands.specs.Unique.{NoSecond}
 use Rattle.demands.proofs.Unique.{once, wrote-first}
 
@@ -48,35 +48,35 @@ dlines-lines-at κs a z z′ left left′ p q = (once (p .0) (q .0), refl)
 pub dlines-label-at : NoSecond dlines-label-at-kinds.ps dlines-label-at-kinds.r dlines-label-at-reads.Post
 dlines-label-at κs a z z′ left left′ p q = (once p q, refl)
 
--- ---- dlines::naming
+-- ---- classes
 
-pub dlines-naming-class-at : NoSecond dlines-naming-class-at-kinds.ps dlines-naming-class-at-kinds.r dlines-naming-class-at-reads.Post
-dlines-naming-class-at κs a z z′ left left′ p q = (once p q, refl)
+pub classes-class-at : NoSecond classes-class-at-kinds.ps classes-class-at-kinds.r classes-class-at-reads.Post
+classes-class-at κs a z z′ left left′ p q = (once p q, refl)
 
--- ---- directory::rules
+-- ---- entryrules
 
-pub rules-number-of : NoSecond rules-number-of-kinds.ps rules-number-of-kinds.r rules-number-of-reads.Post
-rules-number-of κs a z z′ left left′ p q = (once p q, refl)
+pub entryrules-number-of : NoSecond entryrules-number-of-kinds.ps entryrules-number-of-kinds.r entryrules-number-of-reads.Post
+entryrules-number-of κs a z z′ left left′ p q = (once p q, refl)
 
-pub rules-entry-of : NoSecond rules-entry-of-kinds.ps rules-entry-of-kinds.r rules-entry-of-reads.Post
-rules-entry-of κs a z z′ left left′ p q = (once p q, refl)
+pub entryrules-entry-of : NoSecond entryrules-entry-of-kinds.ps entryrules-entry-of-kinds.r entryrules-entry-of-reads.Post
+entryrules-entry-of κs a z z′ left left′ p q = (once p q, refl)
 
-pub rules-in-order : NoSecond rules-in-order-kinds.ps rules-in-order-kinds.r rules-in-order-reads.Post
-rules-in-order κs a z z′ left left′ p q = (once p q, refl)
+pub entryrules-in-order : NoSecond entryrules-in-order-kinds.ps entryrules-in-order-kinds.r entryrules-in-order-reads.Post
+entryrules-in-order κs a z z′ left left′ p q = (once p q, refl)
 
-pub rules-ranges-ok : NoSecond rules-ranges-ok-kinds.ps rules-ranges-ok-kinds.r rules-ranges-ok-reads.Post
-rules-ranges-ok κs a z z′ left left′ p q = (once p q, refl)
+pub entryrules-ranges-ok : NoSecond entryrules-ranges-ok-kinds.ps entryrules-ranges-ok-kinds.r entryrules-ranges-ok-reads.Post
+entryrules-ranges-ok κs a z z′ left left′ p q = (once p q, refl)
 
-pub rules-entry-rules : NoSecond rules-entry-rules-kinds.ps rules-entry-rules-kinds.r rules-entry-rules-reads.Post
-rules-entry-rules κs a z z′ left left′ p q = (once p q, refl)
+pub entryrules-entry-rules : NoSecond entryrules-entry-rules-kinds.ps entryrules-entry-rules-kinds.r entryrules-entry-rules-reads.Post
+entryrules-entry-rules κs a z z′ left left′ p q = (once p q, refl)
 
-pub rules-wanted : NoSecond rules-wanted-kinds.ps rules-wanted-kinds.r rules-wanted-reads.Post
-rules-wanted κs a z z′ left left′ p q = (once p q, refl)
+pub entryrules-wanted : NoSecond entryrules-wanted-kinds.ps entryrules-wanted-kinds.r entryrules-wanted-reads.Post
+entryrules-wanted κs a z z′ left left′ p q = (once p q, refl)
 
--- ---- directory::writing
+-- ---- dsection
 
-pub writing-put-first : NoSecond writing-put-first-kinds.ps writing-put-first-kinds.r writing-put-first-reads.Post
-writing-put-first κs a z z′ left left′ p q = wrote-first (left .1) (p .0) (q .0)
+pub dsection-put-first : NoSecond dsection-put-first-kinds.ps dsection-put-first-kinds.r dsection-put-first-reads.Post
+dsection-put-first κs a z z′ left left′ p q = wrote-first (left .1) (p .0) (q .0)
 
-pub writing-put-second : NoSecond writing-put-second-kinds.ps writing-put-second-kinds.r writing-put-second-reads.Post
-writing-put-second κs a z z′ left left′ p q = wrote-first (left .1) (p .0) (q .0)
+pub dsection-put-second : NoSecond dsection-put-second-kinds.ps dsection-put-second-kinds.r dsection-put-second-reads.Post
+dsection-put-second κs a z z′ left left′ p q = wrote-first (left .1) (p .0) (q .0)

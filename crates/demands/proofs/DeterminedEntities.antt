@@ -2,8 +2,8 @@
 use mathlib.Core.Path.{refl, ap₂}
 use Prim.Native.Nat.{ℕ}
 use Rattle.entities.specs.declared.EntityAnswer.{EntityAnswer}
-use Rattle.entities.proofs.entity.entity_pass.Kinds as entity-entity-pass-kinds
-use Rattle.entities.proofs.entity.entity_pass.Reads as entity-entity-pass-reads
+use Rattle.entitypass.proofs.entity_pass.Kinds as entitypass-entity-pass-kinds
+use Rattle.entitypass.proofs.entity_pass.Reads as entitypass-entity-pass-reads
 use Rattle.entities.proofs.marks.marks_begun.Kinds as marks-marks-begun-kinds
 use Rattle.entities.proofs.marks.marks_begun.Reads as marks-marks-begun-reads
 use Rattle.entities.proofs.marks.mark_of.Kinds as marks-mark-of-kinds
@@ -12,13 +12,15 @@ use Rattle.entities.proofs.marks.mark_step.Kinds as marks-mark-step-kinds
 use Rattle.entities.proofs.marks.mark_step.Reads as marks-mark-step-reads
 use Rattle.entities.proofs.naming.named_at.Kinds as naming-named-at-kinds
 use Rattle.entities.proofs.naming.named_at.Reads as naming-named-at-reads
+use Rattle.walking.proofs.walk.Kinds as walking-walk-kinds
+use Rattle.walking.proofs.walk.Reads as walking-walk-reads
 use Rattle.demands.specs.Unique.{NoSecond}
 use Rattle.demands.proofs.Unique.{once}
 
--- ---- entities::entity
+-- ---- entitypass
 
-pub entity-entity-pass : NoSecond entity-entity-pass-kinds.ps entity-entity-pass-kinds.r entity-entity-pass-reads.Post
-entity-entity-pass κs a z z′ left left′ p q = (ap₂ (λ (answer : EntityAnswer) (length : ℕ). record { answer = answer; length = length }) (once (p .0) (q .0)) (once (p .1 .0) (q .1 .0)), refl)
+pub entitypass-entity-pass : NoSecond entitypass-entity-pass-kinds.ps entitypass-entity-pass-kinds.r entitypass-entity-pass-reads.Post
+entitypass-entity-pass κs a z z′ left left′ p q = (ap₂ (λ (answer : EntityAnswer) (length : ℕ). record { answer = answer; length = length }) (once (p .0) (q .0)) (once (p .1 .0) (q .1 .0)), refl)
 
 -- ---- entities::marks
 
@@ -35,3 +37,8 @@ marks-mark-step κs a z z′ left left′ p q = (once p q, refl)
 
 pub naming-named-at : NoSecond naming-named-at-kinds.ps naming-named-at-kinds.r naming-named-at-reads.Post
 naming-named-at κs a z z′ left left′ p q = (once p q, refl)
+
+-- ---- walking
+
+pub walking-walk : NoSecond walking-walk-kinds.ps walking-walk-kinds.r walking-walk-reads.Post
+walking-walk κs a z z′ left left′ p q = (once (p .0) (q .0), refl)

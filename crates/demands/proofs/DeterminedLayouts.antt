@@ -1,11 +1,11 @@
 -- No second result fits the contract of a public function of crate layouts. Assumes nothing.
 use mathlib.Core.Path.{refl}
-use Rattle.layouts.proofs.list.bit_of.Kinds as list-bit-of-kinds
-use Rattle.layouts.proofs.list.bit_of.Reads as list-bit-of-reads
-use Rattle.layouts.proofs.list.known.Kinds as list-known-kinds
-use Rattle.layouts.proofs.list.known.Reads as list-known-reads
-use Rattle.layouts.proofs.list.is_list.Kinds as list-is-list-kinds
-use Rattle.layouts.proofs.list.is_list.Reads as list-is-list-reads
+use Rattle.typelists.proofs.bit_of.Kinds as typelists-bit-of-kinds
+use Rattle.typelists.proofs.bit_of.Reads as typelists-bit-of-reads
+use Rattle.typelists.proofs.known.Kinds as typelists-known-kinds
+use Rattle.typelists.proofs.known.Reads as typelists-known-reads
+use Rattle.typelists.proofs.is_list.Kinds as typelists-is-list-kinds
+use Rattle.typelists.proofs.is_list.Reads as typelists-is-list-reads
 use Rattle.machine.proofs.with_left.Kinds as machine-with-left-kinds
 use Rattle.machine.proofs.with_left.Reads as machine-with-left-reads
 use Rattle.machine.proofs.runs_on.Kinds as machine-runs-on-kinds
@@ -18,37 +18,37 @@ use Rattle.machine.proofs.start.Kinds as machine-start-kinds
 use Rattle.machine.proofs.start.Reads as machine-start-reads
 use Rattle.machine.proofs.is_reference.Kinds as machine-is-reference-kinds
 use Rattle.machine.proofs.is_reference.Reads as machine-is-reference-reads
-use Rattle.layouts.proofs.places.look.Kinds as places-look-kinds
-use Rattle.layouts.proofs.places.look.Reads as places-look-reads
-use Rattle.layouts.proofs.places.rests_in.Kinds as places-rests-in-kinds
-use Rattle.layouts.proofs.places.rests_in.Reads as places-rests-in-reads
-use Rattle.machine.proofs.take.takes_in.Kinds as machine-take-takes-in-kinds
-use Rattle.machine.proofs.take.takes_in.Reads as machine-take-takes-in-reads
-use Rattle.layouts.proofs.told.missing_in.Kinds as told-missing-in-kinds
-use Rattle.layouts.proofs.told.missing_in.Reads as told-missing-in-reads
-use Rattle.layouts.proofs.told.real_in.Kinds as told-real-in-kinds
-use Rattle.layouts.proofs.told.real_in.Reads as told-real-in-reads
-use Rattle.layouts.proofs.told.above_in.Kinds as told-above-in-kinds
-use Rattle.layouts.proofs.told.above_in.Reads as told-above-in-reads
-use Rattle.layouts.proofs.told.text_in.Kinds as told-text-in-kinds
-use Rattle.layouts.proofs.told.text_in.Reads as told-text-in-reads
-use Rattle.layouts.proofs.told.within_in.Kinds as told-within-in-kinds
-use Rattle.layouts.proofs.told.within_in.Reads as told-within-in-reads
-use Rattle.layouts.proofs.told.size_in.Kinds as told-size-in-kinds
-use Rattle.layouts.proofs.told.size_in.Reads as told-size-in-reads
+use Rattle.layoutrows.proofs.look.Kinds as layoutrows-look-kinds
+use Rattle.layoutrows.proofs.look.Reads as layoutrows-look-reads
+use Rattle.layoutrows.proofs.rests_in.Kinds as layoutrows-rests-in-kinds
+use Rattle.layoutrows.proofs.rests_in.Reads as layoutrows-rests-in-reads
+use Rattle.takes.proofs.takes_in.Kinds as takes-takes-in-kinds
+use Rattle.takes.proofs.takes_in.Reads as takes-takes-in-reads
+use Rattle.layoutrows.proofs.told.missing_in.Kinds as layoutrows-told-missing-in-kinds
+use Rattle.layoutrows.proofs.told.missing_in.Reads as layoutrows-told-missing-in-reads
+use Rattle.layoutrows.proofs.told.real_in.Kinds as layoutrows-told-real-in-kinds
+use Rattle.layoutrows.proofs.told.real_in.Reads as layoutrows-told-real-in-reads
+use Rattle.layoutrows.proofs.told.above_in.Kinds as layoutrows-told-above-in-kinds
+use Rattle.layoutrows.proofs.told.above_in.Reads as layoutrows-told-above-in-reads
+use Rattle.layoutrows.proofs.told.text_in.Kinds as layoutrows-told-text-in-kinds
+use Rattle.layoutrows.proofs.told.text_in.Reads as layoutrows-told-text-in-reads
+use Rattle.layoutrows.proofs.told.within_in.Kinds as layoutrows-told-within-in-kinds
+use Rattle.layoutrows.proofs.told.within_in.Reads as layoutrows-told-within-in-reads
+use Rattle.layoutrows.proofs.told.size_in.Kinds as layoutrows-told-size-in-kinds
+use Rattle.layoutrows.proofs.told.size_in.Reads as layoutrows-told-size-in-reads
 use Rattle.demands.specs.Unique.{NoSecond}
 use Rattle.demands.proofs.Unique.{once}
 
--- ---- layouts::list
+-- ---- typelists
 
-pub list-bit-of : NoSecond list-bit-of-kinds.ps list-bit-of-kinds.r list-bit-of-reads.Post
-list-bit-of κs a z z′ left left′ p q = (once p q, refl)
+pub typelists-bit-of : NoSecond typelists-bit-of-kinds.ps typelists-bit-of-kinds.r typelists-bit-of-reads.Post
+typelists-bit-of κs a z z′ left left′ p q = (once p q, refl)
 
-pub list-known : NoSecond list-known-kinds.ps list-known-kinds.r list-known-reads.Post
-list-known κs a z z′ left left′ p q = (once p q, refl)
+pub typelists-known : NoSecond typelists-known-kinds.ps typelists-known-kinds.r typelists-known-reads.Post
+typelists-known κs a z z′ left left′ p q = (once p q, refl)
 
-pub list-is-list : NoSecond list-is-list-kinds.ps list-is-list-kinds.r list-is-list-reads.Post
-list-is-list κs a z z′ left left′ p q = (once p q, refl)
+pub typelists-is-list : NoSecond typelists-is-list-kinds.ps typelists-is-list-kinds.r typelists-is-list-reads.Post
+typelists-is-list κs a z z′ left left′ p q = (once p q, refl)
 
 -- ---- machine
 
@@ -70,35 +70,35 @@ machine-start κs a z z′ left left′ p q = (once p q, refl)
 pub machine-is-reference : NoSecond machine-is-reference-kinds.ps machine-is-reference-kinds.r machine-is-reference-reads.Post
 machine-is-reference κs a z z′ left left′ p q = (once p q, refl)
 
--- ---- layouts::places
+-- ---- layoutrows
 
-pub places-look : NoSecond places-look-kinds.ps places-look-kinds.r places-look-reads.Post
-places-look κs a z z′ left left′ p q = (once p q, refl)
+pub layoutrows-look : NoSecond layoutrows-look-kinds.ps layoutrows-look-kinds.r layoutrows-look-reads.Post
+layoutrows-look κs a z z′ left left′ p q = (once p q, refl)
 
-pub places-rests-in : NoSecond places-rests-in-kinds.ps places-rests-in-kinds.r places-rests-in-reads.Post
-places-rests-in κs a z z′ left left′ p q = (once p q, refl)
+pub layoutrows-rests-in : NoSecond layoutrows-rests-in-kinds.ps layoutrows-rests-in-kinds.r layoutrows-rests-in-reads.Post
+layoutrows-rests-in κs a z z′ left left′ p q = (once p q, refl)
 
--- ---- machine::take
+-- ---- takes
 
-pub machine-take-takes-in : NoSecond machine-take-takes-in-kinds.ps machine-take-takes-in-kinds.r machine-take-takes-in-reads.Post
-machine-take-takes-in κs a z z′ left left′ p q = (once p q, refl)
+pub takes-takes-in : NoSecond takes-takes-in-kinds.ps takes-takes-in-kinds.r takes-takes-in-reads.Post
+takes-takes-in κs a z z′ left left′ p q = (once p q, refl)
 
--- ---- layouts::told
+-- ---- layoutrows::told
 
-pub told-missing-in : NoSecond told-missing-in-kinds.ps told-missing-in-kinds.r told-missing-in-reads.Post
-told-missing-in κs a z z′ left left′ p q = (once p q, refl)
+pub layoutrows-told-missing-in : NoSecond layoutrows-told-missing-in-kinds.ps layoutrows-told-missing-in-kinds.r layoutrows-told-missing-in-reads.Post
+layoutrows-told-missing-in κs a z z′ left left′ p q = (once p q, refl)
 
-pub told-real-in : NoSecond told-real-in-kinds.ps told-real-in-kinds.r told-real-in-reads.Post
-told-real-in κs a z z′ left left′ p q = (once p q, refl)
+pub layoutrows-told-real-in : NoSecond layoutrows-told-real-in-kinds.ps layoutrows-told-real-in-kinds.r layoutrows-told-real-in-reads.Post
+layoutrows-told-real-in κs a z z′ left left′ p q = (once p q, refl)
 
-pub told-above-in : NoSecond told-above-in-kinds.ps told-above-in-kinds.r told-above-in-reads.Post
-told-above-in κs a z z′ left left′ p q = (once p q, refl)
+pub layoutrows-told-above-in : NoSecond layoutrows-told-above-in-kinds.ps layoutrows-told-above-in-kinds.r layoutrows-told-above-in-reads.Post
+layoutrows-told-above-in κs a z z′ left left′ p q = (once p q, refl)
 
-pub told-text-in : NoSecond told-text-in-kinds.ps told-text-in-kinds.r told-text-in-reads.Post
-told-text-in κs a z z′ left left′ p q = (once p q, refl)
+pub layoutrows-told-text-in : NoSecond layoutrows-told-text-in-kinds.ps layoutrows-told-text-in-kinds.r layoutrows-told-text-in-reads.Post
+layoutrows-told-text-in κs a z z′ left left′ p q = (once p q, refl)
 
-pub told-within-in : NoSecond told-within-in-kinds.ps told-within-in-kinds.r told-within-in-reads.Post
-told-within-in κs a z z′ left left′ p q = (once p q, refl)
+pub layoutrows-told-within-in : NoSecond layoutrows-told-within-in-kinds.ps layoutrows-told-within-in-kinds.r layoutrows-told-within-in-reads.Post
+layoutrows-told-within-in κs a z z′ left left′ p q = (once p q, refl)
 
-pub told-size-in : NoSecond told-size-in-kinds.ps told-size-in-kinds.r told-size-in-reads.Post
-told-size-in κs a z z′ left left′ p q = (once p q, refl)
+pub layoutrows-told-size-in : NoSecond layoutrows-told-size-in-kinds.ps layoutrows-told-size-in-kinds.r layoutrows-told-size-in-reads.Post
+layoutrows-told-size-in κs a z z′ left left′ p q = (once p q, refl)

@@ -4,8 +4,10 @@ use Rattle.carried.proofs.put_values.Kinds as carried-put-values-kinds
 use Rattle.carried.proofs.put_values.Reads as carried-put-values-reads
 use Rattle.printing.proofs.characters.put_text.Kinds as characters-put-text-kinds
 use Rattle.printing.proofs.characters.put_text.Reads as characters-put-text-reads
-use Rattle.printing.proofs.globals.put_globals.Kinds as globals-put-globals-kinds
-use Rattle.printing.proofs.globals.put_globals.Reads as globals-put-globals-reads
+use Rattle.sheetglobals.proofs.put_globals.Kinds as sheetglobals-put-globals-kinds
+use Rattle.sheetglobals.proofs.put_globals.Reads as sheetglobals-put-globals-reads
+use Rattle.sheetglobals.proofs.is_missing.Kinds as sheetglobals-is-missing-kinds
+use Rattle.sheetglobals.proofs.is_missing.Reads as sheetglobals-is-missing-reads
 use Rattle.printing.proofs.lines.put_mostly_real.Kinds as lines-put-mostly-real-kinds
 use Rattle.printing.proofs.lines.put_mostly_real.Reads as lines-put-mostly-real-reads
 use Rattle.printing.proofs.lines.put_value_line.Kinds as lines-put-value-line-kinds
@@ -18,12 +20,10 @@ use Rattle.printed.proofs.rows.put_rows.Kinds as printed-rows-put-rows-kinds
 use Rattle.printed.proofs.rows.put_rows.Reads as printed-rows-put-rows-reads
 use Rattle.printed.proofs.put_sheet.Kinds as printed-put-sheet-kinds
 use Rattle.printed.proofs.put_sheet.Reads as printed-put-sheet-reads
-use Rattle.printing.proofs.starts.put_starts.Kinds as starts-put-starts-kinds
-use Rattle.printing.proofs.starts.put_starts.Reads as starts-put-starts-reads
+use Rattle.sheetstarts.proofs.put_starts.Kinds as sheetstarts-put-starts-kinds
+use Rattle.sheetstarts.proofs.put_starts.Reads as sheetstarts-put-starts-reads
 use Rattle.printing.proofs.taking.value_from.Kinds as taking-value-from-kinds
 use Rattle.printing.proofs.taking.value_from.Reads as taking-value-from-reads
-use Rattle.printing.proofs.globals.is_missing.Kinds as globals-is-missing-kinds
-use Rattle.printing.proofs.globals.is_missing.Reads as globals-is-missing-reads
 use Rattle.printing.proofs.taking.met_at.Kinds as taking-met-at-kinds
 use Rattle.printing.proofs.taking.met_at.Reads as taking-met-at-reads
 use Rattle.demands.specs.Unique.{NoSecond}
@@ -39,13 +39,13 @@ carried-put-values κs a z z′ left left′ p q = wrote-first (left .1) (p .0) 
 pub characters-put-text : NoSecond characters-put-text-kinds.ps characters-put-text-kinds.r characters-put-text-reads.Post
 characters-put-text κs a z z′ left left′ p q = wrote-first (left .1) (p .0) (q .0)
 
--- ---- printing::globals
+-- ---- sheetglobals
 
-pub globals-put-globals : NoSecond globals-put-globals-kinds.ps globals-put-globals-kinds.r globals-put-globals-reads.Post
-globals-put-globals κs a z z′ left left′ p q = wrote-first (left .1) (p .0) (q .0)
+pub sheetglobals-put-globals : NoSecond sheetglobals-put-globals-kinds.ps sheetglobals-put-globals-kinds.r sheetglobals-put-globals-reads.Post
+sheetglobals-put-globals κs a z z′ left left′ p q = wrote-first (left .1) (p .0) (q .0)
 
-pub globals-is-missing : NoSecond globals-is-missing-kinds.ps globals-is-missing-kinds.r globals-is-missing-reads.Post
-globals-is-missing κs a z z′ left left′ p q = (once p q, refl)
+pub sheetglobals-is-missing : NoSecond sheetglobals-is-missing-kinds.ps sheetglobals-is-missing-kinds.r sheetglobals-is-missing-reads.Post
+sheetglobals-is-missing κs a z z′ left left′ p q = (once p q, refl)
 
 -- ---- printing::lines
 
@@ -71,10 +71,10 @@ printed-rows-put-rows κs a z z′ left left′ p q = wrote-first (left .1) (p .
 pub printed-put-sheet : NoSecond printed-put-sheet-kinds.ps printed-put-sheet-kinds.r printed-put-sheet-reads.Post
 printed-put-sheet κs a z z′ left left′ p q = wrote-first (left .1) (p .0) (q .0)
 
--- ---- printing::starts
+-- ---- sheetstarts
 
-pub starts-put-starts : NoSecond starts-put-starts-kinds.ps starts-put-starts-kinds.r starts-put-starts-reads.Post
-starts-put-starts κs a z z′ left left′ p q = wrote-first (left .1) (p .0) (q .0)
+pub sheetstarts-put-starts : NoSecond sheetstarts-put-starts-kinds.ps sheetstarts-put-starts-kinds.r sheetstarts-put-starts-reads.Post
+sheetstarts-put-starts κs a z z′ left left′ p q = wrote-first (left .1) (p .0) (q .0)
 
 -- ---- printing::taking
 

@@ -1,19 +1,28 @@
 -- No second result fits the contract of a public function of crate reading. Assumes nothing.
 use mathlib.Core.Path.{refl}
-use Rattle.reading.proofs.last_pass.Kinds as last-pass-kinds
-use Rattle.reading.proofs.last_pass.Reads as last-pass-reads
-use Rattle.reading.proofs.check.Kinds as check-kinds
-use Rattle.reading.proofs.check.Reads as check-reads
-use Rattle.reading.proofs.weigh.Kinds as weigh-kinds
-use Rattle.reading.proofs.weigh.Reads as weigh-reads
+use Rattle.weighing.proofs.last_pass.Kinds as weighing-last-pass-kinds
+use Rattle.weighing.proofs.last_pass.Reads as weighing-last-pass-reads
+use Rattle.weighing.proofs.check.Kinds as weighing-check-kinds
+use Rattle.weighing.proofs.check.Reads as weighing-check-reads
+use Rattle.weighing.proofs.weigh.Kinds as weighing-weigh-kinds
+use Rattle.weighing.proofs.weigh.Reads as weighing-weigh-reads
+use Rattle.reading.proofs.entity_at.Kinds as entity-at-kinds
+use Rattle.reading.proofs.entity_at.Reads as entity-at-reads
 use Rattle.demands.specs.Unique.{NoSecond}
 use Rattle.demands.proofs.Unique.{once}
 
-pub last-pass : NoSecond last-pass-kinds.ps last-pass-kinds.r last-pass-reads.Post
-last-pass κs a z z′ left left′ p q = (once (p .0) (q .0), refl)
+-- ---- weighing
 
-pub check : NoSecond check-kinds.ps check-kinds.r check-reads.Post
-check κs a z z′ left left′ p q = (once p q, refl)
+pub weighing-last-pass : NoSecond weighing-last-pass-kinds.ps weighing-last-pass-kinds.r weighing-last-pass-reads.Post
+weighing-last-pass κs a z z′ left left′ p q = (once (p .0) (q .0), refl)
 
-pub weigh : NoSecond weigh-kinds.ps weigh-kinds.r weigh-reads.Post
-weigh κs a z z′ left left′ p q = (once (p .0) (q .0), refl)
+pub weighing-check : NoSecond weighing-check-kinds.ps weighing-check-kinds.r weighing-check-reads.Post
+weighing-check κs a z z′ left left′ p q = (once p q, refl)
+
+pub weighing-weigh : NoSecond weighing-weigh-kinds.ps weighing-weigh-kinds.r weighing-weigh-reads.Post
+weighing-weigh κs a z z′ left left′ p q = (once (p .0) (q .0), refl)
+
+-- ---- reading
+
+pub entity-at : NoSecond entity-at-kinds.ps entity-at-kinds.r entity-at-reads.Post
+entity-at κs a z z′ left left′ p q = (once (p .0) (q .0), refl)

@@ -21,6 +21,8 @@ use Rattle.plain.proofs.num_at.Kinds as plain-num-at-kinds
 use Rattle.plain.proofs.num_at.Reads as plain-num-at-reads
 use Rattle.plain.proofs.find.Kinds as plain-find-kinds
 use Rattle.plain.proofs.find.Reads as plain-find-reads
+use Rattle.plain.proofs.tabbed_at.Kinds as plain-tabbed-at-kinds
+use Rattle.plain.proofs.tabbed_at.Reads as plain-tabbed-at-reads
 use Rattle.said.proofs.end_of.Kinds as said-end-of-kinds
 use Rattle.said.proofs.end_of.Reads as said-end-of-reads
 use Rattle.said.proofs.entry_at.Kinds as said-entry-at-kinds
@@ -29,6 +31,10 @@ use Rattle.said.proofs.strict_at.Kinds as said-strict-at-kinds
 use Rattle.said.proofs.strict_at.Reads as said-strict-at-reads
 use Rattle.said.proofs.line_at.Kinds as said-line-at-kinds
 use Rattle.said.proofs.line_at.Reads as said-line-at-reads
+use Rattle.said.proofs.is_mark.Kinds as said-is-mark-kinds
+use Rattle.said.proofs.is_mark.Reads as said-is-mark-reads
+use Rattle.said.proofs.is_value.Kinds as said-is-value-kinds
+use Rattle.said.proofs.is_value.Reads as said-is-value-reads
 use Rattle.sheetlines.proofs.put_start.Kinds as sheetlines-put-start-kinds
 use Rattle.sheetlines.proofs.put_start.Reads as sheetlines-put-start-reads
 use Rattle.sheetlines.proofs.put_global_head.Kinds as sheetlines-put-global-head-kinds
@@ -41,12 +47,6 @@ use Rattle.sheetlines.proofs.entry_len.Kinds as sheetlines-entry-len-kinds
 use Rattle.sheetlines.proofs.entry_len.Reads as sheetlines-entry-len-reads
 use Rattle.sheetlines.proofs.put_last.Kinds as sheetlines-put-last-kinds
 use Rattle.sheetlines.proofs.put_last.Reads as sheetlines-put-last-reads
-use Rattle.said.proofs.is_mark.Kinds as said-is-mark-kinds
-use Rattle.said.proofs.is_mark.Reads as said-is-mark-reads
-use Rattle.said.proofs.is_value.Kinds as said-is-value-kinds
-use Rattle.said.proofs.is_value.Reads as said-is-value-reads
-use Rattle.plain.proofs.tabbed_at.Kinds as plain-tabbed-at-kinds
-use Rattle.plain.proofs.tabbed_at.Reads as plain-tabbed-at-reads
 use Rattle.demands.specs.Unique.{NoSecond}
 use Rattle.demands.proofs.Unique.{once, wrote-first}
 

@@ -4,8 +4,8 @@ use Rattle.strict.proofs.strict.Kinds as strict-strict-kinds
 use Rattle.strict.proofs.strict.Reads as strict-strict-reads
 use Rattle.strict.proofs.front_of.Kinds as strict-front-of-kinds
 use Rattle.strict.proofs.front_of.Reads as strict-front-of-reads
-use Rattle.numbers.proofs.scan_at.Kinds as numbers-scan-at-kinds
-use Rattle.numbers.proofs.scan_at.Reads as numbers-scan-at-reads
+use Rattle.digits.proofs.scan_at.Kinds as digits-scan-at-kinds
+use Rattle.digits.proofs.scan_at.Reads as digits-scan-at-reads
 use Rattle.numbers.proofs.read.Kinds as numbers-read-kinds
 use Rattle.numbers.proofs.read.Reads as numbers-read-reads
 use Rattle.numbers.proofs.head_of.Kinds as numbers-head-of-kinds
@@ -26,6 +26,8 @@ use Rattle.spell.proofs.head_len.Kinds as spell-head-len-kinds
 use Rattle.spell.proofs.head_len.Reads as spell-head-len-reads
 use Rattle.spell.proofs.front_len.Kinds as spell-front-len-kinds
 use Rattle.spell.proofs.front_len.Reads as spell-front-len-reads
+use Rattle.limits.proofs.finish_of.Kinds as limits-finish-of-kinds
+use Rattle.limits.proofs.finish_of.Reads as limits-finish-of-reads
 use Rattle.demands.specs.Unique.{NoSecond}
 use Rattle.demands.proofs.Unique.{once, wrote-first}
 
@@ -37,10 +39,12 @@ strict-strict κs a z z′ left left′ p q = (once (p .0) (q .0), refl)
 pub strict-front-of : NoSecond strict-front-of-kinds.ps strict-front-of-kinds.r strict-front-of-reads.Post
 strict-front-of κs a z z′ left left′ p q = (once (p .0) (q .0), refl)
 
--- ---- numbers
+-- ---- digits
 
-pub numbers-scan-at : NoSecond numbers-scan-at-kinds.ps numbers-scan-at-kinds.r numbers-scan-at-reads.Post
-numbers-scan-at κs a z z′ left left′ p q = (once (p .0) (q .0), refl)
+pub digits-scan-at : NoSecond digits-scan-at-kinds.ps digits-scan-at-kinds.r digits-scan-at-reads.Post
+digits-scan-at κs a z z′ left left′ p q = (once (p .0) (q .0), refl)
+
+-- ---- numbers
 
 pub numbers-read : NoSecond numbers-read-kinds.ps numbers-read-kinds.r numbers-read-reads.Post
 numbers-read κs a z z′ left left′ p q = (once (p .0) (q .0), refl)
@@ -73,3 +77,8 @@ spell-head-len κs a z z′ left left′ p q = (once (p .0) (q .0), refl)
 
 pub spell-front-len : NoSecond spell-front-len-kinds.ps spell-front-len-kinds.r spell-front-len-reads.Post
 spell-front-len κs a z z′ left left′ p q = (once (p .0) (q .0), refl)
+
+-- ---- limits
+
+pub limits-finish-of : NoSecond limits-finish-of-kinds.ps limits-finish-of-kinds.r limits-finish-of-reads.Post
+limits-finish-of κs a z z′ left left′ p q = (once p q, refl)

@@ -19,6 +19,8 @@ use Rattle.asking.proofs.table.class_at.Reads as asking-table-class-at-reads
 use Rattle.demands.specs.Unique.{NoSecond}
 use Rattle.demands.proofs.Unique.{once, wrote-first}
 
+-- ---- writing
+
 pub check : NoSecond check-kinds.ps check-kinds.r check-reads.Post
 check κs a z z′ left left′ p q = (once p q, refl)
 

@@ -26,8 +26,8 @@ use Rattle.rewrap.specs.declared.Answer.{Answer}
 use Rattle.rewrap.specs.Answers.{answer}
 use Rattle.rewrap.specs.Rules.{MeetsRules}
 use Rattle.rewrap.specs.Demands.{described}
-use Rattle.rewrap.proofs.read.Kinds as read-kinds
-use Rattle.rewrap.proofs.read.Reads as read-reads
+use Rattle.unwrap.proofs.read.Kinds as read-kinds
+use Rattle.unwrap.proofs.read.Reads as read-reads
 
 -- a reader or a writer: of a list and bytes
 abbrev pub Way : Type 0

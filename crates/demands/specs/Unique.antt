@@ -13,10 +13,10 @@ use Rattle.columns.specs.Laid.{Wrote}
 use Rattle.records.specs.Written.{Put}
 use Rattle.rewrap.specs.declared.Answer.{Answer}
 use Rattle.rewrap.specs.Answers.{answerOf}
-use Rattle.rewrap.proofs.read.Kinds as read-kinds
-use Rattle.rewrap.proofs.read.Reads as read-reads
-use Rattle.rewrap.proofs.write.Kinds as write-kinds
-use Rattle.rewrap.proofs.write.Reads as write-reads
+use Rattle.unwrap.proofs.read.Kinds as read-kinds
+use Rattle.unwrap.proofs.read.Reads as read-reads
+use Rattle.wrap.proofs.write.Kinds as write-kinds
+use Rattle.wrap.proofs.write.Reads as write-reads
 use Rattle.szelmikra.proofs.szelmikra_read.Kinds as szelmikra-read-kinds
 use Rattle.szelmikra.proofs.szelmikra_read.Reads as szelmikra-read-reads
 use Rattle.szelmikra.proofs.szelmikra_write.Kinds as szelmikra-write-kinds

@@ -11,7 +11,7 @@ use contract.Monad.{fact, Fun}
 use contract.Lifetimes.{Lfts}
 use denote.Triple.Entry.{Args, Res}
 use denote.Triple.Clauses.{Ended, Clauses, Lasts, atExit}
-use Rattle.rewrap.proofs.read as read
+use Rattle.unwrap.proofs.read as read
 use Rattle.tables.proofs.directory as directory
 
 -- two results with last values that both are as the clauses have it for the same arguments are the same

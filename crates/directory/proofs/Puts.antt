@@ -1,6 +1,6 @@
 -- The two D lines as they are written, number by number.
 use mathlib.Core.Path.{_≡_, refl}
-use mathlib.Core.List.{List, _∷_, [], _++_, append-assoc, append-nil}
+use mathlib.Core.List.{List, _∷_, [], append-assoc, append-nil}
 use Prim.Native.Nat.{ℕ}
 use lib.ListN.{replicate}
 use Rattle.columns.specs.declared.Signed.{Signed}

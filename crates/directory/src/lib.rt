@@ -1,8 +1,6 @@
 // Directory entries: the numbers of two D lines, what they mean, and what rules 9, 13 and 10 ask of them.
-// `rules` says what the numbers mean and asks the rules, `writing` lays the two lines. Crate `dlines` reads them, and looks up what a directory
-// number names.
-pub mod rules;
-pub mod writing;
+// Crate `entryrules` says what the numbers mean and asks the rules, `dlines` reads the two lines, `dsection` lays them, `classes` looks up what a
+// directory number names.
 
 use columns::DirectoryNumber;
 use columns::Fault;

@@ -2,7 +2,7 @@
 use mathlib.Core.Path.{_≡_, refl, sym, ap, _∙_}
 use mathlib.Core.Bool.{Bool, true, false, not}
 use mathlib.Core.List.{List, [], _∷_}
-use Prim.Native.Nat.{ℕ, zero, suc, _+_, _≤_, _<_}
+use Prim.Native.Nat.{ℕ, zero, suc, _+_, _<_}
 use native.Mathlib.Nat.{zero-add}
 use native.Mathlib.Omega.{arith}
 use lib.Dec.{leb}
@@ -18,7 +18,7 @@ use Rattle.directory.specs.declared.Fields.{Fields}
 use Rattle.directory.specs.declared.EntryRead.{EntryRead}
 use Rattle.directory.specs.declared.EntryRead.the-variants.{Spelt, Wrong}
 use Rattle.directory.specs.Fields.{typeAt, inOrder, fieldsOf}
-use Rattle.directory.specs.Lines.{Slot, number, again, pointer, lines, slots, seek, slotIn, numberIn, Numbers, numbers, misspelt, with, numbersFrom, positive, sizeOf, isSame, parameterLine, speltAs, entryAt}
+use Rattle.directory.specs.Lines.{Slot, number, again, pointer, lines, slots, seek, slotIn, numberIn, numbers, misspelt, with, numbersFrom, positive, sizeOf, isSame, parameterLine, speltAs, entryAt}
 use Rattle.directory.specs.Reading.{slotAt, startOf, NumberIs}
 use Rattle.directory.proofs.Slots.{in-at, number-plain, slot-signed}
 

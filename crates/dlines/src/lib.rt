@@ -1,5 +1,4 @@
-// The two D lines of an entry, read where they stand. `naming` looks up what a directory number names.
-pub mod naming;
+// The two D lines of an entry, read where they stand.
 
 use columns::Field;
 use columns::ParameterLine;
@@ -12,11 +11,11 @@ use directory::SLOTS_A_LINE;
 ghost use mathlib.Core.Bool.{false};
 ghost use mathlib.Core.Path.{_≡_};
 ghost use mathlib.Core.List.{[], _∷_};
-ghost use Prim.Native.Nat.{ℕ, _+_, _*_, _^_, _≤_, _<_};
+ghost use Prim.Native.Nat.{_+_, _*_, _^_, _≤_, _<_};
 ghost use lib.ListN.{length};
 ghost use Rattle.columns.specs.Columns.{columns};
 ghost use Rattle.columns.specs.Fixed.{fieldOf, signedOf, withSign};
-ghost use Rattle.columns.specs.Reading.{Below, SizeBelow};
+ghost use Rattle.columns.specs.Reading.{SizeBelow};
 ghost use Rattle.directory.specs.Fields.{typeAt, inOrder, fieldsOf};
 ghost use Rattle.directory.specs.Lines.{Slot, slots, seek, slotIn, unsigned, numberIn, Numbers, numbersFrom, positive, sizeOf, isSame, speltAs, entryAt};
 ghost use Rattle.directory.specs.Reading.{slotAt, startOf, NumberIs, Small};
@@ -77,7 +76,7 @@ fn signed_at(file: &[u8], at: usize) -> SignedField
     ensures { λ r. ⌜ r ≡ signedOf (columns (now (file .entry)) at (at + 8)) ⌝ }
     ensures { λ r. ⌜ SizeBelow 100000000 r ⌝ }
 {
-    columns::fields::read_signed(file, at, at + SLOT_COLUMNS)
+    fixed::read_signed(file, at, at + SLOT_COLUMNS)
 }
 
 // What slot j holds, a sign allowed.
@@ -109,7 +108,7 @@ fn plain_in(file: &[u8], k: usize, j: usize) -> SignedField
     ensures { λ r. ⌜ r ≡ withSign false (fieldOf (slotAt (now (file .entry)) k j)) ⌝ }
 {
     let at = start_of(k, j);
-    plain(columns::fields::read_field(file, at, at + SLOT_COLUMNS))
+    plain(fixed::read_field(file, at, at + SLOT_COLUMNS))
 }
 
 // Number n of the entry, one that may have a sign.

@@ -3,5 +3,4 @@ pub mod Feeding
 pub mod Passes
 pub mod Marking
 pub mod Walks
-pub mod Weighing
 pub mod Entries

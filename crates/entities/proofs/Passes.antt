@@ -2,21 +2,19 @@
 -- Assumes nothing.
 use mathlib.Core.Path.{_≡_, refl, _∙_}
 use mathlib.Core.Bool.{Bool, true, false, cond}
-use mathlib.Core.List.{List, [], _∷_}
-use Prim.Native.Nat.{ℕ, zero, suc, _-_, _≤_}
+use mathlib.Core.List.{List}
+use Prim.Native.Nat.{ℕ, _-_}
 use native.Mathlib.Omega.{arith}
 use lib.Dec.{eqb}
-use lib.ListN.{length, getD, take, drop}
+use lib.ListN.{length, getD, drop}
 use Rattle.columns.specs.declared.Fault.the-variants.{FirstValue, Layout as LayoutFault, LayoutReference as LayoutReferenceFault}
 use Rattle.columns.specs.Refusal.{Outcome, accepted, refused, demand, _then_}
 use Rattle.values.specs.declared.Value.{Value}
 use Rattle.values.specs.declared.Value.the-variants.{Default, Whole, Real, Text}
-use Rattle.values.specs.Value.{Item, default, itemOf, isDefault}
+use Rattle.values.specs.Value.{Item, default, itemOf}
 use Rattle.records.specs.declared.Check.the-variants.{Done}
-use Rattle.records.specs.Record.{Values, values, wrong, valueAt, valuesAt, behind, trim, trimmed, kept}
+use Rattle.records.specs.Record.{Values, values, wrong, trimmed, kept}
 use Rattle.records.specs.Reading.{checked}
-use Rattle.records.specs.Items.{gotItem, itemsFrom}
-use Rattle.records.proofs.Items.{items-are, trimmed-take, kept-le}
 use Rattle.layouts.specs.declared.Verdict.{Verdict}
 use Rattle.layouts.specs.declared.Verdict.the-variants.{Good as GoodVerdict, Layout, LayoutReference}
 use Rattle.layouts.specs.Known.{known}

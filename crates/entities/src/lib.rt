@@ -1,10 +1,8 @@
 // The last pass over one entity, read where its record stands: 6 and 7 in text order, 12, 14, 15.
-// `naming` tells what a value names in the file, `walking` goes over an entity's values once, `entity` is the pass, `marks` tells how each
-// value is marked in the sheet.
-pub mod entity;
+// `naming` tells what a value names in the file, `marks` how each value is marked in the sheet. Crate `walking` goes over an entity's values
+// once, `entitypass` is the pass.
 pub mod marks;
 pub mod naming;
-mod walking;
 
 use columns::Fault;
 use layouts::Stepped;

@@ -1,10 +1,10 @@
 // The marks of an entity's values in the sheet.
 use crate::naming::named_at;
 use layouts::Stepped;
-use layouts::list::known;
 use machine::is_reference;
 use machine::start;
 use machine::step;
+use typelists::known;
 use values::Value;
 ghost use mathlib.Core.Path.{_≡_};
 ghost use Prim.Native.Nat.{_+_, _*_, _≤_};

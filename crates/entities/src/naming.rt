@@ -1,5 +1,5 @@
 // What a value names: entry i of the file has its first D line at line first + 2 * i.
-use dlines::naming::class_at;
+use classes::class_at;
 use references::NO_ENTRY;
 use values::Value;
 ghost use mathlib.Core.Path.{_≡_};

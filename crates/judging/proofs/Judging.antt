@@ -25,7 +25,7 @@ use Rattle.layouts.specs.declared.Verdict.the-variants.{Good as GoodVerdict, La
 use Rattle.layouts.specs.Known.{known}
 use Rattle.layouts.specs.Machine.{start, end}
 use Rattle.layouts.specs.Stepping.{stepped}
-use Rattle.layouts.specs.Entities.{feed, run as runs, ended, verdictFrom, verdict, fault, entityCheck, mark, marksFrom, marks}
+use Rattle.layouts.specs.Entities.{feed, run as runs, ended, verdictFrom, verdict, fault, entityCheck, mark, marksFrom}
 use Rattle.layouts.proofs.Runs.{feed-read}
 use Rattle.entities.specs.Marks.{marksBegun}
 use Rattle.entities.proofs.Names.{negative-names, whole-names}

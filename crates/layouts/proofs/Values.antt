@@ -7,7 +7,7 @@ use native.Mathlib.Omega.{arith}
 use mir.Syntax.{w16, w64}
 use mir.Val.{Fits}
 use lib.Dec.{eqb, leb, ltb}
-use borrow.Author.Tests.{leb-true, le-leb, lt-leb, ne-eqb}
+use borrow.Author.Tests.{leb-true, le-leb, lt-leb}
 use Rattle.values.specs.declared.Value.{Value}
 use Rattle.values.specs.declared.Value.the-variants.{Default, Whole, Real, Text}
 use Rattle.layouts.specs.declared.Times.{Times}

@@ -1,9 +1,6 @@
 // The type list and the layouts of its types, as one machine: a state, a step for each value of an entity, a verdict at the end.
-// `list` says what a list knows, `places` has the table of places, `told` asks of a value what a place must know. Crate `machine` goes from
-// place to place.
-pub mod list;
-pub mod places;
-pub mod told;
+// Crate `typelists` says what a list knows, `layoutrows` has the table of places, `takes` is what a place makes of a value, `machine` goes from place
+// to place.
 
 // A kind of place. R, S, I, P, Q are the paper's r, s, i, p, q.
 pub enum Kind {

@@ -1,23 +1,22 @@
-// From place to place: a start, a step for each value, a verdict at the end. `take` is what a place makes of a value.
-pub mod take;
+// From place to place: a start, a step for each value, a verdict at the end.
 
 ghost use mathlib.Core.Path.{_≡_};
 ghost use Prim.Native.Nat.{_+_, _≤_, _<_};
 ghost use Rattle.layouts.specs.Layout.{placeAt, startOf};
 ghost use Rattle.layouts.specs.Machine.{times, follow, enter, beyond, settle, onward, step, closed, end, start, reals, refers, kindAt, stand, runsOn};
 ghost use Rattle.layouts.specs.Coded.{told};
-use crate::take::takes_in;
+use layoutrows::look;
+use layoutrows::rests_in;
+use layoutrows::told::real_in;
 use layouts::State;
 use layouts::Stepped;
 use layouts::Then;
 use layouts::Times;
 use layouts::Verdict;
-use layouts::list::ROWS;
-use layouts::list::bit_of;
-use layouts::places::look;
-use layouts::places::rests_in;
-use layouts::told::real_in;
 use references::NO_ENTRY;
+use takes::takes_in;
+use typelists::ROWS;
+use typelists::bit_of;
 use values::Value;
 
 // How many places of a kind there are, by what was read.

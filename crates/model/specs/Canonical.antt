@@ -1,14 +1,14 @@
 -- The canonical file of a model.
-use mathlib.Core.Bool.{Bool, true, false, cond}
+use mathlib.Core.Bool.{true, false}
 use mathlib.Core.List.{List, [], _∷_, _++_, map}
-use Prim.Native.Nat.{ℕ, suc, _+_, _-_, _*_}
+use Prim.Native.Nat.{ℕ, suc, _+_, _-_}
 use lib.ListN.{length, replicate}
 use Rattle.columns.specs.Decimal.{dec, padded, toLeft}
 use Rattle.values.specs.Value.{Item, default, whole}
 use Rattle.records.specs.Flow.{flow, inLines}
 use Rattle.records.specs.Global.{firstField, canonicalOpening}
 use Rattle.directory.specs.Lines.{entryLines}
-use Rattle.cards.specs.Written.{fileOf, fileLines}
+use Rattle.cards.specs.Written.{fileOf}
 use Rattle.model.specs.Model.{Carried, Model, typeOf}
 
 -- ---- S

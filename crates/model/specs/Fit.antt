@@ -1,8 +1,8 @@
 -- What every model meets that is read of a file or told by a sheet under a list: both can spell it, and it keeps the rules. No order of checks is in it.
 use mathlib.Core.Path.{_≡_}
-use mathlib.Core.Bool.{Bool, true}
+use mathlib.Core.Bool.{true}
 use mathlib.Core.List.{List}
-use Prim.Native.Nat.{ℕ, suc, _+_, _*_, _≤_, _<_}
+use Prim.Native.Nat.{ℕ, suc, _*_, _≤_, _<_}
 use lib.ListN.{length}
 use Rattle.values.specs.Value.{Item, seen}
 use Rattle.records.specs.Record.{trimmed}

@@ -1,8 +1,8 @@
 -- The model: what a file and a sheet carry alike. Nothing in it knows of the type list; a list only marks its sheet.
-use mathlib.Core.Bool.{Bool, true, false, cond}
+use mathlib.Core.Bool.{Bool}
 use mathlib.Core.List.{List, [], _∷_, map}
-use Prim.Native.Nat.{ℕ, _+_}
-use Rattle.values.specs.Value.{Item, isDefault}
+use Prim.Native.Nat.{ℕ}
+use Rattle.values.specs.Value.{Item}
 use Rattle.directory.specs.declared.Fields.{Fields}
 use Rattle.layouts.specs.Entities.{Entity, marks}
 use Rattle.layouts.specs.Known.{known}

@@ -4,7 +4,6 @@ use mathlib.Core.List.{List, [], _∷_, map}
 use Prim.Native.Nat.{ℕ, suc, _+_, _-_, _*_, _/_}
 use lib.ListN.{length, getD, drop}
 use lib.Dec.{leb, eqb}
-use Rattle.columns.specs.declared.Fault.{Fault}
 use Rattle.columns.specs.declared.Fault.the-variants.{ListOrLength, Spelling, Global, Directory, FirstValue}
 use Rattle.columns.specs.Refusal.{Outcome, accepted, refused, demand, eachAt, _then_}
 use Rattle.columns.specs.First.{firstNot, upFrom}

@@ -1,21 +1,20 @@
 -- Writing a sheet: its refusals in the paper's order, its model, its canonical file.
-use mathlib.Core.Bool.{Bool, true, false, cond, not, _&&_}
+use mathlib.Core.Bool.{Bool, true, false, not, _&&_}
 use mathlib.Core.List.{List, [], _∷_, map}
-use Prim.Native.Nat.{ℕ, suc, _+_}
-use lib.ListN.{length, getD}
-use lib.Dec.{leb, eqb}
+use Prim.Native.Nat.{ℕ, _+_}
+use lib.ListN.{length}
+use lib.Dec.{leb}
 use Rattle.columns.specs.declared.Fault.the-variants.{ListOrLength, Global, Mark, TooLong}
-use Rattle.columns.specs.Refusal.{Outcome, accepted, refused, demand, eachAt, _then_}
+use Rattle.columns.specs.Refusal.{Outcome, accepted, demand, eachAt, _then_}
 use Rattle.values.specs.Value.{Item, seen}
 use Rattle.records.specs.Global.{globalFits}
 use Rattle.cards.specs.Cards.{mostLines}
-use Rattle.directory.specs.declared.Fields.{Fields}
 use Rattle.directory.specs.Rules.{entryRules, referenceRule}
 use Rattle.layouts.specs.Known.{mostList, known}
 use Rattle.layouts.specs.Entities.{Entity, entityCheck, marks}
 use Rattle.sheets.specs.Sheet.{Row, Sheet}
 use Rattle.sheets.specs.Order.{readSheet}
-use Rattle.model.specs.Model.{Carried, Model, typeOf, typesOf, entityOf, valueIn, markIn, carriedOf, modelOf}
+use Rattle.model.specs.Model.{Model, typesOf, entityOf, valueIn, markIn, modelOf}
 use Rattle.model.specs.Canonical.{lineTotal, canonical}
 
 -- ---- where lines stand: a G line takes one, an entry one and its values'

@@ -12,14 +12,14 @@ use denote.Ref.{RefT}
 use Rattle.columns.specs.declared.Fault.{Fault}
 use Rattle.columns.specs.declared.FileLine.{FileLine}
 use Rattle.columns.specs.Columns.{columns, blank}
-use Rattle.columns.specs.Refusal.{Outcome, accepted, refused, _then_}
+use Rattle.columns.specs.Refusal.{Outcome, _then_}
 use Rattle.columns.specs.First.{upFrom}
 use Rattle.columns.proofs.First.{length-upFrom}
 use Rattle.cards.specs.declared.Counts.{Counts}
 use Rattle.cards.specs.Cards.{entryLine, entries}
-use Rattle.directory.specs.Lines.{slotColumns, slots}
+use Rattle.directory.specs.Lines.{slots}
 use Rattle.model.specs.Model.{Model}
-use Rattle.model.specs.Read.{Before, before, readModel}
+use Rattle.model.specs.Read.{Before, before}
 use Rattle.passes.specs.Listed.{entryOf, allEntries}
 use Rattle.passes.specs.Ready.{Ready}
 use Rattle.reading.specs.declared.Checked.{Checked}

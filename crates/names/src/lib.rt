@@ -6,7 +6,7 @@ use columns::wide;
 use directory::SLOT_COLUMNS;
 use reading::Checked;
 ghost use mathlib.Core.Path.{_≡_};
-ghost use Prim.Native.Nat.{_^_, _<_};
+ghost use Prim.Native.Nat.{_<_};
 ghost use lib.ListN.{length};
 ghost use Rattle.passes.specs.Ready.{Ready};
 ghost use Rattle.rewrap.specs.Answers.{shown};
@@ -46,7 +46,7 @@ fn looked_up(list: u64, file: &[u8], number: DirectoryNumber) -> Found
     ensures { λ r. ⌜ r ≡ foundOf (shown list (now (file .entry)) (number .0)) ⌝ }
     ensures { λ r. ⌜ Inside (length (now (file .entry))) r ⌝ }
 {
-    let told = reading::check(list, file);
+    let told = weighing::check(list, file);
     match told {
         Checked::Refused { fault: _, line: _ } => Found::Nobody,
         Checked::Good {

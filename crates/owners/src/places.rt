@@ -5,7 +5,6 @@ use columns::Field;
 use columns::SignedField;
 use columns::wide;
 ghost use mathlib.Core.Path.{_≡_};
-ghost use mathlib.Core.Bool.{Bool, true, false};
 ghost use Prim.Native.Nat.{_+_, _*_, _^_, _<_, _≤_};
 ghost use lib.ListN.{length};
 ghost use Rattle.columns.specs.Columns.{lineBytes, lineAt};
@@ -40,7 +39,7 @@ fn size_at(file: &[u8], line: usize, a: usize) -> usize
     ensures { λ r. ⌜ (r ≡ sizeAt (lineAt (now (file .entry)) line) a) × (r < 2 ^ 32) ⌝ }
 {
     let at = LINE_BYTES * line + a;
-    let f = columns::fields::read_signed(file, at, at + 8);
+    let f = fixed::read_signed(file, at, at + 8);
     size_or_0(f)
 }
 
@@ -53,7 +52,7 @@ fn name_at(file: &[u8], line: usize) -> usize
     if file[at + 64] != 32 {
         return 0;
     }
-    let f = columns::fields::read_field(file, at + 65, at + 72);
+    let f = fixed::read_field(file, at + 65, at + 72);
     number_or_0(f)
 }
 

@@ -3,7 +3,6 @@ pub mod Walks
 pub mod Spellings
 pub mod Referring
 pub mod GlobalText
-pub mod GlobalAnswers
 pub mod Whole
 pub mod Facts
 pub mod After

@@ -1,11 +1,11 @@
 // The plain numbers of a sheet, read strictly; past 2,147,483,647 a number says that it is misspelt.
 use columns::Signed;
 ghost use mathlib.Core.Path.{_≡_};
-ghost use mathlib.Core.Bool.{Bool, true, false};
-ghost use Prim.Native.Nat.{ℕ, _+_, _-_, _≤_, _<_};
+ghost use mathlib.Core.Bool.{true, false};
+ghost use Prim.Native.Nat.{_+_, _-_, _≤_, _<_};
 ghost use lib.ListN.{length};
 ghost use Rattle.columns.specs.Columns.{columns};
-ghost use Rattle.sheets.specs.Plain.{digitAfter, sizeFrom, plainOf, minusOf, signedPlain, statusFrom};
+ghost use Rattle.sheets.specs.Plain.{digitAfter, sizeFrom, minusOf, signedPlain, statusFrom};
 ghost use Rattle.sheets.specs.Line.{run, numOf};
 
 // A number of an entry line, and where the tab behind it stands: at the line's end, if there is none.

@@ -1,8 +1,8 @@
 -- An entry's lines: its label is a part of the file; the values come behind the entry line. Assumes nothing.
-use mathlib.Core.Path.{_≡_, refl, sym, ap, _∙_}
+use mathlib.Core.Path.{_≡_, sym, ap, _∙_}
 use mathlib.Core.Bool.{Bool, false}
-use mathlib.Core.List.{List, [], _∷_, _++_, append-assoc}
-use Prim.Native.Nat.{ℕ, zero, suc, _+_, _-_, _*_, _^_, _≤_, _<_}
+use mathlib.Core.List.{List, [], _∷_, _++_}
+use Prim.Native.Nat.{ℕ, suc, _+_, _-_, _*_, _≤_, _<_}
 use native.Mathlib.Omega.{arith}
 use lib.ListN.{length, take, drop, length-drop}
 use lib.Seq.{length-take-le}
@@ -13,7 +13,6 @@ use Rattle.columns.proofs.Writes.{then, wrote-none, wrote-same, wrote-length, o
 use Rattle.values.specs.Value.{Item}
 use Rattle.records.specs.Record.{valuesAt}
 use Rattle.records.specs.Reading.{Stands}
-use Rattle.records.proofs.Texts.{small}
 use Rattle.directory.specs.declared.Fields.{Fields}
 use Rattle.directory.specs.declared.EntryRead.{EntryRead}
 use Rattle.directory.specs.declared.EntryRead.the-variants.{Spelt, Wrong}
@@ -25,7 +24,7 @@ use Rattle.layouts.specs.Known.{known}
 use Rattle.layouts.specs.Entities.{marks}
 use Rattle.model.specs.Model.{marked}
 use Rattle.sheets.specs.Plain.{sized}
-use Rattle.sheets.specs.Sheet.{Line, entry, last, lineOf}
+use Rattle.sheets.specs.Sheet.{entry, last, lineOf}
 use Rattle.entities.specs.Taking.{entityWith}
 use Rattle.entities.specs.Marks.{carriedIn}
 use Rattle.printing.specs.Bytes.{valueBytes, entityBytes}

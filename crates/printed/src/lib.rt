@@ -3,10 +3,9 @@ pub mod rows;
 
 use crate::rows::put_rows;
 use cards::LINE_BYTES;
-use printing::globals::put_globals;
-use printing::starts::put_starts;
-ghost use mathlib.Core.Path.{_≡_};
-ghost use Prim.Native.Nat.{ℕ, _+_, _*_, _^_, _≤_, _<_};
+use sheetglobals::put_globals;
+use sheetstarts::put_starts;
+ghost use Prim.Native.Nat.{_+_, _*_, _^_, _≤_, _<_};
 ghost use lib.ListN.{length};
 ghost use Rattle.columns.specs.Columns.{textOf};
 ghost use Rattle.columns.specs.Laid.{Wrote};

@@ -2,7 +2,7 @@
 use mathlib.Core.Path.{_≡_, refl, sym, ap, ap₂, _∙_}
 use mathlib.Core.Bool.{Bool}
 use mathlib.Core.List.{List, [], _∷_, _++_, map}
-use Prim.Native.Nat.{ℕ, zero, suc, _+_, _*_}
+use Prim.Native.Nat.{ℕ, zero, suc, _+_}
 use native.Mathlib.Omega.{arith}
 use lib.ListN.{length}
 use Rattle.columns.specs.First.{upFrom}
@@ -10,13 +10,11 @@ use Rattle.columns.specs.Refusal.{accepted, eachAt, _then_}
 use Rattle.columns.proofs.Outcomes.{Both, then-accepted}
 use Rattle.cards.specs.declared.Counts.{Counts}
 use Rattle.cards.specs.Cards.{firstD, firstP, entries}
-use Rattle.records.specs.Record.{valuesAt}
 use Rattle.directory.specs.Naming.{typesAt, typeOfEntry}
 use Rattle.sheets.specs.Sheet.{last, lineOf, sheetText}
 use Rattle.model.specs.Model.{Carried, typesOf, sheetOf}
-use Rattle.model.specs.Read.{GlobalRead, Listed, startsIn, globalText, two, carried, parametersOf, entityIn, entriesIn, firstEntry, listedType, lastPass, modelWith}
+use Rattle.model.specs.Read.{GlobalRead, Listed, startsIn, globalText, two, entityIn, entriesIn, firstEntry, listedType, lastPass, modelWith}
 use Rattle.model.proofs.Types.{types-listed}
-use Rattle.entities.specs.Marks.{carriedIn}
 use Rattle.printing.specs.Bytes.{startBytes, globalBytes}
 use Rattle.printing.specs.Rows.{rowsBytes}
 use Rattle.printing.specs.Whole.{fieldBytes, wholeBytes, entriesBytes}

@@ -1,9 +1,8 @@
 -- The start texts: a text is trimmed from the right; one line after the other. Assumes nothing.
 use mathlib.Core.Path.{_≡_, refl, sym, ap, _∙_}
-use mathlib.Core.Bool.{Bool, true, false}
+use mathlib.Core.Bool.{false}
 use mathlib.Core.List.{List, [], _∷_, _++_, map, append-assoc}
-use Prim.Native.Nat.{ℕ, zero, suc, _+_, _-_, _*_, _^_, _≤_, _<_}
-use native.Mathlib.Numerals.{add-one}
+use Prim.Native.Nat.{ℕ, suc, _+_, _-_, _*_, _≤_, _<_}
 use native.Mathlib.Omega.{arith}
 use lib.ListN.{length, getD, take, drop, length-drop}
 use lib.Seq.{take-suc, take-take, getD-drop, length-take-le}
@@ -13,7 +12,7 @@ use Rattle.columns.specs.Columns.{columns, lineAt}
 use Rattle.columns.specs.First.{upFrom}
 use Rattle.columns.specs.Trim.{trimOnto, trimEnd}
 use Rattle.columns.specs.Laid.{Wrote, Owes}
-use Rattle.columns.proofs.Writes.{owes-all, owes-less, owes-none, owes-same, wrote-length, wrote-same}
+use Rattle.columns.proofs.Writes.{owes-all, owes-less, owes-none, wrote-length, wrote-same}
 use Rattle.sheets.specs.Sheet.{Line, start, lineOf, startLines, textOf as sheetBytes}
 use Rattle.model.specs.Read.{isBlank, startText}
 use Rattle.printing.specs.Bytes.{startBytes}

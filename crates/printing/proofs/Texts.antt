@@ -1,8 +1,8 @@
 -- Characters of a record's text and lines with a value. Assumes nothing.
-use mathlib.Core.Path.{_≡_, refl, sym, ap, _∙_}
+use mathlib.Core.Path.{_≡_, sym, _∙_}
 use mathlib.Core.Bool.{Bool, cond}
 use mathlib.Core.List.{List, [], _∷_, _++_}
-use Prim.Native.Nat.{ℕ, suc, _+_, _-_, _*_, _^_, _≤_, _<_}
+use Prim.Native.Nat.{ℕ, _+_, _-_, _*_, _^_, _≤_, _<_}
 use native.Mathlib.Omega.{arith}
 use lib.ListN.{length, getD, take, drop, length-drop}
 use lib.Seq.{getD-drop}
@@ -12,10 +12,10 @@ use Rattle.columns.proofs.Writes.{then, wrote-none, wrote-same, wrote-more, wro
 use Rattle.values.specs.declared.Value.{Value}
 use Rattle.values.specs.declared.Value.the-variants.{Default, Whole, Real, Text}
 use Rattle.values.specs.Value.{real, itemOf, spelled}
-use Rattle.values.specs.Writing.{front, chars, Inside}
+use Rattle.values.specs.Writing.{chars, Inside}
 use Rattle.records.specs.Reading.{Stands, Writable}
 use Rattle.records.proofs.Texts.{length-text, small}
-use Rattle.sheets.specs.Sheet.{Line, global, value, lineOf}
+use Rattle.sheets.specs.Sheet.{global, value, lineOf}
 use Rattle.sheets.specs.Writing.{globalHead, valueHead}
 use Rattle.sheets.proofs.Written.{global-line, value-line}
 

@@ -1,8 +1,8 @@
 -- The whole sheet: its parts one after the other, and a model's sheet by its parts. Assumes nothing.
-use mathlib.Core.Path.{_≡_, refl, sym, ap, _∙_}
-use mathlib.Core.Bool.{Bool, true, false, cond}
+use mathlib.Core.Path.{_≡_, sym, ap, _∙_}
+use mathlib.Core.Bool.{Bool, true, false}
 use mathlib.Core.List.{List, [], _∷_, _++_, map, append-assoc}
-use Prim.Native.Nat.{ℕ, zero, suc, _+_, _*_, _^_, _≤_, _<_}
+use Prim.Native.Nat.{ℕ, _+_, _*_, _^_, _≤_}
 use native.Mathlib.Nat.{add-zero}
 use native.Mathlib.Omega.{arith}
 use lib.ListN.{length}
@@ -14,7 +14,7 @@ use Rattle.records.specs.Record.{valuesAt}
 use Rattle.records.specs.Reading.{Stands}
 use Rattle.records.specs.Global.{firstField}
 use Rattle.sheets.specs.Plain.{sized}
-use Rattle.sheets.specs.Sheet.{Line, entry, last, lineOf, valueLines, rowLines, linesOf, sheetText, textOf as sheetBytes}
+use Rattle.sheets.specs.Sheet.{entry, last, lineOf, rowLines, linesOf, sheetText, textOf as sheetBytes}
 use Rattle.layouts.specs.Known.{known}
 use Rattle.layouts.specs.Entities.{marks}
 use Rattle.model.specs.Model.{Carried, Model, typeOf, entityOf, typesOf, marked, rowOf, sheetOf}

@@ -9,7 +9,7 @@ use Rattle.layouts.specs.Known.{known}
 use Rattle.layouts.specs.Entities.{marks}
 use Rattle.model.specs.Model.{typeOf, entityOf, marked}
 use Rattle.sheets.specs.Plain.{sized}
-use Rattle.sheets.specs.Sheet.{Line, start, global, entry, value, lineOf}
+use Rattle.sheets.specs.Sheet.{start, global, entry, value, lineOf}
 
 -- the start texts
 unfoldable pub startBytes : List (List ℕ) → List ℕ

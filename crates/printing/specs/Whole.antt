@@ -6,7 +6,7 @@ use Rattle.columns.specs.Columns.{textOf, lineBytes}
 use Rattle.columns.specs.First.{upFrom}
 use Rattle.records.specs.Record.{valuesAt}
 use Rattle.records.specs.Global.{firstField}
-use Rattle.sheets.specs.Sheet.{Line, last, lineOf}
+use Rattle.sheets.specs.Sheet.{last, lineOf}
 use Rattle.model.specs.Model.{Carried}
 use Rattle.model.specs.Read.{startText, given}
 use Rattle.printing.specs.Bytes.{startBytes, globalBytes, valuesIn, entityBytes}

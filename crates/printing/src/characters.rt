@@ -1,8 +1,8 @@
 // Characters of a record's text, which may cross lines of its file.
 use freeformat::char_at;
 ghost use mathlib.Core.Path.{_≡_};
-ghost use Prim.Native.Nat.{ℕ, _+_, _*_, _^_, _≤_, _<_};
-ghost use lib.ListN.{length, take, drop};
+ghost use Prim.Native.Nat.{_+_, _*_, _^_, _≤_, _<_};
+ghost use lib.ListN.{take, drop};
 ghost use Rattle.columns.specs.Columns.{textOf};
 ghost use Rattle.columns.specs.Laid.{Wrote};
 ghost use Rattle.records.specs.Reading.{Stands};

@@ -1,11 +1,9 @@
 // The sheet of a file that was accepted, laid over a lent buffer from a place on, clipped to it: with an empty buffer it is measured.
-// `characters` copies characters of a record's text, `lines` writes a line with a value, `taking` takes a record's values,
-// `starts` writes the S lines, `globals` the G lines. Crate `carried` writes an entity's values with their marks, `printed` the entries' lines and
+// `characters` copies characters of a record's text, `lines` writes a line with a value, `taking` takes a record's values.
+// Crate `sheetstarts` writes the S lines, `sheetglobals` the G lines, `carried` an entity's values with their marks, `printed` the entries' lines and
 // the whole.
 pub mod characters;
-pub mod globals;
 pub mod lines;
-pub mod starts;
 pub mod taking;
 
 use layouts::Stepped;

@@ -69,7 +69,7 @@ fn put_owned(out: &mut [u8], at: usize, number: u32, n: usize) -> usize
     ensures { λ r. ⌜ r ≡ at + 17 ⌝ }
 {
     let a = emit::put(out, at, 32);
-    let b = emit::put_right(out, a, 32, NUMBER, number as u64);
+    let b = decimals::put_right(out, a, 32, NUMBER, number as u64);
     lines::put_tail(out, b, PARAMETER, n)
 }
 

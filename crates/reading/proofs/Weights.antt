@@ -12,9 +12,9 @@ use Rattle.columns.specs.declared.Fault.the-variants.{ListOrLength}
 use Rattle.columns.specs.declared.FileLine.{FileLine}
 use Rattle.columns.specs.Laid.{Wrote}
 use Rattle.cards.specs.declared.Counts.{Counts}
-use Rattle.cards.specs.Cards.{firstD, firstP, entries}
+use Rattle.cards.specs.Cards.{entries}
 use Rattle.layouts.specs.Known.{mostList}
-use Rattle.sheets.specs.Sheet.{Line, last, lineOf}
+use Rattle.sheets.specs.Sheet.{last, lineOf}
 use Rattle.model.specs.Read.{lastPass, before}
 use Rattle.passes.specs.declared.Pass.{Pass}
 use Rattle.passes.specs.declared.Pass.the-variants.{Good as GoodPass, Refused as RefusedPass}
@@ -26,7 +26,7 @@ use Rattle.passes.specs.Ready.{Ready}
 use Rattle.passes.specs.Walks.{firstOf}
 use Rattle.passes.proofs.After.{before-ready, before-parameter, before-closing}
 use Rattle.passes.proofs.Walks.{walk-on, walk-here, walk-end}
-use Rattle.printing.specs.Rows.{rowBytes, rowsBytes}
+use Rattle.printing.specs.Rows.{rowsBytes}
 use Rattle.reading.specs.declared.Checked.{Checked}
 use Rattle.reading.specs.declared.Checked.the-variants.{Good, Refused}
 use Rattle.reading.specs.declared.Rows.{Rows}

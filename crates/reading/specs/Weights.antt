@@ -13,7 +13,7 @@ use Rattle.directory.specs.declared.Fields.{Fields}
 use Rattle.directory.specs.Lines.{labelAt}
 use Rattle.layouts.specs.Known.{known}
 use Rattle.sheets.specs.Plain.{sized}
-use Rattle.sheets.specs.Sheet.{Line, entry, last, lineOf}
+use Rattle.sheets.specs.Sheet.{entry, last, lineOf}
 use Rattle.passes.specs.Passes.{fileLine}
 use Rattle.passes.specs.declared.Pass.{Pass}
 use Rattle.passes.specs.declared.Pass.the-variants.{Good as GoodPass, Refused as RefusedPass}

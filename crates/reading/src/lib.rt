@@ -1,5 +1,5 @@
-// Reading: all checks of a file in the paper's order. `last_pass` reads the parameters of each entity in turn, and measures its lines
-// in the sheet on the way; `weigh` asks the list, all that is asked before, and the last pass; `check` is its answer alone.
+// Reading: what the checks of a file say in the paper's order, and what stands behind them in the sheet. `entity_at` reads the parameters of an
+// entity and measures its lines in the sheet on the way. Crate `weighing` has the last pass over all of them and all checks.
 use cards::Counts;
 use cards::LINE_BYTES;
 use columns::DirectoryNumber;
@@ -12,21 +12,16 @@ use directory::Fields;
 use directory::SLOT_COLUMNS;
 use entities::EntityAnswer;
 use entities::Weighed;
-use passes::BeforeAnswer;
 use sheetlines::entry_len;
-use sheetlines::put_last;
 ghost use mathlib.Core.Path.{_≡_};
 ghost use Prim.Native.Nat.{_+_, _*_, _^_, _<_, _≤_};
 ghost use Rattle.cards.specs.Cards.{entries, entryLine};
 ghost use Rattle.directory.specs.Lines.{slotColumns};
 ghost use Rattle.sheets.specs.Writing.{entryLength};
 ghost use Rattle.entities.specs.Walking.{carriedLength};
-ghost use Rattle.model.specs.Read.{lastPass};
-ghost use Rattle.passes.specs.Passes.{passOf};
-ghost use Rattle.passes.specs.Listed.{allEntries};
 ghost use Rattle.passes.specs.Ready.{Ready};
-ghost use Rattle.reading.specs.Checks.{delimited, recordAnswer, entityAt, checkOf};
-ghost use Rattle.reading.specs.Weights.{recordCarried, rowLength, rowsLength, answerRows, speltRows, rowsOf, weightOf, Few, Light};
+ghost use Rattle.reading.specs.Checks.{recordAnswer, entityAt};
+ghost use Rattle.reading.specs.Weights.{recordCarried, rowLength, answerRows, speltRows, rowsOf, Few};
 
 // What a file tells that passes all checks: its counts and delimiters; or its first refusal.
 pub enum Checked {
@@ -82,7 +77,7 @@ fn record_answer(
     let from = cards::parameter_line(c, wide(pointer.0));
     let base = LINE_BYTES * from;
     let count = wide(lines);
-    entities::entity::entity_pass(
+    entitypass::entity_pass(
         list,
         file,
         base,
@@ -151,7 +146,7 @@ fn row_at(
 }
 
 // Entity i; its entry is spelt, as all are.
-fn entity_at(list: u64, file: &[u8], c: Counts, parameter: u8, closing: u8, i: usize) -> Rows
+pub fn entity_at(list: u64, file: &[u8], c: Counts, parameter: u8, closing: u8, i: usize) -> Rows
     requires { ⌜ Ready (now file) c × (0 < parameter) × (0 < closing) × (i < entries c) ⌝ }
     ensures { λ r. ⌜ r ≡ rowsOf (rowLength list (now (file .entry)) c parameter closing i) (entityAt list (now (file .entry)) c parameter closing i) ⌝ }
     ensures { λ r. ⌜ Few 15000000000 r ⌝ }
@@ -176,84 +171,5 @@ fn entity_at(list: u64, file: &[u8], c: Counts, parameter: u8, closing: u8, i: u
             pointer,
             lines,
         ),
-    }
-}
-
-// The last pass: each entity in turn, and behind them the Z line.
-pub fn last_pass(list: u64, file: &[u8], c: Counts, parameter: u8, closing: u8) -> Rows
-    requires { ⌜ Ready (now file) c × (0 < parameter) × (0 < closing) ⌝ }
-    ensures { λ r. ⌜ r ≡ rowsOf (rowsLength list (now (file .entry)) c parameter closing) (passOf (lastPass list (now (file .entry)) c (delimited parameter closing) (allEntries (now (file .entry)) c))) ⌝ }
-    ensures { λ r. ⌜ Few (2 ^ 51) r ⌝ }
-{
-    let n = wide(c.d) / 2;
-    let mut i = 0;
-    let mut length = 0;
-    while i < n {
-        let found = entity_at(list, file, c, parameter, closing, i);
-        match found {
-            Rows::Refused { fault, line } => {
-                return Rows::Refused { fault, line };
-            }
-            Rows::Good(more) => {
-                length += more;
-                i += 1;
-            }
-        }
-    }
-    let mut none = [0u8; 1];
-    let end = put_last(&mut none, 0, n);
-    Rows::Good(length + end)
-}
-
-// All checks of a file under a list, and the bytes of its sheet behind the G lines.
-pub fn weigh(list: u64, file: &[u8]) -> Weight
-    ensures { λ r. ⌜ r ≡ weightOf list (now (file .entry)) (checkOf list (now (file .entry))) ⌝ }
-    ensures { λ r. ⌜ Light (2 ^ 51) r ⌝ }
-{
-    if !layouts::list::is_list(list) {
-        return Weight::Refused {
-            fault: Fault::ListOrLength,
-            line: FileLine(0),
-        };
-    }
-    let told = passes::before(file);
-    match told {
-        BeforeAnswer::Refused { fault, line } => Weight::Refused { fault, line },
-        BeforeAnswer::Good {
-            counts,
-            parameter,
-            closing,
-        } => {
-            let found = last_pass(list, file, counts, parameter, closing);
-            match found {
-                Rows::Refused { fault, line } => Weight::Refused { fault, line },
-                Rows::Good(rows) => Weight::Good {
-                    counts,
-                    parameter,
-                    closing,
-                    rows,
-                },
-            }
-        }
-    }
-}
-
-// All checks of a file under a list.
-pub fn check(list: u64, file: &[u8]) -> Checked
-    ensures { λ r. ⌜ r ≡ checkOf list (now (file .entry)) ⌝ }
-{
-    let told = weigh(list, file);
-    match told {
-        Weight::Refused { fault, line } => Checked::Refused { fault, line },
-        Weight::Good {
-            counts,
-            parameter,
-            closing,
-            rows: _,
-        } => Checked::Good {
-            counts,
-            parameter,
-            closing,
-        },
     }
 }

@@ -1,14 +1,12 @@
 -- The values of a record are met one after the other; those without the defaults at the end are the first of them. Assumes nothing.
-use mathlib.Core.Path.{_≡_, refl, sym, ap, _∙_}
-use mathlib.Core.Bool.{Bool, true, false, cond}
+use mathlib.Core.Path.{_≡_, refl, ap}
+use mathlib.Core.Bool.{Bool, true, false}
 use mathlib.Core.List.{List, [], _∷_}
-use Prim.Native.Nat.{ℕ, zero, suc, _+_, _-_, _≤_, _<_}
-use native.Mathlib.Numerals.{add-one}
+use Prim.Native.Nat.{ℕ, zero, suc, _-_, _≤_}
 use native.Mathlib.Omega.{arith}
-use lib.ListN.{length, getD, take, drop}
-use Rattle.columns.specs.declared.Fault.{Fault}
+use lib.ListN.{length, take}
 use Rattle.values.specs.declared.Value.{Value}
-use Rattle.values.specs.Value.{Item, default, itemOf, isDefault}
+use Rattle.values.specs.Value.{Item, itemOf, isDefault}
 use Rattle.records.specs.declared.Got.{Got}
 use Rattle.records.specs.declared.Got.the-variants.{Found, Refused}
 use Rattle.records.specs.Record.{Values, values, wrong, more, after, valueAt, valuesFrom, valuesAt, behind, trim, trimmed, kept}

@@ -7,7 +7,7 @@ use lib.ListN.{length}
 use borrow.Author.Tests.{le-leb, lt-leb}
 use Rattle.columns.specs.declared.Fault.{Fault}
 use Rattle.columns.specs.declared.Fault.the-variants.{Room}
-use Rattle.columns.specs.Laid.{laid, Wrote}
+use Rattle.columns.specs.Laid.{Wrote}
 use Rattle.columns.specs.Refusal.{Outcome, accepted, refused, number}
 use Rattle.rewrap.specs.declared.Answer.{Answer}
 use Rattle.rewrap.specs.Answers.{inRoom, answer, answerOf, leftIn}

@@ -1,56 +1,44 @@
 -- A file that meets the rules is accepted. Assumes nothing.
 use mathlib.Core.Path.{_≡_, refl, sym, ap, _∙_}
 use mathlib.Core.Bool.{Bool, true, false, cond, not, _&&_}
-use mathlib.Core.List.{List, [], _∷_, map}
+use mathlib.Core.List.{List, _∷_}
 use Prim.Native.Nat.{ℕ, zero, suc, _+_, _-_, _*_, _≤_, _<_}
 use native.Mathlib.Omega.{arith}
-use lib.ListN.{length, getD, drop}
 use lib.Seq.{ext-getD}
 use lib.Dec.{leb, eqb}
 use borrow.Author.Tests.{le-leb, ne-eqb, eq-eqb, leb-true}
-use Rattle.columns.specs.declared.Fault.{Fault}
-use Rattle.columns.specs.declared.Fault.the-variants.{ListOrLength, Directory, Macro, Reference, FirstValue}
 use Rattle.columns.specs.declared.SignedField.{SignedField}
 use Rattle.columns.specs.declared.SignedField.the-variants.{Number, Bad}
 use Rattle.columns.specs.Fixed.{signedOf}
-use Rattle.columns.specs.Refusal.{Outcome, accepted, refused, demand, eachAt, _then_}
-use Rattle.columns.proofs.Outcomes.{demand-true}
-use Rattle.values.specs.Value.{Item, default, whole}
-use Rattle.records.specs.declared.Opening.the-variants.{Opened}
-use Rattle.records.specs.Record.{Values, values, wrong, valuesAt, trimmed}
-use Rattle.records.specs.Global.{firstField, openingOf}
+use Rattle.columns.specs.Refusal.{accepted}
+use Rattle.values.specs.Value.{Item, whole}
+use Rattle.records.specs.Record.{values, valuesAt, trimmed}
+use Rattle.records.specs.Global.{firstField}
 use Rattle.records.proofs.Globals.{delimits, parameter-above, record-above}
 use Rattle.cards.specs.declared.Counts.{Counts}
-use Rattle.cards.specs.declared.CardsRead.the-variants.{Counted}
-use Rattle.cards.specs.Cards.{cardsOf, outcome, entries, entryLine, parameterLine}
-use Rattle.cards.specs.Rules.{Holds, Meets}
+use Rattle.cards.specs.Cards.{entries, entryLine}
 use Rattle.cards.proofs.Complete.{rules}
-use Rattle.directory.specs.declared.Fields.{Fields}
-use Rattle.directory.specs.declared.EntryRead.{EntryRead}
-use Rattle.directory.specs.declared.EntryRead.the-variants.{Spelt, Wrong}
-use Rattle.directory.specs.Fields.{entryOf as directoryEntry}
-use Rattle.directory.specs.Lines.{slotIn, pointer, lines, positive, sizeOf, entryAt, labelAt, parameterLine as lineNumber}
-use Rattle.directory.specs.Rules.{rangesOk, entryRules, referenceRule, references, allFit}
-use Rattle.owners.specs.declared.Owned.the-variants.{Everyone}
-use Rattle.owners.specs.InFile.{sizeOr0, ownerIn, fromIn, countIn, ownersIn, outcome as ownershipOutcome}
-use Rattle.owners.specs.Rules.{In, Named, Owns}
+use Rattle.directory.specs.Lines.{slotIn, pointer, lines, positive, sizeOf, labelAt, parameterLine as lineNumber}
+use Rattle.directory.specs.Rules.{entryRules, referenceRule}
+use Rattle.owners.specs.InFile.{sizeOr0, ownerIn, fromIn, countIn}
+use Rattle.owners.specs.Rules.{Owns}
 use Rattle.owners.proofs.Round.{owns-passes}
 use Rattle.layouts.specs.Known.{mostList, known}
 use Rattle.layouts.specs.Entities.{Entity, fault, verdict, entityCheck}
 use Rattle.layouts.specs.declared.Verdict.the-variants.{Good}
 use Rattle.sheets.specs.Sheet.{sheetText}
 use Rattle.model.specs.Model.{Carried, typeOf, entityOf, sheetOf}
-use Rattle.model.specs.Read.{Listed, Before, GlobalRead, globalRead, given, globalText, globalIn, isType, byEntry, entryIn, entriesIn, byParameters, parametersOf, entityIn, listedType, referencesOf, referencesIn, firstEntry, two, lastPass, modelWith, before, readModel, reads}
+use Rattle.model.specs.Read.{GlobalRead, globalRead, given, globalText, entryIn, entriesIn, parametersOf, entityIn, listedType, referencesOf, referencesIn, firstEntry, lastPass, modelWith, before, readModel, reads}
 use Rattle.passes.specs.declared.Pass.{Pass}
-use Rattle.passes.specs.declared.Pass.the-variants.{Good as Passes, Refused as Refuses}
+use Rattle.passes.specs.declared.Pass.the-variants.{Good as Passes}
 use Rattle.passes.specs.Passes.{passOf}
 use Rattle.passes.specs.Listed.{listedOf, listedAt, entryOf, allEntries, allTypes}
-use Rattle.passes.specs.Walks.{orElse, firstOf, entryCheck}
+use Rattle.passes.specs.Walks.{firstOf, entryCheck}
 use Rattle.passes.proofs.Facts.{pointer-same, lines-same}
-use Rattle.passes.proofs.Spellings.{Stood, stood, types-length, types-at}
+use Rattle.passes.proofs.Spellings.{stood, types-length, types-at}
 use Rattle.passes.proofs.Walks.{row-walk, entries-walk}
 use Rattle.passes.proofs.Whole.{good-entries}
-use Rattle.rewrap.specs.Rules.{Spells, GlobalIs, no-fields, fields, EntryIs, InRange, EntryMeets, MeetsRules}
+use Rattle.rewrap.specs.Rules.{GlobalIs, no-fields, fields, MeetsRules}
 use Rattle.rewrap.proofs.Spelling.{is-read}
 use Rattle.rewrap.proofs.GlobalRules.{global-complete}
 use Rattle.rewrap.proofs.Sound.{taken}

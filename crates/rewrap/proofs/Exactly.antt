@@ -1,5 +1,4 @@
 -- Demand 2: a file is accepted exactly if it meets the rules. Assumes nothing.
-use mathlib.Core.Path.{_≡_}
 use Rattle.rewrap.specs.Demands.{ExactlyTheRules}
 use Rattle.rewrap.proofs.Sound.{sound-rules}
 use Rattle.rewrap.proofs.Complete.{complete-rules}

@@ -6,9 +6,5 @@ pub mod GlobalRules
 pub mod Sound
 pub mod Complete
 pub mod Exactly
-pub mod Reading
-pub mod Records
 pub mod Answered
-pub mod ReadingAnswers
-pub mod WritingAnswers
 pub mod Numbers

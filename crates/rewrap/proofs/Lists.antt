@@ -3,27 +3,25 @@ use mathlib.Core.Path.{_≡_, refl, sym, ap, _∙_}
 use mathlib.Core.Bool.{Bool, true, false, cond, false≢true}
 use mathlib.Core.List.{List, [], _∷_, map}
 use mathlib.Core.Logic.{_⊎_, inl, inr, ⊎-elim}
-use Prim.Native.Nat.{ℕ, zero, suc, _+_, _≤_, _<_}
+use Prim.Native.Nat.{ℕ, _+_, _≤_, _<_}
 use native.Mathlib.Omega.{arith}
 use lib.ListN.{length, getD, drop}
-use lib.Dec.{leb}
 use borrow.Author.Tests.{le-leb}
 use Rattle.columns.specs.declared.Fault.{Fault}
-use Rattle.columns.specs.declared.Fault.the-variants.{ListOrLength, FirstValue}
+use Rattle.columns.specs.declared.Fault.the-variants.{FirstValue}
 use Rattle.columns.specs.Refusal.{Outcome, accepted, refused, demand, eachAt, _then_}
-use Rattle.columns.proofs.Outcomes.{Both, then-accepted}
+use Rattle.columns.proofs.Outcomes.{then-accepted}
 use Rattle.values.specs.Value.{Item, default}
 use Rattle.records.specs.Record.{Values, values, wrong, trimmed, valuesAt}
 use Rattle.cards.specs.declared.Counts.{Counts}
-use Rattle.layouts.specs.Entities.{Entity, entityCheck, verdict, fault, marks}
+use Rattle.layouts.specs.Entities.{Entity, entityCheck, verdict, fault}
 use Rattle.layouts.specs.Known.{mostList, known, Inside}
-use Rattle.layouts.specs.Larger.{Late, Sooner, Added, fine, alike, added}
+use Rattle.layouts.specs.Larger.{Late, Sooner, Added, alike}
 use Rattle.layouts.proofs.Demand.{Only, knows, added-then, added-after, entity-more, sooner, refuses-too, marks-same}
 use Rattle.layouts.proofs.Runs.{marks-length}
-use Rattle.sheets.specs.Sheet.{Row, row, sheetText}
 use Rattle.model.specs.Model.{Carried, Model, typeOf, typesOf, entityOf, marked, rowOf, sheetOf, valueIn}
 use Rattle.model.specs.Read.{Listed, Before, GlobalRead, two, isType, carried, byParameters, parametersOf, entityIn, listedType, firstEntry, lastPass, modelWith, before, readModel, reads}
-use Rattle.rewrap.specs.Demands.{OneInside, RowsAlike, same, marks-only, AllAlike, none, more, SheetsAlike, SmallerAccepts, LargerRefuses}
+use Rattle.rewrap.specs.Demands.{RowsAlike, same, marks-only, AllAlike, none, more, SheetsAlike, SmallerAccepts, LargerRefuses}
 
 -- what one pass accepts another accepts alike, if it does so of each element
 pub each-too : {A B : Type 0} (takes : A → ℕ) (f g : ℕ → A → Outcome B) → ((p : ℕ) (x : A) (y : B) → g p x ≡ accepted y → f p x ≡ accepted y)

@@ -1,6 +1,4 @@
 -- Demand 2: each parameter line belongs to exactly one entity. Assumes nothing.
-use mathlib.Core.Path.{_≡_}
-use Prim.Native.Nat.{ℕ, _+_, _*_}
 use native.Mathlib.Omega.{arith}
 use Rattle.rewrap.specs.Demands.{OneOwner}
 

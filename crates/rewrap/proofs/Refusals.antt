@@ -1,11 +1,8 @@
 -- Demand 1: a refusal changes no byte of an output buffer and no slot of a lent table. Assumes nothing.
 use mathlib.Core.Path.{_≡_, refl}
-use mathlib.Core.List.{List}
 use Prim.Native.Nat.{ℕ}
 use native.Mathlib.Omega.{arith}
-use Rattle.columns.specs.declared.Fault.{Fault}
-use Rattle.columns.specs.Refusal.{Outcome, accepted, refused}
-use Rattle.rewrap.specs.declared.Record.{Record}
+use Rattle.columns.specs.Refusal.{accepted, refused}
 use Rattle.rewrap.specs.Answers.{leftIn, slotsLeft}
 use Rattle.rewrap.specs.Demands.{RefusalKeepsBuffer, RefusalKeepsTable}
 

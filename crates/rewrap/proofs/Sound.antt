@@ -1,26 +1,22 @@
 -- A file that reading accepts meets the rules. Assumes nothing.
 use mathlib.Core.Path.{_≡_, refl, sym, ap, _∙_}
 use mathlib.Core.Bool.{Bool, true, false, cond, not, _&&_}
-use mathlib.Core.List.{List, [], _∷_, map}
-use Prim.Native.Nat.{ℕ, zero, suc, _+_, _-_, _*_, _≤_, _<_}
+use mathlib.Core.List.{List, [], _∷_}
+use Prim.Native.Nat.{ℕ, _+_, _-_, _*_, _≤_, _<_}
 use native.Mathlib.Omega.{arith}
-use lib.ListN.{length, getD, drop}
+use lib.ListN.{getD, drop}
 use lib.Dec.{leb, eqb}
 use borrow.Author.Tests.{leb-true, eqb-true, eq-eqb}
-use Rattle.columns.specs.declared.Fault.{Fault}
 use Rattle.columns.specs.declared.Fault.the-variants.{ListOrLength, Directory, Macro, Reference, FirstValue}
 use Rattle.columns.specs.declared.SignedField.{SignedField}
 use Rattle.columns.specs.declared.SignedField.the-variants.{Number, Bad}
-use Rattle.columns.specs.First.{upFrom}
 use Rattle.columns.specs.Fixed.{signedOf}
-use Rattle.columns.specs.Refusal.{Outcome, accepted, refused, demand, eachAt, _then_}
+use Rattle.columns.specs.Refusal.{Outcome, accepted, refused, demand}
 use Rattle.columns.proofs.Outcomes.{then-accepted, demand-accepted}
 use Rattle.values.specs.Value.{Item, default, whole, real, text}
 use Rattle.records.specs.Record.{Values, values, wrong, valuesAt, trimmed}
 use Rattle.cards.specs.declared.Counts.{Counts}
-use Rattle.cards.specs.declared.CardsRead.the-variants.{Counted}
-use Rattle.cards.specs.Cards.{entries, entryLine, parameterLine}
-use Rattle.cards.specs.Rules.{Meets}
+use Rattle.cards.specs.Cards.{entries, entryLine}
 use Rattle.cards.proofs.Complete.{rules}
 use Rattle.directory.specs.declared.Fields.{Fields}
 use Rattle.directory.specs.declared.EntryRead.{EntryRead}
@@ -29,25 +25,24 @@ use Rattle.directory.specs.Fields.{entryOf as directoryEntry}
 use Rattle.directory.specs.Lines.{slotIn, pointer, lines, positive, sizeOf, entryAt, labelAt, parameterLine as lineNumber}
 use Rattle.directory.specs.Rules.{rangesOk, entryRules, referenceRule, references, allFit}
 use Rattle.owners.specs.InFile.{sizeOr0, ownerIn, fromIn, countIn}
-use Rattle.owners.specs.Rules.{In, Named, Owns}
+use Rattle.owners.specs.Rules.{Owns}
 use Rattle.owners.proofs.Round.{passes-owns}
 use Rattle.layouts.specs.declared.Verdict.{Verdict}
 use Rattle.layouts.specs.declared.Verdict.the-variants.{Good, Layout, LayoutReference}
 use Rattle.layouts.specs.Known.{mostList, known}
 use Rattle.layouts.specs.Entities.{Entity, fault, verdict, entityCheck}
 use Rattle.model.specs.Model.{Carried, typeOf, entityOf}
-use Rattle.model.specs.Read.{Listed, Before, GlobalRead, globalText, isType, byEntry, entryIn, byParameters, parametersOf, entityIn, listedType, referencesOf, referencesIn, firstEntry, two, lastPass, modelWith, before, readModel, reads}
-use Rattle.passes.specs.declared.Pass.{Pass}
-use Rattle.passes.specs.declared.Pass.the-variants.{Good as Passes, Refused as Refuses}
+use Rattle.model.specs.Read.{Listed, Before, isType, byEntry, entryIn, byParameters, parametersOf, entityIn, referencesOf, referencesIn, firstEntry, lastPass, before, readModel, reads}
+use Rattle.passes.specs.declared.Pass.the-variants.{Good as Passes}
 use Rattle.passes.specs.Passes.{passOf}
-use Rattle.passes.specs.Listed.{listedAt, entryOf, allEntries, allTypes}
-use Rattle.passes.specs.Walks.{firstOf, entryCheck}
-use Rattle.passes.proofs.Facts.{Passed, passed-all, Entered, passed-entry, pointer-same, lines-same}
-use Rattle.passes.proofs.Spellings.{Stood, stood, types-length, types-at}
+use Rattle.passes.specs.Listed.{entryOf, allTypes}
+use Rattle.passes.specs.Walks.{entryCheck}
+use Rattle.passes.proofs.Facts.{Passed, passed-all, passed-entry, pointer-same, lines-same}
+use Rattle.passes.proofs.Spellings.{stood, types-length, types-at}
 use Rattle.passes.proofs.Walks.{each-good, row-walk, entries-walk}
 use Rattle.rewrap.specs.Rules.{Spells, EntryIs, InRange, EntryMeets, MeetsRules}
 use Rattle.rewrap.proofs.Spelling.{is-spelt}
-use Rattle.rewrap.proofs.GlobalRules.{GlobalMeets, global-sound}
+use Rattle.rewrap.proofs.GlobalRules.{global-sound}
 
 never : _≡_ {A = ℕ} 0 1 → ⊥
 never z = omega arith

@@ -1,5 +1,5 @@
 -- What a record's text spells is what is read of it. Assumes nothing.
-use mathlib.Core.Path.{_≡_, refl, sym, ap, _∙_}
+use mathlib.Core.Path.{_≡_, refl, ap, _∙_}
 use mathlib.Core.Bool.{Bool, true, false, cond, _&&_}
 use mathlib.Core.List.{List, [], _∷_}
 use Prim.Native.Nat.{ℕ, zero, suc, _+_, _-_, _≤_, _<_}
@@ -9,9 +9,8 @@ use lib.Dec.{eqb}
 use borrow.Author.Tests.{eqb-true, eq-eqb}
 use Rattle.columns.specs.declared.Fault.the-variants.{Spelling}
 use Rattle.columns.specs.Columns.{blank}
-use Rattle.columns.specs.Refusal.{accepted, demand}
+use Rattle.columns.specs.Refusal.{accepted}
 use Rattle.columns.proofs.Outcomes.{demand-accepted, demand-true}
-use Rattle.values.specs.declared.Value.{Value}
 use Rattle.values.specs.Value.{Item, itemOf}
 use Rattle.records.specs.declared.Got.{Got}
 use Rattle.records.specs.declared.Got.the-variants.{Found, Refused}

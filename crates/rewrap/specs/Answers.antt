@@ -1,11 +1,9 @@
 -- What the entry points answer, and what they leave in what was lent to them.
-use mathlib.Core.Path.{_≡_}
-use mathlib.Core.Bool.{Bool, true, false, cond, _&&_}
+use mathlib.Core.Bool.{cond, _&&_}
 use mathlib.Core.List.{List, [], _∷_, _++_, map}
 use Prim.Native.Nat.{ℕ, _+_, _*_, _/_, _%_}
-use lib.ListN.{length, getD, take, drop}
+use lib.ListN.{length, take, drop}
 use lib.Dec.{leb, ltb, eqb}
-use Rattle.columns.specs.declared.Fault.{Fault}
 use Rattle.columns.specs.declared.Fault.the-variants.{ListOrLength, Room}
 use Rattle.columns.specs.Refusal.{Outcome, accepted, refused, demand, number, _then_}
 use Rattle.columns.specs.Columns.{blank, lineBytes}
@@ -17,7 +15,6 @@ use Rattle.directory.specs.Lines.{parameterLine, slots, slotColumns, slotsALine
 use Rattle.layouts.specs.Known.{mostList}
 use Rattle.rewrap.specs.declared.Answer.{Answer}
 use Rattle.rewrap.specs.declared.Record.{Record}
-use Rattle.model.specs.Model.{Model}
 use Rattle.model.specs.Read.{Before, Listed, before, readModel, reads}
 use Rattle.model.specs.Write.{writes}
 

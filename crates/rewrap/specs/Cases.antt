@@ -1,6 +1,6 @@
 -- Cases a to l of document 01: what stands on the left is read as what stands on the right, or refused with that number.
 use mathlib.Core.Path.{_≡_, refl}
-use mathlib.Core.Bool.{Bool, true, false, cond}
+use mathlib.Core.Bool.{cond}
 use mathlib.Core.List.{List, [], _∷_, _++_, map}
 use Prim.Native.Nat.{ℕ}
 use Prim.Native.String.{String}
@@ -9,12 +9,11 @@ use Rattle.columns.specs.declared.Field.the-variants.{Number, Bad}
 use Rattle.columns.specs.Quoted.{codes}
 use Rattle.columns.specs.declared.Fault.the-variants.{Directory}
 use Rattle.columns.specs.Refusal.{number}
-use Rattle.columns.specs.Columns.{columns}
 use Rattle.columns.specs.Fixed.{digitsOf, fieldOf}
 use Rattle.columns.specs.Decimal.{lastDigits, dec}
 use Rattle.values.specs.Number.{power, powerAt, numberOf}
 use Rattle.values.specs.Head.{headOf}
-use Rattle.values.specs.Value.{Item, spelled}
+use Rattle.values.specs.Value.{spelled}
 use Rattle.records.specs.Record.{Values, values, wrong, nextAt, valueAt, valuesFrom, valuesAt}
 use Rattle.directory.specs.Rules.{statusOk}
 

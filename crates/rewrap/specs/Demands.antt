@@ -3,11 +3,10 @@ use mathlib.Core.Path.{_≡_}
 use mathlib.Core.Bool.{Bool, true, false}
 use mathlib.Core.List.{List, [], _∷_, map}
 use mathlib.Core.Logic.{_⊎_}
-use Prim.Native.Nat.{ℕ, _+_, _*_, _≤_, _<_}
-use lib.ListN.{length}
+use Prim.Native.Nat.{ℕ, _≤_, _<_}
 use Rattle.columns.specs.declared.Fault.{Fault}
 use Rattle.columns.specs.declared.Fault.the-variants.{TooLong}
-use Rattle.columns.specs.Refusal.{Outcome, accepted, refused, _then_}
+use Rattle.columns.specs.Refusal.{Outcome, accepted, refused}
 use Rattle.values.specs.Value.{Item}
 use Rattle.cards.specs.Cards.{mostLines, entries}
 use Rattle.directory.specs.declared.Fields.{Fields}
@@ -15,12 +14,12 @@ use Rattle.layouts.specs.Known.{mostList, known, Inside}
 use Rattle.layouts.specs.Larger.{Late}
 use Rattle.sheets.specs.Sheet.{Row, Sheet, row, sheetText, linesIn, sheetOf as sheetOfLines}
 use Rattle.rewrap.specs.declared.Record.{Record}
-use Rattle.model.specs.Model.{Carried, Model, typeOf, valueIn, sheetOf, modelOf}
+use Rattle.model.specs.Model.{Model, typeOf, valueIn, sheetOf, modelOf}
 use Rattle.model.specs.Canonical.{lineTotal, canonical}
-use Rattle.model.specs.Read.{Before, Listed, before, readModel, reads}
+use Rattle.model.specs.Read.{Before, before, readModel, reads}
 use Rattle.model.specs.Write.{writes}
-use Rattle.rewrap.specs.Rules.{MeetsRules, EntryIs, InRange}
-use Rattle.rewrap.specs.Answers.{readsInto, writesInto, tableInto, leftIn, slotsLeft}
+use Rattle.rewrap.specs.Rules.{MeetsRules, InRange}
+use Rattle.rewrap.specs.Answers.{leftIn, slotsLeft}
 
 abbrev Accepts : {A : Type 0} → Outcome A → Type 0
 Accepts {A} o = (a : A) × (o ≡ accepted a)

@@ -1,12 +1,12 @@
 -- The rules of document 01 for a file, with no order of checks in them.
 use mathlib.Core.Path.{_≡_}
-use mathlib.Core.Bool.{Bool, true, false}
-use mathlib.Core.List.{List, [], _∷_, map}
+use mathlib.Core.Bool.{true, false}
+use mathlib.Core.List.{List, [], _∷_}
 use Prim.Native.Nat.{ℕ, _+_, _*_, _≤_, _<_}
 use lib.ListN.{length, getD, drop}
-use Rattle.columns.specs.Columns.{blank, lineBytes, lineAt, textOf}
+use Rattle.columns.specs.Columns.{blank, lineBytes, textOf}
 use Rattle.values.specs.declared.Value.{Value}
-use Rattle.values.specs.Value.{Item, default, whole, itemOf, seen, isDefault}
+use Rattle.values.specs.Value.{Item, default, whole, itemOf, seen}
 use Rattle.records.specs.declared.Got.the-variants.{Found}
 use Rattle.records.specs.declared.Opening.the-variants.{Opened}
 use Rattle.records.specs.Record.{valueAt, trimmed}

@@ -1,18 +1,16 @@
 -- What the functions that read an entry line are asked.
-use mathlib.Core.Path.{_≡_, refl, sym, ap, _∙_}
-use mathlib.Core.Bool.{Bool, true, false, cond, _&&_}
-use mathlib.Core.List.{List, [], _∷_, _++_}
-use Prim.Native.Nat.{ℕ, zero, suc, _+_, _-_, _*_, _≤_, _<_}
+use mathlib.Core.Path.{_≡_, refl, _∙_}
+use mathlib.Core.Bool.{Bool, true, false}
+use mathlib.Core.List.{List, [], _∷_}
+use Prim.Native.Nat.{ℕ, suc, _+_, _-_, _≤_, _<_}
 use native.Mathlib.Numerals.{add-one}
 use native.Mathlib.Omega.{arith}
-use lib.ListN.{length, getD, take, drop, set, List·getD-eq-default}
-use lib.Seq.{take-suc-set, take-all, getD-drop}
-use lib.Dec.{ltb, leb, eqb}
-use borrow.Author.Tests.{le-leb, lt-leb, lt-ltb, le-ltb, eq-eqb, ne-eqb}
+use lib.ListN.{length, getD, take, set, List·getD-eq-default}
+use lib.Seq.{take-suc-set, take-all}
+use borrow.Author.Tests.{le-leb, lt-leb, lt-ltb, le-ltb, ne-eqb}
 use Rattle.columns.specs.declared.Signed.{Signed}
 use Rattle.columns.specs.Columns.{columns, printable}
-use Rattle.columns.proofs.Columns.{column, columns-none, columns-all, length-columns}
-use Rattle.directory.specs.declared.Fields.{Fields}
+use Rattle.columns.proofs.Columns.{column, length-columns}
 use Rattle.directory.specs.Fields.{nought}
 use Rattle.sheets.specs.declared.EntryLine.{EntryLine}
 use Rattle.sheets.specs.declared.EntryLine.the-variants.{Got, Wrong}

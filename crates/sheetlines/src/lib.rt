@@ -52,7 +52,7 @@ pub fn put_global_head(out: &mut [u8], at: usize, n: u32, v: Value) -> usize
     ensures { λ r. ⌜ r ≤ at + 67 ⌝ }
 {
     let a = put_mark(out, at, 71);
-    let b = emit::put_decimal(out, a, n as u64);
+    let b = decimals::put_decimal(out, a, n as u64);
     let c = emit::put(out, b, 9);
     spell::put_front(out, c, v)
 }
@@ -81,9 +81,9 @@ fn put_num(out: &mut [u8], at: usize, left: usize, x: Signed) -> usize
     ensures { λ r. ⌜ r ≤ at + 28 ⌝ }
 {
     if left == 3 {
-        return emit::put_right(out, at, 48, 8, x.size as u64);
+        return decimals::put_right(out, at, 48, 8, x.size as u64);
     }
-    emit::put_signed(out, at, x)
+    decimals::put_signed(out, at, x)
 }
 
 // The numbers of an entry line in their order.
@@ -174,9 +174,9 @@ fn num_len(left: usize, x: Signed) -> usize
     ensures { λ r. ⌜ r ≤ 20 ⌝ }
 {
     if left != 3 {
-        return emit::count_signed(x);
+        return decimals::count_signed(x);
     }
-    let count = emit::count_digits(x.size as u64);
+    let count = decimals::count_digits(x.size as u64);
     if count < 8 { 8 } else { count }
 }
 
@@ -216,6 +216,6 @@ pub fn put_last(out: &mut [u8], at: usize, n: usize) -> usize
     ensures { λ r. ⌜ r ≤ at + 23 ⌝ }
 {
     let a = put_mark(out, at, 90);
-    let b = emit::put_decimal(out, a, n as u64);
+    let b = decimals::put_decimal(out, a, n as u64);
     emit::put(out, b, 10)
 }

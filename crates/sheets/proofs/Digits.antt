@@ -1,21 +1,19 @@
 -- A number's spelling is read as that number, and what is read as a number is its spelling.
 use mathlib.Core.Path.{_≡_, refl, sym, ap, _∙_}
-use mathlib.Core.Bool.{Bool, true, false, cond, _&&_}
+use mathlib.Core.Bool.{Bool, true, false, cond}
 use mathlib.Core.List.{List, [], _∷_, _++_, append-assoc, append-nil}
 use Prim.Native.Nat.{ℕ, zero, suc, _+_, _-_, _*_, _/_, _%_, _^_, _≤_, _<_}
 use native.Mathlib.Nat.{pow-suc, mul-assoc, mul-pos}
 use native.Mathlib.Numerals.{add-one}
 use native.Mathlib.Omega.{arith}
 use native.Mathlib.Decide.{decLt, ℕ-discrete}
-use lib.ListN.{length, getD, take, drop, replicate, length-append, replicate-append-replicate}
-use lib.Dec.{ltb, leb, eqb}
-use borrow.Author.Tests.{le-leb, lt-leb, lt-ltb, le-ltb, eq-eqb, ne-eqb}
+use lib.ListN.{length, getD, drop, replicate, length-append, replicate-append-replicate}
+use borrow.Author.Tests.{eq-eqb, ne-eqb}
 use Rattle.columns.specs.Decimal.{dec, minus, signedDec, toRight, zeroFilled}
 use Rattle.columns.proofs.Decimals.{dec-small, dec-big, by-digits}
-use Rattle.columns.specs.declared.Signed.{Signed}
-use Rattle.sheets.specs.Plain.{sized, digitAfter, sizeFrom, minusOf, signedPlain, statusFrom, statusPlain}
+use Rattle.sheets.specs.Plain.{sized, digitAfter, sizeFrom, minusOf, signedPlain, statusPlain}
 use Rattle.sheets.specs.WellFormed.{Proper}
-use Rattle.sheets.proofs.Plains.{step-low, step-high, step-first, step-nought, step-big, step-more, run-here, run-on, minus-some, minus-nought, status-low, status-some, status-high}
+use Rattle.sheets.proofs.Plains.{step-low, step-high, step-first, step-nought, step-big, step-more, minus-some, minus-nought, status-low, status-some, status-high}
 
 pub dec-more : (n d : ℕ) → 0 < n → d < 10 → dec (n * 10 + d) ≡ dec n ++ ((48 + d) ∷ [])
 dec-more n d h k =

@@ -2,14 +2,14 @@
 use mathlib.Core.Path.{_≡_, refl, sym, ap, _∙_}
 use mathlib.Core.Bool.{Bool, true, false, cond, _&&_}
 use mathlib.Core.List.{List, [], _∷_, _++_, append-assoc, append-nil}
-use Prim.Native.Nat.{ℕ, zero, suc, _+_, _-_, _*_, _/_, _%_, _^_, _≤_, _<_}
+use Prim.Native.Nat.{ℕ, zero, suc, _+_, _-_, _%_, _≤_, _<_}
 use native.Mathlib.Numerals.{add-one}
 use native.Mathlib.Omega.{arith}
-use native.Mathlib.Decide.{decLt, ℕ-discrete}
-use lib.ListN.{length, getD, take, drop, length-append, length-drop, drop-of-length-le, replicate}
+use native.Mathlib.Decide.{ℕ-discrete}
+use lib.ListN.{length, getD, take, drop, length-append, drop-of-length-le, replicate}
 use lib.Seq.{take-append-seam, drop-append-add, drop-cons, drop-at}
 use lib.Dec.{ltb, leb, eqb}
-use borrow.Author.Tests.{le-leb, lt-ltb, eq-eqb, ne-eqb, eqb-true, eqb-false, ltb-true, leb-true}
+use borrow.Author.Tests.{le-leb, lt-ltb, ne-eqb, eqb-true, ltb-true, leb-true}
 use Rattle.columns.specs.Decimal.{dec, minus, signedDec, toRight, zeroFilled}
 use Rattle.columns.specs.Columns.{printable}
 use Rattle.columns.proofs.Decimals.{dec-small, dec-big, by-digits}
@@ -18,7 +18,7 @@ use Rattle.directory.specs.declared.Fields.{Fields}
 use Rattle.sheets.specs.declared.EntryLine.{EntryLine}
 use Rattle.sheets.specs.declared.EntryLine.the-variants.{Got, Wrong}
 use Rattle.directory.specs.Fields.{nought, inOrder, fieldsOf}
-use Rattle.sheets.specs.Plain.{sized, sizeFrom, signedPlain, statusPlain}
+use Rattle.sheets.specs.Plain.{sized, signedPlain, statusPlain}
 use Rattle.sheets.specs.Line.{numOf, spell, spells, run, isLabel, entryFrom, numbersOf, entryOf, labelOf, entryLine}
 use Rattle.sheets.specs.WellFormed.{Proper}
 use Rattle.columns.proofs.Tests.{both, both-right}

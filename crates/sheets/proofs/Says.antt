@@ -1,15 +1,15 @@
 -- A sheet's text and what its lines say: each tells the other.
 use mathlib.Core.Path.{_≡_, refl, sym, ap, _∙_}
-use mathlib.Core.Bool.{Bool, true, false, cond, not, _&&_, _||_}
-use mathlib.Core.List.{List, [], _∷_, _++_, append-assoc}
-use Prim.Native.Nat.{ℕ, zero, suc, _+_, _-_, _*_, _≤_, _<_}
+use mathlib.Core.Bool.{Bool, true, false, cond, not, _&&_}
+use mathlib.Core.List.{List, [], _∷_, _++_}
+use Prim.Native.Nat.{ℕ, suc, _+_, _-_, _≤_, _<_}
 use native.Mathlib.Numerals.{add-one}
 use native.Mathlib.Omega.{arith}
-use native.Mathlib.Decide.{decLt, ℕ-discrete}
+use native.Mathlib.Decide.{ℕ-discrete}
 use lib.ListN.{length, getD, take, drop, length-append}
 use lib.Seq.{take-append-seam, drop-append-add}
 use lib.Dec.{ltb, leb, eqb}
-use borrow.Author.Tests.{le-leb, lt-ltb, eq-eqb, ne-eqb, eqb-true, eqb-false, ltb-true, leb-true}
+use borrow.Author.Tests.{le-leb, lt-ltb, eq-eqb, ne-eqb, ltb-true, leb-true}
 use Rattle.columns.specs.declared.Signed.{Signed}
 use Rattle.columns.specs.Columns.{printable}
 use Rattle.columns.specs.Decimal.{dec}
@@ -17,7 +17,7 @@ use Rattle.columns.proofs.Tests.{both, both-left, both-right}
 use Rattle.values.specs.declared.Value.{Value}
 use Rattle.values.specs.declared.Strict.{Strict}
 use Rattle.values.specs.declared.Strict.the-variants.{Is, Not}
-use Rattle.values.specs.Value.{Item, itemOf, isDefault, spelled, Fine, Printed}
+use Rattle.values.specs.Value.{Item, itemOf, spelled}
 use Rattle.values.specs.Strict.{strictOf}
 use Rattle.values.proofs.OneSpelling.{placed, placed-item, sound, complete}
 use Rattle.directory.specs.declared.Fields.{Fields}
@@ -25,7 +25,7 @@ use Rattle.directory.specs.Fields.{inOrder}
 use Rattle.sheets.specs.declared.EntryLine.{EntryLine}
 use Rattle.sheets.specs.declared.EntryLine.the-variants.{Got, Wrong}
 use Rattle.sheets.specs.declared.Said.{Said}
-use Rattle.sheets.specs.declared.Said.the-variants.{Start, Global, Entry, Value as Given, Last, Nothing}
+use Rattle.sheets.specs.declared.Said.the-variants.{Start, Global, Last, Nothing}
 use Rattle.sheets.specs.Plain.{sizeFrom, sized}
 use Rattle.sheets.specs.Line.{run, isLabel, spells, entryOf, labelOf, entryLine}
 use Rattle.sheets.specs.Sheet.{Line, start, global, entry, value, last, none, lineFrom, into, piecesOf, isMissing, isMark, isStart, startLine, globalOf, globalLine, entryLineOf, valueOf, lastLine, byMark, saysOf, saidBy, lastPiece, saidByAll, lineOf, textOf}

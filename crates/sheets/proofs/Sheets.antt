@@ -1,7 +1,7 @@
 -- A sheet's text is read as that sheet, and what is read of a text is a sheet with that text: sheets have one spelling. Assumes nothing.
 use mathlib.Core.Path.{_≡_, refl, sym, ap, _∙_}
 use mathlib.Core.Bool.{Bool, true, false}
-use mathlib.Core.List.{List, [], _∷_, _++_}
+use mathlib.Core.List.{List, [], _∷_}
 use Prim.Native.Nat.{ℕ, zero, suc, _+_, _-_, _*_, _≤_, _<_}
 use native.Mathlib.Omega.{arith}
 use native.Mathlib.Decide.{ℕ-discrete}
@@ -9,19 +9,18 @@ use lib.ListN.{length, getD}
 use Rattle.columns.specs.declared.Fault.the-variants.{SheetLine as WrongSheet}
 use Rattle.columns.specs.declared.Signed.{Signed}
 use Rattle.columns.specs.declared.SheetLine.{SheetLine}
-use Rattle.columns.specs.Refusal.{Outcome, accepted, refused}
+use Rattle.columns.specs.Refusal.{accepted, refused}
 use Rattle.values.specs.Value.{Item}
 use Rattle.directory.specs.declared.Fields.{Fields}
 use Rattle.directory.specs.Fields.{nought, inOrder}
 use Rattle.sheets.specs.declared.Verdict.{Verdict}
 use Rattle.sheets.specs.declared.Verdict.the-variants.{Good, Wrong}
 use Rattle.sheets.specs.Plain.{sized}
-use Rattle.sheets.specs.Line.{isLabel}
-use Rattle.sheets.specs.Sheet.{Line, start, global, entry, value, last, none, isStart, piecesOf, saidByAll, linesIn, textOf, Row, Sheet, startLines, globalLines, valueLines, rowLines, linesOf, sheetText, Parts, parts, with, partsOf, sheetOf}
+use Rattle.sheets.specs.Sheet.{Line, isStart, piecesOf, saidByAll, linesIn, Row, Sheet, startLines, globalLines, valueLines, rowLines, linesOf, sheetText, parts, partsOf, sheetOf}
 use Rattle.sheets.specs.Order.{begin, goLines, verdictOf, outcome, readSheet}
-use Rattle.sheets.specs.WellFormed.{Ordered, Each, none as no-each, one as an-each, Proper, Numbered, Held, Filled, RowSpelt, Spelt, WellFormed}
+use Rattle.sheets.specs.WellFormed.{Each, none as no-each, one as an-each, Proper, Numbered, Held, Filled, RowSpelt, Spelt, WellFormed}
 use Rattle.sheets.proofs.Round.{Fits, eight, plain, AllFit, nil, cons}
-use Rattle.sheets.proofs.Says.{own, Well, w-start, w-global, w-entry, w-value, w-last, AllWell, no-lines, a-line, text-round, text-back}
+use Rattle.sheets.proofs.Says.{own, w-start, w-global, w-entry, w-value, w-last, AllWell, no-lines, a-line, text-round, text-back}
 use Rattle.sheets.proofs.Taken.{sheet-on}
 use Rattle.sheets.proofs.Takes.{all-said, order-back}
 

@@ -1,24 +1,20 @@
 -- The machine over the lines takes the lines of a sheet that is in order.
-use mathlib.Core.Path.{_≡_, refl, sym, ap, _∙_}
-use mathlib.Core.Bool.{Bool, true, false, cond, _&&_, _||_}
-use mathlib.Core.List.{List, [], _∷_, _++_}
-use Prim.Native.Nat.{ℕ, zero, suc, _+_, _-_, _*_, _≤_, _<_}
-use native.Mathlib.Nat.{add-zero}
+use mathlib.Core.Path.{_≡_, refl, ap, _∙_}
+use mathlib.Core.Bool.{Bool, false, cond}
+use mathlib.Core.List.{List, [], _∷_}
+use Prim.Native.Nat.{ℕ, suc, _+_, _-_, _*_, _≤_, _<_}
 use native.Mathlib.Omega.{arith}
 use lib.ListN.{length}
-use lib.Dec.{ltb, leb, eqb}
-use borrow.Author.Tests.{le-leb, lt-leb, lt-ltb, le-ltb, eq-eqb, ne-eqb}
-use Rattle.columns.specs.declared.Signed.{Signed}
-use Rattle.directory.specs.declared.Fields.{Fields}
+use lib.Dec.{eqb}
+use borrow.Author.Tests.{le-leb, lt-ltb, eq-eqb}
 use Rattle.sheets.specs.declared.State.{State}
-use Rattle.sheets.specs.declared.Step.{Step}
-use Rattle.sheets.specs.declared.Step.the-variants.{On, Off}
+use Rattle.sheets.specs.declared.Step.the-variants.{On}
 use Rattle.sheets.specs.declared.Verdict.{Verdict}
-use Rattle.sheets.specs.declared.Verdict.the-variants.{Good, Wrong}
+use Rattle.sheets.specs.declared.Verdict.the-variants.{Good}
 use Rattle.sheets.specs.Plain.{sized}
 use Rattle.values.specs.Value.{Item, isDefault}
-use Rattle.sheets.specs.Sheet.{Line, start, global, entry, value, last, none, Row, Sheet, startLines, globalLines, valueLines, rowLines, linesOf}
-use Rattle.sheets.specs.Order.{sheetLine, begin, next, closed, startStep, globalStep, entryStep, valueStep, lastStep, noneStep, stepLine, verdict, finish, goLines}
+use Rattle.sheets.specs.Sheet.{Line, value, last, Row, Sheet, startLines, globalLines, valueLines, rowLines, linesOf}
+use Rattle.sheets.specs.Order.{begin, closed, startStep, globalStep, entryStep, valueStep, lastStep, stepLine, finish, goLines}
 use Rattle.sheets.specs.WellFormed.{endsDefault, Rising, no-more, higher, Closed, no-rows, a-row, Ordered}
 
 go-on : (st st′ : State) (i : Line) (is : List Line) → stepLine st i ≡ On st′ → goLines st (i ∷ is) ≡ goLines st′ is

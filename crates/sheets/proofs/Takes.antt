@@ -1,22 +1,21 @@
 -- What the machine over the lines takes is the lines of a sheet.
-use mathlib.Core.Path.{_≡_, refl, sym, ap, _∙_}
-use mathlib.Core.Bool.{Bool, true, false, cond, not, _&&_, _||_}
-use mathlib.Core.List.{List, [], _∷_, _++_}
-use Prim.Native.Nat.{ℕ, zero, suc, _+_, _-_, _*_, _≤_, _<_}
+use mathlib.Core.Path.{_≡_, refl, ap, _∙_}
+use mathlib.Core.Bool.{Bool, true, false, cond, not, _&&_}
+use mathlib.Core.List.{List, [], _∷_}
+use Prim.Native.Nat.{ℕ, _+_, _-_, _*_, _≤_, _<_}
 use native.Mathlib.Omega.{arith}
 use lib.ListN.{length}
 use lib.Dec.{ltb, leb, eqb}
-use borrow.Author.Tests.{le-leb, lt-leb, lt-ltb, le-ltb, eq-eqb, ne-eqb, eqb-true, leb-true, ltb-true}
+use borrow.Author.Tests.{eq-eqb, ne-eqb, eqb-true, leb-true, ltb-true}
 use Rattle.columns.specs.declared.Signed.{Signed}
 use Rattle.directory.specs.declared.Fields.{Fields}
 use Rattle.sheets.specs.declared.State.{State}
 use Rattle.sheets.specs.declared.Step.{Step}
 use Rattle.sheets.specs.declared.Step.the-variants.{On, Off}
-use Rattle.sheets.specs.declared.Verdict.{Verdict}
 use Rattle.sheets.specs.declared.Verdict.the-variants.{Good, Wrong}
 use Rattle.sheets.specs.Plain.{sized}
 use Rattle.values.specs.Value.{Item, isDefault}
-use Rattle.sheets.specs.Sheet.{Line, start, global, entry, value, last, none, Row, Sheet, startLines, globalLines, valueLines, rowLines, linesOf, Parts, parts, with, partsOf, sheetOf}
+use Rattle.sheets.specs.Sheet.{Line, start, global, entry, value, last, none, startLines, globalLines, valueLines, rowLines, linesOf, Parts, parts, with, partsOf, sheetOf}
 use Rattle.sheets.specs.Order.{sheetLine, begin, next, closed, startStep, globalStep, entryStep, valueStep, lastStep, noneStep, stepLine, verdict, finish, goLines}
 use Rattle.sheets.specs.WellFormed.{endsDefault, Rising, no-more, higher, Closed, no-rows, a-row, Ordered}
 use Rattle.sheets.proofs.Says.{Says, AllSaid, none-said, one-said}

@@ -1,5 +1,5 @@
 -- Value lines are told by how they begin: what follows R or V and a tab is a value, or the line says nothing; no other line says a value.
-use mathlib.Core.Path.{_≡_, refl, sym, ap, _∙_}
+use mathlib.Core.Path.{_≡_, sym, ap, _∙_}
 use mathlib.Core.Bool.{Bool, true, false, cond, not, _&&_, _||_}
 use mathlib.Core.List.{List}
 use Prim.Native.Nat.{ℕ, suc, _+_, _-_, _≤_, _<_}
@@ -7,7 +7,7 @@ use native.Mathlib.Omega.{arith}
 use native.Mathlib.Decide.{ℕ-discrete, decLe}
 use lib.ListN.{length, getD, take, drop, List·getD-eq-default}
 use lib.Dec.{ltb, leb, eqb}
-use borrow.Author.Tests.{eqb-true, eq-eqb, ne-eqb}
+use borrow.Author.Tests.{eqb-true, ne-eqb}
 use Rattle.columns.specs.Columns.{columns}
 use Rattle.columns.proofs.Columns.{byte-of, length-columns}
 use Rattle.columns.proofs.Tests.{cond-cases, both-left, both-right}
@@ -18,8 +18,7 @@ use Rattle.values.specs.Strict.{strictOf}
 use Rattle.records.specs.Global.{firstField, lastField}
 use Rattle.sheets.specs.declared.EntryLine.{EntryLine}
 use Rattle.sheets.specs.declared.EntryLine.the-variants.{Got, Wrong}
-use Rattle.sheets.specs.declared.Said.{Said}
-use Rattle.sheets.specs.declared.Said.the-variants.{Start, Global, Entry, Value as Given, Last, Nothing}
+use Rattle.sheets.specs.declared.Said.the-variants.{Start, Global, Value as Given, Last, Nothing}
 use Rattle.sheets.specs.Plain.{most, plainOf}
 use Rattle.sheets.specs.Line.{run, entryOf}
 use Rattle.sheets.specs.Sheet.{isMark, isValue, isMissing, isStart, startLine, globalOf, globalLine, entryLineOf, valueOf, lastLine, byMark, saysOf}

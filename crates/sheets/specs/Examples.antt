@@ -1,19 +1,18 @@
 -- Worked sheets: in their texts > is a tab and | is LF.
 use mathlib.Core.Path.{_≡_, refl}
-use mathlib.Core.Bool.{Bool, true, false, cond}
+use mathlib.Core.Bool.{true, false, cond}
 use mathlib.Core.List.{List, [], _∷_, map}
 use Prim.Native.Nat.{ℕ}
-use Prim.Native.Char.{Char, code}
+use Prim.Native.Char.{code}
 use Prim.Native.String.{String, [] as []ˢ, _∷_ as _∷ˢ_}
 use lib.Dec.{eqb}
 use Rattle.columns.specs.Columns.{printable, sameBytes}
 use Rattle.columns.specs.Decimal.{lastDigits, dec, signedDec, toRight}
-use Rattle.columns.specs.Refusal.{Outcome, accepted}
+use Rattle.columns.specs.Refusal.{accepted}
 use Rattle.values.specs.Number.{power, powerAt, numberOf}
 use Rattle.values.specs.Head.{headOf}
 use Rattle.values.specs.Value.{real, text, spelled}
 use Rattle.values.specs.Strict.{strictOf}
-use Rattle.directory.specs.declared.Fields.{Fields}
 use Rattle.directory.specs.Fields.{nought, fieldsOf}
 use Rattle.sheets.specs.declared.Verdict.{Verdict}
 use Rattle.sheets.specs.declared.Verdict.the-variants.{Good, Wrong}

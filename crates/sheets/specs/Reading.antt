@@ -8,7 +8,6 @@ use Rattle.sheets.specs.declared.Said.the-variants.{Start, Global, Entry
 use Rattle.sheets.specs.declared.State.{State}
 use Rattle.sheets.specs.declared.Step.{Step}
 use Rattle.sheets.specs.declared.Verdict.{Verdict}
-use Rattle.sheets.specs.declared.Verdict.the-variants.{Good, Wrong}
 use Rattle.sheets.specs.Sheet.{isMissing}
 use Rattle.sheets.specs.Order.{startStep, globalStep, entryStep, valueStep, lastStep, noneStep, verdict}
 

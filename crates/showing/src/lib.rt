@@ -20,7 +20,7 @@ fn put_number(out: &mut [u8], at: usize, n: u64, end: u8) -> usize
     ensures { λ r. ⌜ Wrote (now (out .entry)) at (dec n ++ (end ∷ [])) (now (out .exit)) r ⌝ }
     ensures { λ r. ⌜ r ≤ at + 21 ⌝ }
 {
-    let next = emit::put_decimal(out, at, n);
+    let next = decimals::put_decimal(out, at, n);
     emit::put(out, next, end)
 }
 
@@ -45,7 +45,7 @@ pub fn show(file: &[u8], out: &mut [u8]) -> usize
     if MOST_INPUT < file.len() {
         return put_refusal(out, 1, 0);
     }
-    let told = rewrap::read(LIST, file, out);
+    let told = unwrap::read(LIST, file, out);
     let number = told.number;
     let place = told.place;
     let length = told.length as usize;

@@ -1,8 +1,7 @@
 // A value's one spelling, laid over a lent buffer; with an empty buffer it is measured.
 use values::Value;
 ghost use mathlib.Core.Path.{_≡_};
-ghost use mathlib.Core.List.{[], _∷_};
-ghost use Prim.Native.Nat.{ℕ, _+_, _^_, _≤_, _<_};
+ghost use Prim.Native.Nat.{_+_, _^_, _≤_, _<_};
 ghost use lib.ListN.{length};
 ghost use Rattle.columns.specs.Decimal.{minus};
 ghost use Rattle.columns.specs.Laid.{Wrote};
@@ -44,7 +43,7 @@ fn put_power(out: &mut [u8], at: usize, eneg: bool, e: u32, double: bool) -> usi
     let x = letter_of(double);
     let a = emit::put(out, at, x);
     let b = put_sign(out, a, eneg);
-    emit::put_decimal(out, b, n)
+    decimals::put_decimal(out, b, n)
 }
 
 // The exponent, where the spelling has one.
@@ -70,7 +69,7 @@ pub fn put_whole(out: &mut [u8], at: usize, neg: bool, size: u32) -> usize
 {
     let n = wide(size);
     let a = put_sign(out, at, neg);
-    emit::put_decimal(out, a, n)
+    decimals::put_decimal(out, a, n)
 }
 
 // A real.
@@ -88,7 +87,7 @@ pub fn put_real(
     ensures { λ r. ⌜ r ≤ at + 44 ⌝ }
 {
     let a = put_sign(out, at, neg);
-    let b = emit::put_decimal(out, a, m);
+    let b = decimals::put_decimal(out, a, m);
     let c = emit::put(out, b, 46);
     put_exponent(out, c, eneg, e, double)
 }
@@ -99,7 +98,7 @@ pub fn put_head(out: &mut [u8], at: usize, count: usize) -> usize
     ensures { λ r. ⌜ Wrote (now (out .entry)) at (head count) (now (out .exit)) r ⌝ }
     ensures { λ r. ⌜ r ≤ at + 44 ⌝ }
 {
-    let a = emit::put_decimal(out, at, count as u64);
+    let a = decimals::put_decimal(out, at, count as u64);
     emit::put(out, a, 72)
 }
 
@@ -136,33 +135,33 @@ fn exponent_len(eneg: bool, e: u32, double: bool) -> usize
 {
     let s = sign_len(eneg);
     if double {
-        return 1 + s + emit::count_digits(wide(e));
+        return 1 + s + decimals::count_digits(wide(e));
     }
     if e == 0 {
         return 0;
     }
-    1 + s + emit::count_digits(wide(e))
+    1 + s + decimals::count_digits(wide(e))
 }
 
 // How long an integer is.
 pub fn whole_len(neg: bool, size: u32) -> usize
     ensures { λ r. ⌜ (r ≡ length (spelled (whole neg size))) × (r ≤ 44) ⌝ }
 {
-    sign_len(neg) + emit::count_digits(wide(size))
+    sign_len(neg) + decimals::count_digits(wide(size))
 }
 
 // How long a real is.
 pub fn real_len(neg: bool, m: u64, eneg: bool, e: u32, double: bool) -> usize
     ensures { λ r. ⌜ (r ≡ length (spelled (real neg m eneg e double))) × (r ≤ 44) ⌝ }
 {
-    sign_len(neg) + emit::count_digits(m) + 1 + exponent_len(eneg, e, double)
+    sign_len(neg) + decimals::count_digits(m) + 1 + exponent_len(eneg, e, double)
 }
 
 // How long a string's count and its H are.
 pub fn head_len(count: usize) -> usize
     ensures { λ r. ⌜ (r ≡ length (head count)) × (r ≤ 44) ⌝ }
 {
-    emit::count_digits(count as u64) + 1
+    decimals::count_digits(count as u64) + 1
 }
 
 // How long a value is but for a string's characters.

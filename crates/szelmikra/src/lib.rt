@@ -10,7 +10,7 @@ pub extern "C" fn szelmikra_read(list: u64, file: &[u8], sheet: &mut [u8]) -> An
     ensures { λ r. ⌜ r ≡ answerOf (readsInto list (now (file .entry)) (length (now (sheet .entry)))) ⌝ }
     ensures { λ r. ⌜ now (sheet .exit) ≡ leftIn (now (sheet .entry)) (readsInto list (now (file .entry)) (length (now (sheet .entry)))) ⌝ }
 {
-    rewrap::read(list, file, sheet)
+    unwrap::read(list, file, sheet)
 }
 
 // Writes a sheet to its canonical file.
@@ -19,5 +19,5 @@ pub extern "C" fn szelmikra_write(list: u64, sheet: &[u8], file: &mut [u8]) -> A
     ensures { λ r. ⌜ r ≡ answerOf (writesInto list (now (sheet .entry)) (length (now (file .entry)))) ⌝ }
     ensures { λ r. ⌜ now (file .exit) ≡ leftIn (now (file .entry)) (writesInto list (now (sheet .entry)) (length (now (file .entry)))) ⌝ }
 {
-    rewrap::write(list, sheet, file)
+    wrap::write(list, sheet, file)
 }

@@ -1,9 +1,8 @@
 -- What is done with the table: by the plan, and by the records of a file's entries.
-use mathlib.Core.Path.{_≡_}
 use mathlib.Core.Bool.{cond}
 use mathlib.Core.List.{List}
-use Prim.Native.Nat.{ℕ, zero, suc, _+_, _*_, _≤_}
-use lib.ListN.{length, set}
+use Prim.Native.Nat.{ℕ, zero, suc, _+_, _*_}
+use lib.ListN.{set}
 use lib.Dec.{leb}
 use Rattle.columns.specs.declared.Fault.the-variants.{Room}
 use Rattle.columns.specs.declared.ParameterLine.{ParameterLine}

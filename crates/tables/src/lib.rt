@@ -10,7 +10,7 @@ use rewrap::Answer;
 use rewrap::Record;
 use rewrap::answers;
 ghost use mathlib.Core.Path.{_≡_};
-ghost use Prim.Native.Nat.{_+_, _*_, _^_, _<_, _≤_};
+ghost use Prim.Native.Nat.{_+_, _*_, _<_, _≤_};
 ghost use lib.ListN.{length};
 ghost use Rattle.rewrap.specs.Answers.{answerOf, tableInto, slotsLeft};
 ghost use Rattle.tables.specs.Tables.{planWith, planOf, recordIn};
@@ -52,7 +52,7 @@ fn plan_with(c: Counts, room: usize) -> Plan
 fn plan_for(list: u64, file: &[u8], room: usize) -> Plan
     ensures { λ r. ⌜ r ≡ planOf list (now (file .entry)) room ⌝ }
 {
-    let told = reading::check(list, file);
+    let told = weighing::check(list, file);
     match told {
         Checked::Refused { fault, line } => {
             let answer = answers::refusal(fault, line.0);

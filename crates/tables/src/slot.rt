@@ -56,7 +56,7 @@ fn no_fields() -> Fields
 fn record_with(fields: Fields, label: [u8; 8], pointer: ParameterLine, lines: u32) -> Record
     ensures { λ r. ⌜ r ≡ recordSpelt fields label pointer lines ⌝ }
 {
-    let entry = directory::rules::entry_of(fields);
+    let entry = entryrules::entry_of(fields);
     Record {
         entry,
         label,

@@ -1,10 +1,10 @@
 // A pack of vectors: for each seven numbers of eight digits (0 to read and 1 to write; list; number and place of the answer; how long its name,
 // its input and its expected output are), an LF, and those three.
-use columns::wide;
 use crate::Packed;
 use columns::Field;
-use columns::fields::read_field;
-ghost use Prim.Native.Nat.{_+_, _^_, _≤_, _<_};
+use columns::wide;
+use fixed::read_field;
+ghost use Prim.Native.Nat.{_+_, _≤_, _<_};
 ghost use lib.ListN.{length};
 ghost use Rattle.trying.specs.Packs.{Lies};
 

@@ -1,6 +1,6 @@
 // A buffer made ready, so that a byte that was changed is seen.
 ghost use mathlib.Core.Path.{_≡_};
-ghost use lib.ListN.{length, replicate};
+ghost use lib.ListN.{length};
 
 // What it is filled with: a byte that no sheet and no file has.
 const FILL: u8 = 170;

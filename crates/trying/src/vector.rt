@@ -4,7 +4,6 @@ use crate::room::untouched;
 use columns::look::same;
 use rewrap::Answer;
 ghost use mathlib.Core.Path.{_≡_};
-ghost use Prim.Native.Nat.{_≤_};
 ghost use lib.ListN.{length};
 
 // What a vector asks for: to be read, or else to be written.
@@ -38,9 +37,9 @@ fn run(op: u64, list: u64, input: &[u8], out: &mut [u8]) -> Answer
     ensures { λ _. ⌜ length (now (out .exit)) ≡ length (now (out .entry)) ⌝ }
 {
     if op == READ {
-        return rewrap::read(list, input, out);
+        return unwrap::read(list, input, out);
     }
-    rewrap::write(list, input, out)
+    wrap::write(list, input, out)
 }
 
 // Whether the answer and the bytes are the expected ones; a refusal has no bytes.

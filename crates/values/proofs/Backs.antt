@@ -27,7 +27,7 @@ use Rattle.values.specs.Number.{isDigit}
 use Rattle.values.specs.Head.{headOf}
 use Rattle.values.specs.Value.{head}
 use Rattle.values.specs.Writing.{Inside, Placed}
-use Rattle.values.specs.Strict.{spelt, numeral, string, byHead, strictOf}
+use Rattle.values.specs.Strict.{spelt, numeral, byHead, strictOf}
 use Rattle.values.specs.Direct.{longer, decimal, isWhole, isNought, isNormal, asWhole, asReal, byExponent, behindLetter, behindPoint, behindCount, behindDigits, directOf}
 use Rattle.values.proofs.Laws.{and-left}
 use Rattle.values.proofs.Ends.{inside}

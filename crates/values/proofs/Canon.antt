@@ -1,24 +1,24 @@
 -- What is read keeps its limits: a number that is read is fine, and so is what a string's head promises. Assumes nothing.
-use mathlib.Core.Path.{_≡_, refl, sym, ap, _∙_}
+use mathlib.Core.Path.{_≡_, refl}
 use mathlib.Core.Bool.{Bool, true, false, cond, _&&_}
-use mathlib.Core.List.{List, [], _∷_, _++_}
-use Prim.Native.Nat.{ℕ, zero, suc, _+_, _-_, _*_, _/_, _%_, _^_, _≤_, _<_}
-use native.Mathlib.Nat.{pow-suc, div-one, mul-comm, div-div-eq-div-mul, zero-div, zero-add, add-zero, add-suc, suc-add}
+use mathlib.Core.List.{List, _++_}
+use Prim.Native.Nat.{ℕ, zero, suc, _+_, _-_, _/_, _%_, _^_, _≤_, _<_}
+use native.Mathlib.Nat.{pow-suc, div-one, mul-comm, div-div-eq-div-mul, zero-div}
 use native.Mathlib.Omega.{arith}
 use lib.ListN.{length, getD, drop, length-append}
 use lib.Dec.{ltb, leb, eqb}
-use borrow.Author.Tests.{ltb-true, ltb-false, leb-true, eqb-true, eqb-false}
+use borrow.Author.Tests.{ltb-true, leb-true, eqb-true, eqb-false}
 use Rattle.values.specs.declared.Number.{Number}
 use Rattle.values.specs.declared.Number.the-variants.{Whole, Real, Beyond, Bad}
 use Rattle.values.specs.declared.Power.{Power}
 use Rattle.values.specs.declared.Power.the-variants.{None, Wrong, Of}
-use Rattle.values.specs.Number.{isDigit, digits, value, tens, token, signLen, pointLen, powerAt, wholeOf, normal, realOf, byPower, finish, numberOf}
+use Rattle.values.specs.Number.{digits, value, tens, token, signLen, pointLen, powerAt, wholeOf, normal, realOf, byPower, finish, numberOf}
 use Rattle.values.specs.declared.Head.{Head}
 use Rattle.values.specs.declared.Head.the-variants.{Count, Plain}
 use Rattle.values.specs.Head.{headOf}
 use Rattle.values.specs.Value.{Item, whole, real, Normal, nought, times, over, Fine, fine-whole, fine-real}
 use Rattle.values.proofs.Laws.{three}
-use Rattle.values.proofs.Digits.{Ds, ds-append, digits-ds, value-below}
+use Rattle.values.proofs.Digits.{ds-append, digits-ds, value-below}
 
 -- what is left of v has no zero at its end
 tens-all : (n v : ℕ) → v < 10 ^ n → (v ≡ 0 → ⊥) → v / 10 ^ tens n v % 10 ≡ 0 → ⊥

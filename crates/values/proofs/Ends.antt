@@ -1,13 +1,13 @@
 -- Where a number ends: within the text, and behind its start. Assumes nothing.
-use mathlib.Core.Path.{_≡_, refl, sym, ap, _∙_}
+use mathlib.Core.Path.{_≡_, refl}
 use mathlib.Core.Bool.{Bool, true, false, cond, _&&_, _||_}
 use mathlib.Core.List.{List, [], _∷_, _++_}
-use Prim.Native.Nat.{ℕ, zero, suc, _+_, _-_, _^_, _≤_, _<_, min}
+use Prim.Native.Nat.{ℕ, suc, _+_, _-_, _≤_, _<_, min}
 use native.Mathlib.Omega.{arith}
 use lib.ListN.{length, getD, drop, length-drop, List·getD-eq-default}
 use lib.Dec.{ltb, leb, eqb}
 use borrow.Author.Tests.{ltb-true, ltb-false, eqb-true, eqb-false}
-use Rattle.values.specs.declared.Number.the-variants.{Whole, Real, Beyond, Bad}
+use Rattle.values.specs.declared.Number.the-variants.{Bad}
 use Rattle.values.specs.declared.Token.{Token}
 use Rattle.values.specs.declared.Power.{Power}
 use Rattle.values.specs.declared.Power.the-variants.{None, Wrong, Of}

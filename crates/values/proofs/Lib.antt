@@ -11,3 +11,4 @@ pub mod Decimals
 pub mod Direct
 pub mod Backs
 pub mod Fronts
+pub mod Steps

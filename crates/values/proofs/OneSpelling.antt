@@ -3,7 +3,7 @@
 use mathlib.Core.Path.{_≡_, refl, sym, ap, _∙_}
 use mathlib.Core.Bool.{Bool, true, false, cond, _&&_}
 use mathlib.Core.List.{List, [], _∷_, _++_, append-assoc, append-nil}
-use Prim.Native.Nat.{ℕ, suc, _+_, _-_, _≤_, _<_}
+use Prim.Native.Nat.{ℕ, _+_, _-_, _≤_, _<_}
 use native.Mathlib.Omega.{arith}
 use native.Mathlib.Numerals.{add-one}
 use lib.ListN.{length, getD, take, drop, length-append, length-drop}
@@ -26,10 +26,10 @@ use Rattle.values.specs.declared.Strict.the-variants.{Is, Not}
 use Rattle.values.specs.Number.{digits, value, numberOf}
 use Rattle.values.specs.Head.{headOf}
 use Rattle.values.specs.Value.{Item, default, whole, real, text, itemOf, head, spelled, Fine, fine-default, fine-whole, fine-real, fine-text, Printed}
-use Rattle.values.specs.Strict.{spelt, numeral, string, byHead, strictOf}
+use Rattle.values.specs.Strict.{numeral, string, byHead, strictOf}
 use Rattle.values.proofs.Laws.{three}
 use Rattle.values.proofs.Ends.{inside}
-use Rattle.values.proofs.Digits.{Ds, digits-ds, digits-rest, value-below, plain-dec}
+use Rattle.values.proofs.Digits.{digits-ds, digits-rest, value-below, plain-dec}
 use Rattle.values.proofs.Canon.{Numeral, is-whole, is-real, read-fine}
 use Rattle.values.proofs.Round.{round, round-text}
 use Rattle.values.proofs.Sizes.{number-some}

@@ -1,25 +1,25 @@
 -- A spelling, with anything behind it that cannot go on with it, is read as the value that it spells, and to its end. Assumes nothing.
 use mathlib.Core.Path.{_≡_, refl, sym, ap, _∙_}
-use mathlib.Core.Bool.{Bool, true, false, cond, _&&_, _||_}
+use mathlib.Core.Bool.{Bool, true, false, cond, _||_}
 use mathlib.Core.List.{List, [], _∷_, _++_, append-assoc, append-nil}
-use Prim.Native.Nat.{ℕ, zero, suc, _+_, _-_, _*_, _/_, _%_, _^_, _≤_, _<_}
+use Prim.Native.Nat.{ℕ, zero, suc, _+_, _-_, _%_, _≤_}
 use native.Mathlib.Nat.{zero-add, zero-div, div-one, sub-zero}
 use native.Mathlib.Omega.{arith}
 use lib.ListN.{length, getD, drop, length-append}
 use lib.Seq.{drop-append-seam}
-use lib.Dec.{ltb, leb, eqb}
+use lib.Dec.{ltb, eqb}
 use borrow.Author.Tests.{ltb-false, eqb-true, eqb-false, ne-eqb, le-leb}
 use Rattle.columns.specs.Decimal.{dec, minus}
 use Rattle.columns.proofs.Decimals.{dec-some, length-dec-le}
 use Rattle.values.specs.declared.Number.{Number}
-use Rattle.values.specs.declared.Number.the-variants.{Whole, Real, Beyond, Bad}
-use Rattle.values.specs.declared.Power.the-variants.{None, Wrong, Of}
+use Rattle.values.specs.declared.Number.the-variants.{Whole, Real}
+use Rattle.values.specs.declared.Power.the-variants.{None, Of}
 use Rattle.values.specs.declared.Head.the-variants.{Count, Plain}
 use Rattle.values.specs.Number.{isDigit, joins, digits, value, tens, token, pointLen, power, powerAt, normal, realOf, finish, numberOf}
 use Rattle.values.specs.Head.{headOf}
-use Rattle.values.specs.Value.{Item, default, whole, real, text, letter, tenTo, exponent, head, spelled, Normal, nought, times, over, Fine, fine-default, fine-whole, fine-real, fine-text}
+use Rattle.values.specs.Value.{Item, whole, real, text, letter, tenTo, head, spelled, Normal, nought, times, over, Fine, fine-whole, fine-real}
 use Rattle.values.proofs.Laws.{number-of, power-none, real-pos, real-neg}
-use Rattle.values.proofs.Digits.{Ds, none, one, digits-append, ds-first, dec-ds, dec-value, Stops, stops, next, here, signed}
+use Rattle.values.proofs.Digits.{Ds, none, digits-append, ds-first, dec-ds, dec-value, Stops, stops, next, here, signed}
 use Rattle.values.proofs.Canon.{Numeral, is-whole, is-real}
 use Rattle.values.proofs.Sizes.{sizes}
 

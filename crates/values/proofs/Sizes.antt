@@ -1,5 +1,5 @@
 -- How long a spelling is, and of what bytes. Assumes nothing.
-use mathlib.Core.Path.{_≡_, refl, sym, ap, _∙_}
+use mathlib.Core.Path.{_≡_, refl}
 use mathlib.Core.Bool.{Bool, true, false, cond, _||_}
 use mathlib.Core.List.{List, [], _∷_, _++_}
 use Prim.Native.Nat.{ℕ, _+_, _^_, _≤_, _<_}
@@ -9,11 +9,11 @@ use lib.Dec.{ltb}
 use Rattle.columns.specs.Columns.{printable}
 use Rattle.columns.specs.Decimal.{dec, minus}
 use Rattle.columns.proofs.Decimals.{dec-some, length-dec-le, length-minus, dec-digits, print-digits}
-use Rattle.columns.proofs.Looks.{print-both, print-cons}
+use Rattle.columns.proofs.Looks.{print-both}
 use Rattle.values.specs.declared.Number.{Number}
 use Rattle.values.specs.declared.Value.{Value}
 use Rattle.values.specs.declared.Value.the-variants.{Default, Whole, Real, Text}
-use Rattle.values.specs.Value.{Item, default, whole, real, text, itemOf, letter, tenTo, exponent, head, spelled, Normal, nought, times, over, Fine, fine-default, fine-whole, fine-real, fine-text, Printed}
+use Rattle.values.specs.Value.{Item, default, whole, real, text, itemOf, tenTo, exponent, head, spelled, Normal, nought, times, over, Fine, fine-whole, fine-real, fine-text, Printed}
 use Rattle.values.specs.Writing.{front, Inside}
 use Rattle.values.proofs.Canon.{Numeral, is-whole, is-real}
 

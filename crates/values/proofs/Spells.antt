@@ -1,18 +1,17 @@
 -- Spellings, part by part. Assumes nothing.
-use mathlib.Core.Path.{_≡_, refl, sym, ap, _∙_}
-use mathlib.Core.Bool.{Bool, true, false, cond, _||_}
-use mathlib.Core.List.{List, [], _∷_, _++_, append-assoc, append-nil}
-use Prim.Native.Nat.{ℕ, zero, suc, _+_, _^_, _≤_, _<_}
+use mathlib.Core.Path.{_≡_, refl, sym, ap}
+use mathlib.Core.Bool.{Bool, true, false}
+use mathlib.Core.List.{List, [], _∷_, _++_, append-nil}
+use Prim.Native.Nat.{ℕ, _+_}
 use native.Mathlib.Omega.{arith}
-use lib.ListN.{length, take, drop, length-append, length-take, length-drop}
-use lib.Dec.{ltb}
-use borrow.Author.Tests.{lt-ltb, le-ltb}
+use lib.ListN.{length, take, drop, length-take, length-drop}
+use borrow.Author.Tests.{lt-ltb}
 use Rattle.columns.specs.Decimal.{dec, minus}
 use Rattle.columns.specs.Laid.{Wrote}
 use Rattle.columns.proofs.Writes.{then, wrote-none, wrote-length}
 use Rattle.values.specs.declared.Value.{Value}
 use Rattle.values.specs.declared.Value.the-variants.{Default, Whole, Real, Text}
-use Rattle.values.specs.Value.{default, whole, real, text, itemOf, letter, tenTo, exponent, head, spelled}
+use Rattle.values.specs.Value.{whole, real, itemOf, letter, tenTo, exponent, head, spelled}
 use Rattle.values.specs.Writing.{front, chars, Inside}
 
 pub sign-some : {o o′ : List ℕ} {at r : ℕ} (neg : Bool) → neg ≡ true → Wrote o at (45 ∷ []) o′ r → Wrote o at (minus neg) o′ r

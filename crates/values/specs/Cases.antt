@@ -1,13 +1,12 @@
 -- Cases a to k of document 01: what stands on the left, read as one value, has the spelling on the right, or gives that refusal.
 use mathlib.Core.Path.{_≡_, refl}
-use mathlib.Core.Bool.{Bool, true, false, cond}
-use mathlib.Core.List.{List, [], _∷_, _++_, map}
+use mathlib.Core.Bool.{cond}
+use mathlib.Core.List.{List, [], _∷_, map}
 use Prim.Native.Nat.{ℕ, _+_}
 use Prim.Native.String.{String}
-use lib.ListN.{length, take, drop}
+use lib.ListN.{length, drop}
 use lib.Dec.{eqb}
-use Rattle.columns.specs.Refusal.{Outcome, accepted, refused, number}
-use Rattle.columns.specs.declared.Fault.{Fault}
+use Rattle.columns.specs.Refusal.{number}
 use Rattle.columns.specs.declared.Fault.the-variants.{Spelling, Limit}
 use Rattle.columns.specs.Decimal.{lastDigits, dec}
 use Rattle.columns.specs.Quoted.{codes}
@@ -17,7 +16,7 @@ use Rattle.values.specs.declared.Head.{Head}
 use Rattle.values.specs.declared.Head.the-variants.{Count, Plain}
 use Rattle.values.specs.Number.{numberOf, powerAt, power}
 use Rattle.values.specs.Head.{headOf}
-use Rattle.values.specs.Value.{Item, whole, real, text, spelled}
+use Rattle.values.specs.Value.{whole, real, text, spelled}
 
 -- a spelling, or the number of a refusal
 pub data Answer : Type 0 where

@@ -1,5 +1,5 @@
 -- A sheet has one spelling of each value, the one that reading prints: a text is read back only if it is that spelling.
-use mathlib.Core.Bool.{Bool, true, false, cond, _&&_}
+use mathlib.Core.Bool.{cond, _&&_}
 use mathlib.Core.List.{List, [], _∷_}
 use Prim.Native.Nat.{ℕ, _+_}
 use lib.ListN.{length, drop}

@@ -1,5 +1,5 @@
 -- How the code goes about a spelling: a string's characters are copied from where they stand, everything else is spelt.
-use mathlib.Core.List.{List, [], _∷_}
+use mathlib.Core.List.{List, []}
 use Prim.Native.Nat.{ℕ, _+_, _≤_}
 use lib.ListN.{take, drop}
 use Rattle.values.specs.declared.Value.{Value}

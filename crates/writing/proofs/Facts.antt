@@ -7,11 +7,11 @@ use native.Mathlib.Omega.{arith}
 use lib.Dec.{leb}
 use Rattle.columns.specs.declared.Fault.{Fault}
 use Rattle.columns.specs.declared.SheetLine.{SheetLine}
-use Rattle.columns.specs.Refusal.{Outcome, accepted, refused, _then_}
+use Rattle.columns.specs.Refusal.{Outcome, accepted, refused}
 use Rattle.layouts.specs.Known.{mostList}
 use Rattle.sheets.specs.declared.Verdict.{Verdict}
 use Rattle.sheets.specs.declared.Verdict.the-variants.{Good as GoodSheet, Wrong}
-use Rattle.sheets.specs.Sheet.{Sheet, linesIn, sheetOf}
+use Rattle.sheets.specs.Sheet.{linesIn, sheetOf}
 use Rattle.sheets.specs.Order.{sheetLine, verdictOf}
 use Rattle.sheets.proofs.Sheets.{Written, good-written, read-good}
 use Rattle.model.specs.Model.{Model, modelOf}

@@ -13,7 +13,7 @@ use Rattle.rows.proofs.Rows.{values-first, rowType, types-sheet}
 use Rattle.model.specs.Model.{typeOf, fieldsIn, carriedOf, modelOf}
 use Rattle.model.specs.Write.{one, rowSize, firstGlobal, firstRow, globalRule, rowRules, rowReferences, rowEntityRules, rowTypes, sheetRules}
 use Rattle.asking.specs.declared.Pass.{Pass}
-use Rattle.asking.specs.declared.Pass.the-variants.{Good, Refused}
+use Rattle.asking.specs.declared.Pass.the-variants.{Good}
 use Rattle.asking.specs.Lines.{passOf, orElse, OfGlobal, OfRow, noRule, linesPass}
 use Rattle.asking.specs.Classes.{sheetTypes}
 use Rattle.asking.specs.Passes.{rulesPass, referencesPass, entitiesPass, sheetPass}

@@ -16,7 +16,7 @@ use Rattle.sheets.specs.declared.Verdict.{Verdict}
 use Rattle.sheets.specs.declared.Verdict.the-variants.{Good, Wrong}
 use Rattle.sheets.specs.Line.{run}
 use Rattle.sheets.specs.Sheet.{Line, none, isMark, saysOf, saidBy, linesIn}
-use Rattle.sheets.specs.Order.{begin, noneStep, stepLine, verdict, finish, goLines, verdictOf}
+use Rattle.sheets.specs.Order.{begin, stepLine, verdict, finish, goLines, verdictOf}
 use Rattle.sheets.specs.Reading.{stepSaid, pieceVerdict}
 use Rattle.sheets.proofs.Walk.{lines-first, none-off, step-said, line-says, line-sizes}
 use Rattle.canonical.specs.declared.Tally.{Tally}

@@ -9,11 +9,11 @@ use asking::Pass;
 use asking::table::TABLE;
 use canonical::Lines;
 use canonical::Tally;
-use canonical::counts::lines_of;
 use columns::Fault;
 use columns::SheetLine;
 use sheets::State;
 use sheets::Verdict;
+use tally::lines_of;
 ghost use mathlib.Core.Path.{_≡_};
 ghost use Rattle.asking.specs.Classes.{Tabled};
 ghost use Rattle.asking.specs.Passes.{rulesPass, sheetPass};
@@ -55,7 +55,7 @@ fn passes(list: u64, classes: &[u8], n: usize, t: &[u8], first: Pass) -> Pass
 pub fn check(list: u64, t: &[u8]) -> Ruled
     ensures { λ r. ⌜ r ≡ ruledOf list (now (t .entry)) ⌝ }
 {
-    if !layouts::list::is_list(list) {
+    if !typelists::is_list(list) {
         return Ruled::Refused {
             fault: Fault::ListOrLength,
             line: SheetLine(0),

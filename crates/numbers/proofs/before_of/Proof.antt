@@ -1,6 +1,6 @@
 -- `numbers::before_of`: with no sign the digits are those with which the text begins.
 use borrow.Author.Needs.{needs}
-use Rattle.numbers.proofs.Steps.{numbered}
+use Rattle.values.proofs.Steps.{numbered}
 use Rattle.numbers.proofs.before_of.Statement.{statement}
 use Rattle.numbers.proofs.before_of.Tie as tie
 

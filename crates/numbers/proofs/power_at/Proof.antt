@@ -1,6 +1,6 @@
 -- `numbers::power_at`: by its letter, E, D or none.
 use borrow.Author.Needs.{needs}
-use Rattle.numbers.proofs.Steps.{powers}
+use Rattle.values.proofs.Steps.{powers}
 use Rattle.numbers.proofs.power_at.Statement.{statement}
 use Rattle.numbers.proofs.power_at.Tie as tie
 

@@ -1,6 +1,6 @@
 -- `numbers::power_of`: a sign and digits are scanned as the definition has them; an exponent is too short for the cap to be felt.
 use borrow.Author.Needs.{needs}
-use Rattle.numbers.proofs.Steps.{powers}
+use Rattle.values.proofs.Steps.{powers}
 use Rattle.numbers.proofs.power_of.Statement.{statement}
 use Rattle.numbers.proofs.power_of.Tie as tie
 

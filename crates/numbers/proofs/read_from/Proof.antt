@@ -1,7 +1,7 @@
 -- `numbers::read_from`: digits, point, digits and exponent are read where the definition looks for them.
 use native.Mathlib.Omega.{arith}
 use borrow.Author.Needs.{needs}
-use Rattle.numbers.proofs.Steps.{numbered}
+use Rattle.values.proofs.Steps.{numbered}
 use Rattle.numbers.proofs.read_from.Statement.{statement}
 use Rattle.numbers.proofs.read_from.Tie as tie
 

@@ -1,6 +1,6 @@
 -- The bytes from i on make of the number so far what all of them make of n.
 use mathlib.Core.Path.{_≡_}
-use Prim.Native.Nat.{_+_, _-_, _≤_, _<_}
+use Prim.Native.Nat.{_-_, _≤_}
 use Rattle.columns.specs.Columns.{columns}
 use Rattle.sheets.specs.Plain.{sizeFrom}
 use borrow.Author.Needs.{needs}

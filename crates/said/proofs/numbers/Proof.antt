@@ -1,6 +1,6 @@
 -- The numbers that are left, read from i on behind those in xs, are all numbers read from `at` on.
 use mathlib.Core.Path.{_≡_}
-use Prim.Native.Nat.{_+_, _-_, _≤_, _<_}
+use Prim.Native.Nat.{_+_, _-_, _≤_}
 use mathlib.Core.List.{[]}
 use lib.ListN.{length, take}
 use Rattle.columns.specs.Columns.{columns}

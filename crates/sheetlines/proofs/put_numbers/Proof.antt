@@ -1,6 +1,6 @@
 -- What is still owed are the numbers from k on, a tab behind each.
 use mathlib.Core.Path.{_≡_}
-use Prim.Native.Nat.{_+_, _-_, _*_, _≤_, _<_}
+use Prim.Native.Nat.{_+_, _-_, _*_, _≤_}
 use lib.ListN.{length, drop}
 use Rattle.columns.specs.Laid.{Owes}
 use Rattle.sheets.specs.Line.{spells}

@@ -1,7 +1,7 @@
 -- `strict::decimal_at`: the digits so far and those left are all of the number, and it has as many as were passed.
 use mathlib.Core.Path.{_≡_}
 use Prim.Native.Nat.{_+_, _-_, _^_, _≤_, _<_}
-use lib.ListN.{length, drop}
+use lib.ListN.{drop}
 use Rattle.values.specs.Direct.{longer, decimal}
 use borrow.Author.Needs.{needs}
 use Rattle.values.proofs.Backs.{Long, decimals}

@@ -2,7 +2,7 @@
 -- All that the proof knows of the functions that it calls is that they meet their contracts, and of the plan that it is `Planned`. The variant t is what is left, so i is m - t, and the row is `filled` to i.
 -- Assumes nothing.
 use mathlib.Core.Path.{_≡_, refl, sym, _∙_, ap, subst}
-use Prim.Native.Nat.{ℕ, zero, suc, _+_, _-_, _<_, _≤_, _*_, _^_}
+use Prim.Native.Nat.{ℕ, _+_, _-_, _<_, _≤_, _*_, _^_}
 use native.Mathlib.Omega.{arith}
 use native.Mathlib.Numerals.{add-one}
 use mathlib.Core.Bool.{Bool, not}
@@ -25,7 +25,7 @@ use contract.Running.{givenOf, tables, tablesOf}
 use types.Kit.{Given, Item, ‵, raw, _⊛_, ⋆, some, later, Post as PostK, anyQ, atRet, post, prop, runs, Seq, Sq, _$_, _∵_, !, qed, by, move, keep, drop, use1, use2, split, join, pick, rewrite, fsplit, fjoin, suffices, frame, await, done}
 use types.Run.{Opd, Below, look, init, store, store-raw, forget, stop, hop, fld, from, load, lit, of-opd, bin, and-then, no-more, assigns, assigns-last, land, first, blocks, branches, skips, jumps, loops, again, exec, returns, enter, alloc1, alloc0, params1, pass1, pass0, free1, free0}
 use types.Part.{whole, sub, look-in}
-use sound.WpLaws.{FmC, fmOf, WpFn-mono}
+use sound.WpLaws.{fmOf, WpFn-mono}
 use denote.RattleType.{owns}
 use denote.Shadow.{pureI}
 use denote.Memory.{pointee}

@@ -1,5 +1,4 @@
 -- The counts stay small, and the buffer as long as it was.
-use mathlib.Core.Path.{_≡_}
 use Prim.Native.Nat.{_-_, _≤_}
 use lib.ListN.{length}
 use borrow.Author.Needs.{needs}

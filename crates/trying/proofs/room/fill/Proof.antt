@@ -1,7 +1,6 @@
 -- Stores keep the buffer's length.
 use mathlib.Core.Path.{_≡_}
 use Prim.Native.Nat.{_-_}
-use native.Mathlib.Omega.{arith}
 use lib.ListN.{length, length-set}
 use borrow.Author.Needs.{needs}
 use Rattle.trying.proofs.room.fill.Statement.{statement}

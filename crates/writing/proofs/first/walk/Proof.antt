@@ -14,7 +14,7 @@ use Rattle.asking.specs.Passes.{rulesPass}
 use native.Mathlib.Omega.{arith}
 use borrow.Author.Needs.{needs}
 use Rattle.asking.proofs.Lines.{behind}
-use Rattle.asking.proofs.Saying.{rules-end, rules-piece, rules-said, rules-start, asking}
+use Rattle.asking.proofs.Saying.{rules-end, rules-piece, rules-said, asking}
 use Rattle.asking.proofs.Tables.{fill-said, fill-piece, fill-end, wrote-length, laying}
 use Rattle.writing.proofs.Walking.{if-good, if-wrong, go-end, go-piece, go-on, go-off, next-line, next-entries, next-asked, ordering}
 use Rattle.writing.proofs.Ahead.{ahead-go, ahead-asked, ahead-laid, ahead-counted}

@@ -1,0 +1,117 @@
+// What a place must know of a value.
+ghost use mathlib.Core.Path.{_≡_};
+ghost use Rattle.layouts.specs.Machine.{missing, real, above, text, within, size};
+use values::Value;
+
+pub fn missing_in(v: Value) -> bool
+    ensures { λ r. ⌜ r ≡ missing v ⌝ }
+{
+    match v {
+        Value::Default => true,
+        Value::Whole { neg: _, size: _ } => false,
+        Value::Real {
+            neg: _,
+            m: _,
+            eneg: _,
+            e: _,
+            double: _,
+        } => false,
+        Value::Text { start: _, count: _ } => false,
+    }
+}
+
+pub fn real_in(v: Value) -> bool
+    ensures { λ r. ⌜ r ≡ real v ⌝ }
+{
+    match v {
+        Value::Default => false,
+        Value::Whole { neg: _, size: _ } => false,
+        Value::Real {
+            neg: _,
+            m: _,
+            eneg: _,
+            e: _,
+            double: _,
+        } => true,
+        Value::Text { start: _, count: _ } => false,
+    }
+}
+
+// Above zero.
+pub fn above_in(v: Value) -> bool
+    ensures { λ r. ⌜ r ≡ above v ⌝ }
+{
+    match v {
+        Value::Default => false,
+        Value::Whole { neg: _, size: _ } => false,
+        Value::Real {
+            neg,
+            m,
+            eneg: _,
+            e: _,
+            double: _,
+        } => if neg { false } else { 0 < m },
+        Value::Text { start: _, count: _ } => false,
+    }
+}
+
+pub fn text_in(v: Value) -> bool
+    ensures { λ r. ⌜ r ≡ text v ⌝ }
+{
+    match v {
+        Value::Default => false,
+        Value::Whole { neg: _, size: _ } => false,
+        Value::Real {
+            neg: _,
+            m: _,
+            eneg: _,
+            e: _,
+            double: _,
+        } => false,
+        Value::Text { start: _, count: _ } => true,
+    }
+}
+
+// An integer from low to high; a default is 0 where it need not be given.
+pub fn within_in(given: bool, low: u32, high: u32, v: Value) -> bool
+    ensures { λ r. ⌜ r ≡ within given low high v ⌝ }
+{
+    match v {
+        Value::Default => if given { false } else { low == 0 },
+        Value::Whole { neg, size: n } => {
+            if neg {
+                false
+            } else if low <= n {
+                n <= high
+            } else {
+                false
+            }
+        }
+        Value::Real {
+            neg: _,
+            m: _,
+            eneg: _,
+            e: _,
+            double: _,
+        } => false,
+        Value::Text { start: _, count: _ } => false,
+    }
+}
+
+// A default counts as 0.
+pub fn size_in(v: Value) -> u32
+    ensures { λ r. ⌜ r ≡ size v ⌝ }
+{
+    match v {
+        Value::Default => 0,
+        Value::Whole { neg: _, size: n } => n,
+        Value::Real {
+            neg: _,
+            m: _,
+            eneg: _,
+            e: _,
+            double: _,
+        } => 0,
+        Value::Text { start: _, count: _ } => 0,
+    }
+}

@@ -1,0 +1,143 @@
+// Which P line is whose, asked of a file: checks over names, pointers and line counts, each linear in the lines.
+use cards::Counts;
+use columns::DirectoryNumber;
+use columns::FileLine;
+use columns::ParameterLine;
+use columns::wide;
+use owners::Owned;
+use owners::places;
+ghost use mathlib.Core.Path.{_≡_};
+ghost use mathlib.Core.Bool.{false};
+ghost use Prim.Native.Nat.{_+_, _*_, _/_, _^_, _<_, _≤_};
+ghost use Rattle.columns.specs.First.{firstNot};
+ghost use Rattle.cards.specs.Cards.{entries};
+ghost use Rattle.cards.specs.Rules.{Holds};
+ghost use Rattle.cards.specs.Shared.{fileLine};
+ghost use Rattle.owners.specs.Owners.{nameIs};
+ghost use Rattle.owners.specs.InFile.{ownerIn, entryIn, lineIn, ownersIn, lineOf, Small};
+
+fn narrow(x: usize) -> u32
+    requires { ⌜ x < 2 ^ 32 ⌝ }
+    ensures { λ r. ⌜ r ≡ x ⌝ }
+{
+    x as u32
+}
+
+// The first line from `from` on, of `count`, that does not name m.
+fn run_end(file: &[u8], c: Counts, m: usize, from: usize, count: usize) -> usize
+    requires { ⌜ Holds (now file) c × ((1 ≤ from) × (from + count ≤ c .p + 1)) ⌝ }
+    ensures { λ r. ⌜ r ≡ firstNot (nameIs (ownerIn (now (file .entry)) c) m) from count ⌝ }
+{
+    let end = from + count;
+    let mut k = from;
+    while k < end {
+        let name = places::owner_at(file, c, k);
+        if name != m {
+            return k;
+        }
+        k += 1;
+    }
+    k
+}
+
+// Whether entry i's range stays in P and every line in it names the entry. A range that passes is its entry's alone, so all of
+// these looks together are as many as there are P lines.
+fn entry_owns(file: &[u8], c: Counts, i: usize) -> bool
+    requires { ⌜ Holds (now file) c × (i < entries c) ⌝ }
+    ensures { λ r. ⌜ r ≡ entryIn (now (file .entry)) c i ⌝ }
+{
+    let from = places::from_at(file, c, i);
+    let count = places::count_at(file, c, i);
+    let most = wide(c.p) + 1;
+    if from < 1 {
+        return false;
+    }
+    if most < from + count {
+        return false;
+    }
+    let end = run_end(file, c, 2 * i + 1, from, count);
+    end == from + count
+}
+
+// Whether P line k lies in the range of the entry that it names.
+fn line_owned(file: &[u8], c: Counts, k: usize) -> bool
+    requires { ⌜ Holds (now file) c × ((1 ≤ k) × (k ≤ c .p)) ⌝ }
+    ensures { λ r. ⌜ r ≡ lineIn (now (file .entry)) c k ⌝ }
+{
+    let m = places::owner_at(file, c, k);
+    let n = wide(c.d) / 2;
+    if m % 2 != 1 {
+        return false;
+    }
+    let i = m / 2;
+    if n <= i {
+        return false;
+    }
+    let from = places::from_at(file, c, i);
+    let count = places::count_at(file, c, i);
+    if k < from {
+        return false;
+    }
+    k < from + count
+}
+
+fn first_entry(file: &[u8], c: Counts) -> usize
+    requires { ⌜ Holds (now file) c ⌝ }
+    ensures { λ r. ⌜ r ≡ firstNot (entryIn (now (file .entry)) c) 0 (entries c) ⌝ }
+{
+    let n = wide(c.d) / 2;
+    let mut i = 0;
+    while i < n {
+        if !entry_owns(file, c, i) {
+            return i;
+        }
+        i += 1;
+    }
+    i
+}
+
+fn first_line(file: &[u8], c: Counts) -> usize
+    requires { ⌜ Holds (now file) c ⌝ }
+    ensures { λ r. ⌜ r ≡ firstNot (lineIn (now (file .entry)) c) 1 (c .p) ⌝ }
+{
+    let end = wide(c.p) + 1;
+    let mut k = 1;
+    while k < end {
+        if !line_owned(file, c, k) {
+            return k;
+        }
+        k += 1;
+    }
+    k
+}
+
+// Whether every P line of a file with these counts has its entry.
+pub fn owners(file: &[u8], c: Counts) -> Owned
+    requires { ⌜ Holds (now file) c ⌝ }
+    ensures { λ r. ⌜ r ≡ ownersIn (now (file .entry)) c ⌝ }
+    ensures { λ r. ⌜ Small r ⌝ }
+{
+    let n = wide(c.d) / 2;
+    let p = wide(c.p);
+    let i = first_entry(file, c);
+    if i < n {
+        return Owned::Entry(DirectoryNumber(narrow(2 * i + 1)));
+    }
+    let k = first_line(file, c);
+    if k <= p {
+        return Owned::Line(ParameterLine(narrow(k)));
+    }
+    Owned::Everyone
+}
+
+// The file line of what was found: the entry's first D line, or the P line itself.
+pub fn line_of(c: Counts, found: Owned) -> FileLine
+    requires { ⌜ Small found ⌝ }
+    ensures { λ r. ⌜ r ≡ fileLine (lineOf c found) ⌝ }
+{
+    match found {
+        Owned::Everyone => FileLine(0),
+        Owned::Entry(m) => FileLine(wide(c.s) + wide(c.g) + wide(m.0)),
+        Owned::Line(k) => FileLine(wide(c.s) + wide(c.g) + wide(c.d) + wide(k.0)),
+    }
+}

@@ -1,0 +1,15 @@
+-- A default has no line.
+use borrow.Author.Needs.{needs}
+use Rattle.printing.proofs.Given.{missing}
+use Rattle.sheetglobals.proofs.put_given.Statement.{statement}
+use Rattle.sheetglobals.proofs.put_given.Tie as tie
+
+pub put-given-spec : {M : Type 1} → statement M
+put-given-spec =
+    tie.close
+    (tie.spec
+    (λ c κs. search (needs, missing))
+    (λ c. search (needs, missing))
+    (λ c κs. search (needs, missing))
+    (λ c. search (needs, missing))
+    (λ c. search (needs, missing)))

@@ -1,0 +1,37 @@
+// A sheet to its canonical file.
+mod file;
+
+use canonical::Lines;
+use columns::Fault;
+use rewrap::Answer;
+use rewrap::answers;
+use writing::Ruled;
+ghost use mathlib.Core.Path.{_≡_};
+ghost use lib.ListN.{length};
+ghost use Rattle.rewrap.specs.Answers.{answerOf, leftIn, writesInto};
+
+// The canonical file of a sheet under a list. Its lines are counted first, since a refusal changes no byte of out.
+pub fn write(list: u64, sheet: &[u8], out: &mut [u8]) -> Answer
+    ensures { λ r. ⌜ r ≡ answerOf (writesInto list (now (sheet .entry)) (length (now (out .entry)))) ⌝ }
+    ensures { λ r. ⌜ now (out .exit) ≡ leftIn (now (out .entry)) (writesInto list (now (sheet .entry)) (length (now (out .entry)))) ⌝ }
+{
+    let told = writing::check(list, sheet);
+    match told {
+        Ruled::Refused { fault, line } => answers::refusal(fault, line.0),
+        Ruled::Good { entries, lines } => match lines {
+            Lines::TooMany => answers::refusal(Fault::TooLong, 0),
+            Lines::Are(counts) => {
+                let bytes = file::bytes(counts);
+                if out.len() < bytes {
+                    return answers::refusal(Fault::Room, 0);
+                }
+                let laid = canonical::file::put_file(out, sheet, counts, entries);
+                Answer {
+                    number: 0,
+                    place: 0,
+                    length: laid as u64,
+                }
+            }
+        },
+    }
+}
