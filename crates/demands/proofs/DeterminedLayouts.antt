@@ -24,8 +24,6 @@ use Rattle.layoutrows.proofs.rests_in.Kinds as layoutrows-rests-in-kinds
 use Rattle.layoutrows.proofs.rests_in.Reads as layoutrows-rests-in-reads
 use Rattle.takes.proofs.takes_in.Kinds as takes-takes-in-kinds
 use Rattle.takes.proofs.takes_in.Reads as takes-takes-in-reads
-use Rattle.layoutrows.proofs.told.missing_in.Kinds as layoutrows-told-missing-in-kinds
-use Rattle.layoutrows.proofs.told.missing_in.Reads as layoutrows-told-missing-in-reads
 use Rattle.layoutrows.proofs.told.real_in.Kinds as layoutrows-told-real-in-kinds
 use Rattle.layoutrows.proofs.told.real_in.Reads as layoutrows-told-real-in-reads
 use Rattle.layoutrows.proofs.told.above_in.Kinds as layoutrows-told-above-in-kinds
@@ -84,9 +82,6 @@ pub takes-takes-in : NoSecond takes-takes-in-kinds.ps takes-takes-in-kinds.r tak
 takes-takes-in κs a z z′ left left′ p q = (once p q, refl)
 
 -- ---- layoutrows::told
-
-pub layoutrows-told-missing-in : NoSecond layoutrows-told-missing-in-kinds.ps layoutrows-told-missing-in-kinds.r layoutrows-told-missing-in-reads.Post
-layoutrows-told-missing-in κs a z z′ left left′ p q = (once p q, refl)
 
 pub layoutrows-told-real-in : NoSecond layoutrows-told-real-in-kinds.ps layoutrows-told-real-in-kinds.r layoutrows-told-real-in-reads.Post
 layoutrows-told-real-in κs a z z′ left left′ p q = (once p q, refl)

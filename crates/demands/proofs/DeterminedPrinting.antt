@@ -6,8 +6,6 @@ use Rattle.printing.proofs.characters.put_text.Kinds as characters-put-text-kin
 use Rattle.printing.proofs.characters.put_text.Reads as characters-put-text-reads
 use Rattle.sheetglobals.proofs.put_globals.Kinds as sheetglobals-put-globals-kinds
 use Rattle.sheetglobals.proofs.put_globals.Reads as sheetglobals-put-globals-reads
-use Rattle.sheetglobals.proofs.is_missing.Kinds as sheetglobals-is-missing-kinds
-use Rattle.sheetglobals.proofs.is_missing.Reads as sheetglobals-is-missing-reads
 use Rattle.printing.proofs.lines.put_mostly_real.Kinds as lines-put-mostly-real-kinds
 use Rattle.printing.proofs.lines.put_mostly_real.Reads as lines-put-mostly-real-reads
 use Rattle.printing.proofs.lines.put_value_line.Kinds as lines-put-value-line-kinds
@@ -43,9 +41,6 @@ characters-put-text κs a z z′ left left′ p q = wrote-first (left .1) (p .0)
 
 pub sheetglobals-put-globals : NoSecond sheetglobals-put-globals-kinds.ps sheetglobals-put-globals-kinds.r sheetglobals-put-globals-reads.Post
 sheetglobals-put-globals κs a z z′ left left′ p q = wrote-first (left .1) (p .0) (q .0)
-
-pub sheetglobals-is-missing : NoSecond sheetglobals-is-missing-kinds.ps sheetglobals-is-missing-kinds.r sheetglobals-is-missing-reads.Post
-sheetglobals-is-missing κs a z z′ left left′ p q = (once p q, refl)
 
 -- ---- printing::lines
 

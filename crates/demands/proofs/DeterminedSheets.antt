@@ -5,8 +5,6 @@ use denote.Ref.{now}
 use Rattle.columns.specs.declared.Signed.{Signed}
 use Rattle.columns.specs.Columns.{columns}
 use Rattle.sheets.specs.Line.{numOf}
-use Rattle.sheets.proofs.order.is_missing.Kinds as order-is-missing-kinds
-use Rattle.sheets.proofs.order.is_missing.Reads as order-is-missing-reads
 use Rattle.sheets.proofs.order.value_step.Kinds as order-value-step-kinds
 use Rattle.sheets.proofs.order.value_step.Reads as order-value-step-reads
 use Rattle.sheets.proofs.order.step_line.Kinds as order-step-line-kinds
@@ -51,9 +49,6 @@ use Rattle.demands.specs.Unique.{NoSecond}
 use Rattle.demands.proofs.Unique.{once, wrote-first}
 
 -- ---- sheets::order
-
-pub order-is-missing : NoSecond order-is-missing-kinds.ps order-is-missing-kinds.r order-is-missing-reads.Post
-order-is-missing κs a z z′ left left′ p q = (once p q, refl)
 
 pub order-value-step : NoSecond order-value-step-kinds.ps order-value-step-kinds.r order-value-step-reads.Post
 order-value-step κs a z z′ left left′ p q = (once p q, refl)

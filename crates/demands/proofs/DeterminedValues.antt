@@ -28,6 +28,8 @@ use Rattle.spell.proofs.front_len.Kinds as spell-front-len-kinds
 use Rattle.spell.proofs.front_len.Reads as spell-front-len-reads
 use Rattle.limits.proofs.finish_of.Kinds as limits-finish-of-kinds
 use Rattle.limits.proofs.finish_of.Reads as limits-finish-of-reads
+use Rattle.values.proofs.is_missing.Kinds as is-missing-kinds
+use Rattle.values.proofs.is_missing.Reads as is-missing-reads
 use Rattle.demands.specs.Unique.{NoSecond}
 use Rattle.demands.proofs.Unique.{once, wrote-first}
 
@@ -82,3 +84,8 @@ spell-front-len κs a z z′ left left′ p q = (once (p .0) (q .0), refl)
 
 pub limits-finish-of : NoSecond limits-finish-of-kinds.ps limits-finish-of-kinds.r limits-finish-of-reads.Post
 limits-finish-of κs a z z′ left left′ p q = (once p q, refl)
+
+-- ---- values
+
+pub is-missing : NoSecond is-missing-kinds.ps is-missing-kinds.r is-missing-reads.Post
+is-missing κs a z z′ left left′ p q = (once p q, refl)

@@ -10,7 +10,7 @@ use Rattle.columns.specs.declared.Fault.{Fault}
 use Rattle.columns.specs.Columns.{textOf}
 use Rattle.values.specs.declared.Value.{Value}
 use Rattle.values.specs.declared.Value.the-variants.{Default, Whole, Real, Text}
-use Rattle.values.specs.Value.{Item, default, whole, real, itemOf, isDefault, head, spelled}
+use Rattle.values.specs.Value.{Item, default, whole, real, itemOf, isDefault, head, spelled, isMissing}
 use Rattle.values.specs.Writing.{front}
 use Rattle.records.specs.declared.Got.{Got}
 use Rattle.records.specs.declared.Got.the-variants.{Found, Refused}
@@ -25,7 +25,7 @@ use Rattle.layouts.specs.declared.State.{State}
 use Rattle.layouts.specs.declared.Stepped.{Stepped}
 use Rattle.layouts.specs.declared.Stepped.the-variants.{Go, Bad}
 use Rattle.layouts.specs.Named.{named}
-use Rattle.layouts.specs.Machine.{missing, stand, runsOn}
+use Rattle.layouts.specs.Machine.{stand, runsOn}
 use Rattle.layouts.specs.Stepping.{stepped}
 use Rattle.layouts.specs.Entities.{run}
 use Rattle.layouts.proofs.Steps.{runs-left, step-runs}
@@ -69,7 +69,7 @@ pub ruleset defaults = (defaults-none, defaults-more)
 
 -- ---- behind a value
 
-module _ (types : List ℕ) {g : Stepped} (owed : ℕ) (v : Value) (b : Bool) (eb : b ≡ missing v) where
+module _ (types : List ℕ) {g : Stepped} (owed : ℕ) (v : Value) (b : Bool) (eb : b ≡ isMissing v) where
   pub state-same : b ≡ true → g ≡ stateAfter types g owed v
   state-same e = rw (← eb, e)
 
@@ -108,7 +108,7 @@ module _ (size owed : ℕ) {v : Value} where
 
 pub ruleset measures = (measured-whole, measured-real, measured-text, text-light, text-fits)
 
-module _ (owed : ℕ) (v : Value) (b : Bool) (eb : b ≡ missing v) where
+module _ (owed : ℕ) (v : Value) (b : Bool) (eb : b ≡ isMissing v) where
   pub owed-more : b ≡ true → owed + 1 ≡ owedAfter owed v
   owed-more e = rw (← eb, e)
 
@@ -211,8 +211,8 @@ module _ (q owed size lines : ℕ) (i : size + 1100 * owed ≤ 1100 * q) {got : 
     {o′ size′ : ℕ} (el : size′ ≡ lengthAfter size owed v) (k : size′ ≤ size + 3 * owed + 1046) (eo : o′ ≡ owedAfter owed v) where
   pub light-next : size′ + 1100 * o′ ≤ 1100 * next
   light-next =
-      lighter (missing v) size size′ owed o′ q next i (next-more q (lines * 64) e sane) k
-      (same-length (missing v) size size′ (size + 3 * owed + 3 + length (front v) + copied v) el) eo
+      lighter (isMissing v) size size′ owed o′ q next i (next-more q (lines * 64) e sane) k
+      (same-length (isMissing v) size size′ (size + 3 * owed + 3 + length (front v) + copied v) el) eo
 
   pub light-all : size′ ≤ 70400 * lines
   light-all = omega (arith, light-next, next-in q (lines * 64) e sane)

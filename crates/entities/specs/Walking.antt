@@ -5,12 +5,11 @@ use mathlib.Core.List.{List, [], _∷_, _++_}
 use Prim.Native.Nat.{ℕ, _+_, _*_, _≤_}
 use lib.ListN.{length, replicate}
 use Rattle.values.specs.declared.Value.{Value}
-use Rattle.values.specs.Value.{Item, default, spelled}
+use Rattle.values.specs.Value.{Item, default, spelled, isMissing}
 use Rattle.values.specs.Writing.{front}
 use Rattle.records.specs.Record.{Values, values, wrong, trimmed}
 use Rattle.records.specs.Written.{copied}
 use Rattle.layouts.specs.declared.Stepped.{Stepped}
-use Rattle.layouts.specs.Machine.{missing}
 use Rattle.layouts.specs.Stepping.{stepped}
 use Rattle.layouts.specs.Entities.{run}
 use Rattle.entities.specs.declared.Walked.{Walked}
@@ -29,13 +28,13 @@ owing owed (v ∷ vs) = replicate owed default ++ (v ∷ vs)
 -- ---- behind a value
 
 abbrev pub stateAfter : List ℕ → Stepped → ℕ → Value → Stepped
-stateAfter types g owed v = cond (missing v) g (stepped types (run types g (replicate owed default)) v)
+stateAfter types g owed v = cond (isMissing v) g (stepped types (run types g (replicate owed default)) v)
 
 abbrev pub lengthAfter : ℕ → ℕ → Value → ℕ
-lengthAfter size owed v = cond (missing v) size (size + 3 * owed + 3 + length (front v) + copied v)
+lengthAfter size owed v = cond (isMissing v) size (size + 3 * owed + 3 + length (front v) + copied v)
 
 abbrev pub owedAfter : ℕ → Value → ℕ
-owedAfter owed v = cond (missing v) (owed + 1) 0
+owedAfter owed v = cond (isMissing v) (owed + 1) 0
 
 -- ---- behind all
 

@@ -1,24 +1,7 @@
 // What a place must know of a value.
 ghost use mathlib.Core.Path.{_≡_};
-ghost use Rattle.layouts.specs.Machine.{missing, real, above, text, within, size};
+ghost use Rattle.layouts.specs.Machine.{real, above, text, within, size};
 use values::Value;
-
-pub fn missing_in(v: Value) -> bool
-    ensures { λ r. ⌜ r ≡ missing v ⌝ }
-{
-    match v {
-        Value::Default => true,
-        Value::Whole { neg: _, size: _ } => false,
-        Value::Real {
-            neg: _,
-            m: _,
-            eneg: _,
-            e: _,
-            double: _,
-        } => false,
-        Value::Text { start: _, count: _ } => false,
-    }
-}
 
 pub fn real_in(v: Value) -> bool
     ensures { λ r. ⌜ r ≡ real v ⌝ }

@@ -11,13 +11,14 @@ use Rattle.layouts.specs.declared.Kind.the-variants.{R, Given, Weight, S
 use Rattle.layouts.specs.declared.Place.{Place}
 use Rattle.values.specs.declared.Value.{Value}
 use Rattle.values.specs.declared.Value.the-variants.{Default, Whole, Real, Text}
+use Rattle.values.specs.Value.{isMissing}
 use Rattle.layouts.specs.declared.State.{State}
 use Rattle.layouts.specs.declared.Stepped.{Stepped}
 use Rattle.layouts.specs.declared.Stepped.the-variants.{Go, Bad}
 use Rattle.layouts.specs.declared.Verdict.{Verdict}
 use Rattle.layouts.specs.declared.Verdict.the-variants.{Layout}
 use Rattle.layouts.specs.Layout.{mostInteger, mostUpper, paper, placeAt, starts, startOf, bitOf}
-use Rattle.layouts.specs.Machine.{fresh, start, missing, real, above, text, need, refer, takes, settle, onward, rests, moved, step, closed, after, finish, end, within, size, withK1, withK2, withM1, withM2, withBad, stand, follow, enter, beyond, reals, kindAt, runsOn}
+use Rattle.layouts.specs.Machine.{fresh, start, real, above, text, need, refer, takes, settle, onward, rests, moved, step, closed, after, finish, end, within, size, withK1, withK2, withM1, withM2, withBad, stand, follow, enter, beyond, reals, kindAt, runsOn}
 use Rattle.references.specs.References.{fits}
 use Rattle.layouts.specs.declared.Then.{Then}
 use Rattle.layouts.specs.declared.Then.the-variants.{Next}
@@ -42,10 +43,10 @@ refer-at free want s (Text start count) class = refl
 
 takes-at : (k : Kind) (s : State) (v : Value) (class : ℕ) → place (takes k s v class) (s .at) ≡ s .at
 unfolding takes
-takes-at R s v class = need-at (real v || missing v) s
+takes-at R s v class = need-at (real v || isMissing v) s
 takes-at Given s v class = need-at (real v) s
 takes-at Weight s v class = need-at (above v) s
-takes-at S s v class = need-at (text v || missing v) s
+takes-at S s v class = need-at (text v || isMissing v) s
 takes-at (I low high) s v class = need-at (within false low high v) s
 takes-at Flag s v class = need-at (within true 0 1 v) s
 takes-at Count s v class = need-at (within false 0 mostInteger v) (withK1 s (size v))
@@ -57,7 +58,7 @@ takes-at Degree2 s v class = need-at (within true 1 (s .k2) v) (withM2 s (size v
 takes-at (P want) s v class = refer-at true want s v class
 takes-at (Q want) s v class = refer-at false want s v class
 takes-at (Bound want) s v class = refer-at (not (eqb (s .k2) 1)) want s v class
-takes-at Rest s v class = need-at (missing v) s
+takes-at Rest s v class = need-at (isMissing v) s
 
 pub stays : (k : Kind) (s t : State) (v : Value) (class : ℕ) → takes k s v class ≡ Go t → t .at ≡ s .at
 stays k s t v class e = ap (λ (x : Stepped). place x (s .at)) (sym e) ∙ takes-at k s v class
@@ -118,7 +119,7 @@ pub ruleset running = (runs-few, runs-real, runs-other)
 
 reals-take : (k : Kind) (s : State) (v : Value) (class : ℕ) → reals k ≡ true → real v ≡ true → moved (rests k) (takes k s v class) ≡ Go (onward s)
 unfolding takes
-reals-take R s v class e r = ap (λ (b : Bool). moved false (need (b || missing v) s)) r
+reals-take R s v class e r = ap (λ (b : Bool). moved false (need (b || isMissing v) s)) r
 reals-take Given s v class e r = ap (λ (b : Bool). moved false (need b s)) r
 reals-take Weight s v class e r = absurd (false≢true e)
 reals-take S s v class e r = absurd (false≢true e)
@@ -181,10 +182,10 @@ refer-last free want s (Text start count) class = refl
 
 takes-last : (k : Kind) (s : State) (v : Value) (class : ℕ) → moved false (takes k (stand s (s .at) 1) v class) ≡ passed (takes k s v class)
 unfolding takes
-takes-last R s v class = need-last (real v || missing v) s
+takes-last R s v class = need-last (real v || isMissing v) s
 takes-last Given s v class = need-last (real v) s
 takes-last Weight s v class = need-last (above v) s
-takes-last S s v class = need-last (text v || missing v) s
+takes-last S s v class = need-last (text v || isMissing v) s
 takes-last (I low high) s v class = need-last (within false low high v) s
 takes-last Flag s v class = need-last (within true 0 1 v) s
 takes-last Count s v class = need-last (within false 0 mostInteger v) (withK1 s (size v))
@@ -196,7 +197,7 @@ takes-last Degree2 s v class = need-last (within true 1 (s .k2) v) (withM2 s (si
 takes-last (P want) s v class = refer-last true want s v class
 takes-last (Q want) s v class = refer-last false want s v class
 takes-last (Bound want) s v class = refer-last (not (eqb (s .k2) 1)) want s v class
-takes-last Rest s v class = need-last (missing v) s
+takes-last Rest s v class = need-last (isMissing v) s
 
 rest-takes : (k : Kind) (s : State) → rests k ≡ true → takes k s Default 0 ≡ Go s
 unfolding takes

@@ -10,6 +10,7 @@ use Rattle.layouts.specs.declared.Then.{Then}
 use Rattle.layouts.specs.declared.Then.the-variants.{Next}
 use Rattle.values.specs.declared.Value.{Value}
 use Rattle.values.specs.declared.Value.the-variants.{Default, Whole, Real, Text}
+use Rattle.values.specs.Value.{isMissing}
 use Rattle.layouts.specs.declared.State.{State}
 use Rattle.layouts.specs.declared.Stepped.{Stepped}
 use Rattle.layouts.specs.declared.Stepped.the-variants.{Go, Bad}
@@ -19,13 +20,6 @@ use Rattle.references.specs.References.{noEntry, fits}
 use Rattle.layouts.specs.Layout.{mostInteger, mostUpper, placeAt, startOf, bitOf}
 
 -- ---- values
-
--- a default
-abbrev pub missing : Value → Bool
-missing Default = true
-missing (Whole neg n) = false
-missing (Real neg m eneg e double) = false
-missing (Text start count) = false
 
 -- a real
 abbrev pub real : Value → Bool
@@ -141,10 +135,10 @@ refer free want s (Text start count) class = Bad
 
 -- what the place of a kind makes of a value; class is that of the entry that it names
 unfoldable pub takes : Kind → State → Value → ℕ → Stepped
-takes R s v class = need (real v || missing v) s
+takes R s v class = need (real v || isMissing v) s
 takes Given s v class = need (real v) s
 takes Weight s v class = need (above v) s
-takes S s v class = need (text v || missing v) s
+takes S s v class = need (text v || isMissing v) s
 takes (I low high) s v class = need (within false low high v) s
 takes Flag s v class = need (within true 0 1 v) s
 takes Count s v class = need (within false 0 mostInteger v) (withK1 s (size v))
@@ -156,7 +150,7 @@ takes Degree2 s v class = need (within true 1 (s .k2) v) (withM2 s (size v))
 takes (P want) s v class = refer true want s v class
 takes (Q want) s v class = refer false want s v class
 takes (Bound want) s v class = refer (not (eqb (s .k2) 1)) want s v class
-takes Rest s v class = need (missing v) s
+takes Rest s v class = need (isMissing v) s
 
 -- nothing but defaults follows
 abbrev pub rests : Kind → Bool

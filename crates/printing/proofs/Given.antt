@@ -11,8 +11,7 @@ use Rattle.columns.specs.declared.Fault.{Fault}
 use Rattle.columns.specs.Laid.{Wrote, Owes}
 use Rattle.columns.proofs.Writes.{owes-all, owes-less, owes-none, owes-same, wrote-none, wrote-length}
 use Rattle.values.specs.declared.Value.{Value}
-use Rattle.values.specs.declared.Value.the-variants.{Default, Whole, Real, Text}
-use Rattle.values.specs.Value.{Item, itemOf, isDefault}
+use Rattle.values.specs.Value.{Item, itemOf, isDefault, isMissing}
 use Rattle.records.specs.declared.Check.{Check}
 use Rattle.records.specs.declared.Check.the-variants.{Done, Wrong}
 use Rattle.records.specs.Record.{Values, values, wrong, valueAt, valuesAt, behind}
@@ -21,7 +20,8 @@ use Rattle.records.specs.Items.{gotItem, itemsFrom}
 use Rattle.records.specs.Global.{firstField}
 use Rattle.records.proofs.Texts.{small}
 use Rattle.records.proofs.Items.{items-are}
-use Rattle.sheets.specs.Sheet.{Line, global, lineOf, globalLines, isMissing, textOf as sheetBytes}
+use Rattle.sheets.specs.Sheet.{Line, global, lineOf, globalLines, textOf as sheetBytes}
+use Rattle.sheets.proofs.Spellings.{missing}
 use Rattle.model.specs.Read.{given}
 use Rattle.entities.specs.declared.Taken.{Taken}
 use Rattle.entities.specs.Taking.{takenOf}
@@ -39,34 +39,16 @@ global-lines (g ∷ gs) rest =
 
 -- ---- one field
 
-pub missing-default : (v : Value) → v ≡ Default → true ≡ isMissing v
-missing-default v e = rw e
-
-pub missing-whole : (v : Value) {neg : Bool} {size : ℕ} → v ≡ Whole neg size → false ≡ isMissing v
-missing-whole v e = rw e
-
-pub missing-real : (v : Value) {neg : Bool} {m : ℕ} {eneg : Bool} {x : ℕ} {double : Bool} → v ≡ Real neg m eneg x double → false ≡ isMissing v
-missing-real v e = rw e
-
-pub missing-text : (v : Value) {from count : ℕ} → v ≡ Text from count → false ≡ isMissing v
-missing-text v e = rw e
-
-pub is-default : (t : List ℕ) (v : Value) → isDefault (itemOf t v) ≡ isMissing v
-is-default t Default = refl
-is-default t (Whole neg size) = refl
-is-default t (Real neg m eneg x double) = refl
-is-default t (Text from count) = refl
-
 module _ (n : ℕ) (t : List ℕ) (v : Value) {b : Bool} (e : b ≡ isMissing v) where
   pub given-none : {o : List ℕ} {at : ℕ} → b ≡ true → Wrote o at (givenBytes n (itemOf t v)) o at
   unfolding givenBytes
-  given-none h = rw (is-default t v, ← e, h) wrote-none
+  given-none h = rw (missing t v, ← e, h) wrote-none
 
   pub given-some : {o o′ : List ℕ} {at r : ℕ} → b ≡ false → Wrote o at (lineOf (global n (itemOf t v)) ++ (10 ∷ [])) o′ r → Wrote o at (givenBytes n (itemOf t v)) o′ r
   unfolding givenBytes
-  given-some h p = rw (is-default t v, ← e, h) p
+  given-some h p = rw (missing t v, ← e, h) p
 
-pub ruleset missing = (missing-default, missing-whole, missing-real, missing-text, given-none, given-some)
+pub ruleset given-lines = (given-none, given-some)
 
 -- ---- how many there are
 

@@ -13,7 +13,7 @@ use Rattle.columns.specs.Laid.{Wrote, Owes}
 use Rattle.columns.proofs.Writes.{owes-all, owes-less, owes-none, owes-same, wrote-length}
 use Rattle.values.specs.declared.Value.{Value}
 use Rattle.values.specs.declared.Value.the-variants.{Default}
-use Rattle.values.specs.Value.{Item, default, whole, real, text, itemOf, isDefault}
+use Rattle.values.specs.Value.{Item, default, whole, real, text, itemOf, isDefault, isMissing}
 use Rattle.records.specs.declared.Got.{Got}
 use Rattle.records.specs.declared.Got.the-variants.{Found, Refused}
 use Rattle.records.specs.Record.{values, valueAt, valuesAt, trim, trimmed}
@@ -31,14 +31,14 @@ use Rattle.layouts.specs.Machine.{refers, kindAt, stand, runsOn}
 use Rattle.layouts.proofs.Steps.{step-runs}
 use Rattle.layouts.proofs.Runs.{feed-read}
 use Rattle.model.specs.Model.{marked}
-use Rattle.sheets.specs.Sheet.{Line, value, lineOf, valueLines, isMissing, textOf as sheetBytes}
+use Rattle.sheets.specs.Sheet.{Line, value, lineOf, valueLines, textOf as sheetBytes}
+use Rattle.sheets.proofs.Spellings.{missing}
 use Rattle.entities.specs.Taking.{entityWith}
 use Rattle.entities.specs.Marks.{carriedIn, marksBegun, markedFrom}
 use Rattle.entities.proofs.Marking.{marked-begin}
 use Rattle.printing.specs.declared.Met.{Met}
 use Rattle.printing.specs.Bytes.{valueBytes}
 use Rattle.printing.specs.Taking.{Unrefused, metOf, owedBefore}
-use Rattle.printing.proofs.Given.{is-default}
 
 -- the bytes of value lines stand before those of the lines behind them
 pub value-lines : (vs : List (Bool × Item)) (rest : List Line) → sheetBytes (valueLines vs rest) ≡ valueBytes vs ++ sheetBytes rest
@@ -224,7 +224,7 @@ module _ (file : List ℕ) (base lines : ℕ) (st : Stands file base 64 lines) (
           values-default k =
               let v : Item = itemOf t (y .value) in
               let us : List Item = met .left in
-              let ev : v ≡ default = default-is v (is-default t (y .value) ∙ sym eb ∙ k) in
+              let ev : v ≡ default = default-is v (missing t (y .value) ∙ sym eb ∙ k) in
               let e : replicate owed default ++ p .left ≡ replicate (owed + 1) default ++ us
               = ap (λ (l : List Item). replicate owed default ++ l) (met .whole ∙ ap (λ (u : Item). u ∷ us) ev) ∙ one-owed owed us ∙ ap (λ (n : ℕ). replicate n default ++ us) (sym (add-one owed)) in
               record { left = us; is = met .is; owes = owes-same (p .owes) (ap (λ (l : List Item). valueBytes (markedFrom types g (trimmed l))) e) }
@@ -236,7 +236,7 @@ module _ (file : List ℕ) (base lines : ℕ) (st : Stands file base 64 lines) (
               let v : Item = itemOf t (y .value) in
               let us : List Item = met .left in
               let e : trimmed (replicate owed default ++ p .left) ≡ owedBefore owed v ++ trimmed us
-              = ap (λ (l : List Item). trimmed (replicate owed default ++ l)) (met .whole) ∙ some-kept owed v us (is-default t (y .value) ∙ sym eb ∙ k) in
+              = ap (λ (l : List Item). trimmed (replicate owed default ++ l)) (met .whole) ∙ some-kept owed v us (missing t (y .value) ∙ sym eb ∙ k) in
               let bytes : valueBytes (markedFrom types g (trimmed (replicate owed default ++ p .left))) ≡ valueBytes (markedFrom types g (owedBefore owed v)) ++ valueBytes (markedFrom types u (trimmed us))
               = ap (λ (l : List Item). valueBytes (markedFrom types g l)) e ∙ lines-append types g (owedBefore owed v) (trimmed us)
               ∙ ap (λ (z : Stepped). valueBytes (markedFrom types g (owedBefore owed v)) ++ valueBytes (markedFrom types z (trimmed us))) (sym eu) in

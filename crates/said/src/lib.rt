@@ -4,9 +4,9 @@ use columns::look;
 use directory::Fields;
 use sheets::EntryLine;
 use sheets::Said;
-use sheets::order;
 use values::Strict;
 use values::Value;
+use values::is_missing;
 ghost use mathlib.Core.Path.{_≡_};
 ghost use mathlib.Core.Bool.{true, false};
 ghost use mathlib.Core.List.{[]};
@@ -156,7 +156,7 @@ fn global_of(n: u32, at: usize, v: Strict) -> Said
 {
     match v {
         Strict::Is(value) => {
-            if order::is_missing(value) {
+            if is_missing(value) {
                 return Said::Nothing(false);
             }
             Said::Global {

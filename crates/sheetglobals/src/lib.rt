@@ -4,6 +4,7 @@ use printing::lines::put_global_line;
 use printing::taking::value_from;
 use records::Check;
 use values::Value;
+use values::is_missing;
 ghost use mathlib.Core.Path.{_≡_};
 ghost use Prim.Native.Nat.{_+_, _*_, _^_, _≤_, _<_};
 ghost use Rattle.columns.specs.Columns.{textOf};
@@ -13,7 +14,6 @@ ghost use Rattle.records.specs.Record.{valuesAt};
 ghost use Rattle.records.specs.Reading.{Stands, Writable};
 ghost use Rattle.records.specs.Items.{itemsFrom};
 ghost use Rattle.records.specs.Global.{firstField};
-ghost use Rattle.sheets.specs.Sheet.{isMissing};
 ghost use Rattle.model.specs.Read.{given};
 ghost use Rattle.printing.specs.Bytes.{valuesIn, givenBytes, globalBytes};
 
@@ -21,24 +21,6 @@ ghost use Rattle.printing.specs.Bytes.{valuesIn, givenBytes, globalBytes};
 const COLUMNS: usize = 72;
 
 const FIRST: u32 = 3;
-
-// Whether a value is a default.
-pub fn is_missing(v: Value) -> bool
-    ensures { λ r. ⌜ r ≡ isMissing v ⌝ }
-{
-    match v {
-        Value::Default => true,
-        Value::Whole { neg: _, size: _ } => false,
-        Value::Real {
-            neg: _,
-            m: _,
-            eneg: _,
-            e: _,
-            double: _,
-        } => false,
-        Value::Text { start: _, count: _ } => false,
-    }
-}
 
 // The line of field n, if there is one.
 fn put_given(

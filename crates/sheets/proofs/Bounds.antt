@@ -15,7 +15,7 @@ use Rattle.values.specs.declared.Head.{Head}
 use Rattle.values.specs.declared.Head.the-variants.{Count, Plain}
 use Rattle.values.specs.declared.Strict.{Strict}
 use Rattle.values.specs.declared.Strict.the-variants.{Is, Not}
-use Rattle.values.specs.Value.{head}
+use Rattle.values.specs.Value.{head, isMissing}
 use Rattle.values.specs.Head.{headOf}
 use Rattle.values.specs.Writing.{Inside, Placed}
 use Rattle.values.specs.Strict.{byHead, strictOf}
@@ -26,7 +26,7 @@ use Rattle.sheets.specs.declared.Said.{Said}
 use Rattle.sheets.specs.declared.Said.the-variants.{Start, Global, Last, Nothing}
 use Rattle.sheets.specs.Plain.{sizeFrom}
 use Rattle.sheets.specs.Line.{run, isLabel, entryOf, labelOf}
-use Rattle.sheets.specs.Sheet.{isMissing, isMark, isStart, startLine, globalOf, globalLine, entryLineOf, valueOf, lastLine, byMark, saysOf}
+use Rattle.sheets.specs.Sheet.{isMark, isStart, startLine, globalOf, globalLine, entryLineOf, valueOf, lastLine, byMark, saysOf}
 use Rattle.sheets.specs.Reading.{Within}
 use Rattle.sheets.proofs.Machine.{numbered}
 use Rattle.sheets.proofs.Round.{entry-back}

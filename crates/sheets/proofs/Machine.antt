@@ -11,10 +11,10 @@ use Rattle.columns.specs.declared.Signed.{Signed}
 use Rattle.columns.specs.Columns.{columns, printable}
 use Rattle.columns.proofs.Columns.{columns-none, columns-rest, length-columns, byte-of}
 use Rattle.values.specs.declared.Value.{Value}
-use Rattle.values.specs.declared.Value.the-variants.{Default, Whole, Real, Text}
 use Rattle.values.specs.declared.Strict.{Strict}
 use Rattle.values.specs.declared.Strict.the-variants.{Is, Not}
 use Rattle.values.specs.Strict.{strictOf}
+use Rattle.values.specs.Value.{isMissing}
 use Rattle.directory.specs.declared.Fields.{Fields}
 use Rattle.sheets.specs.declared.EntryLine.{EntryLine}
 use Rattle.sheets.specs.declared.EntryLine.the-variants.{Got, Wrong}
@@ -22,7 +22,7 @@ use Rattle.sheets.specs.declared.Said.{Said}
 use Rattle.sheets.specs.declared.Said.the-variants.{Start, Global, Entry, Value as Given, Last, Nothing}
 use Rattle.sheets.specs.Plain.{sizeFrom}
 use Rattle.sheets.specs.Line.{run, entryOf}
-use Rattle.sheets.specs.Sheet.{isMissing, isMark, isStart, startLine, globalOf, globalLine, entryLineOf, valueOf, lastLine, byMark, saysOf}
+use Rattle.sheets.specs.Sheet.{isMark, isStart, startLine, globalOf, globalLine, entryLineOf, valueOf, lastLine, byMark, saysOf}
 use Rattle.sheets.proofs.Plains.{first-byte, columns-take, columns-drop}
 
 pub mark-r : (b : ℕ) → b ≡ 82 → true ≡ isMark b
@@ -72,25 +72,13 @@ pub strict-part : (s : List ℕ) (at end : ℕ) (r : Strict) → r ≡ strictOf 
 unfolding columns
 strict-part s at end r e = e
 
-pub value-missing : (v : Value) → v ≡ Default → true ≡ isMissing v
-value-missing v e = rw e
-
-pub value-whole : (v : Value) (neg : Bool) (size : ℕ) → v ≡ Whole neg size → false ≡ isMissing v
-value-whole v neg size e = rw e
-
-pub value-real : (v : Value) (neg : Bool) (m : ℕ) (eneg : Bool) (e : ℕ) (double : Bool) → v ≡ Real neg m eneg e double → false ≡ isMissing v
-value-real v neg m eneg e double h = rw h
-
-pub value-text : (v : Value) (at count : ℕ) → v ≡ Text at count → false ≡ isMissing v
-value-text v at count h = rw h
-
 pub value-yes : (x : Strict) (v : Value) (reference : Bool) → x ≡ Is v → Given reference v ≡ valueOf reference x
 value-yes x v reference e = rw e
 
 pub value-no : (x : Strict) (reference : Bool) → x ≡ Not → Nothing true ≡ valueOf reference x
 value-no x reference e = rw e
 
-pub ruleset values = (strict-part, value-missing, value-whole, value-real, value-text, value-yes, value-no)
+pub ruleset values = (strict-part, value-yes, value-no)
 
 -- ---- a G line
 module _ (x : Strict) (n at : ℕ) where

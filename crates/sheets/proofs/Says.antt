@@ -17,7 +17,7 @@ use Rattle.columns.proofs.Tests.{both, both-left, both-right}
 use Rattle.values.specs.declared.Value.{Value}
 use Rattle.values.specs.declared.Strict.{Strict}
 use Rattle.values.specs.declared.Strict.the-variants.{Is, Not}
-use Rattle.values.specs.Value.{Item, itemOf, spelled}
+use Rattle.values.specs.Value.{Item, itemOf, spelled, isMissing}
 use Rattle.values.specs.Strict.{strictOf}
 use Rattle.values.proofs.OneSpelling.{placed, placed-item, sound, complete}
 use Rattle.directory.specs.declared.Fields.{Fields}
@@ -28,7 +28,7 @@ use Rattle.sheets.specs.declared.Said.{Said}
 use Rattle.sheets.specs.declared.Said.the-variants.{Start, Global, Last, Nothing}
 use Rattle.sheets.specs.Plain.{sizeFrom, sized}
 use Rattle.sheets.specs.Line.{run, isLabel, spells, entryOf, labelOf, entryLine}
-use Rattle.sheets.specs.Sheet.{Line, start, global, entry, value, last, none, lineFrom, into, piecesOf, isMissing, isMark, isStart, startLine, globalOf, globalLine, entryLineOf, valueOf, lastLine, byMark, saysOf, saidBy, lastPiece, saidByAll, lineOf, textOf}
+use Rattle.sheets.specs.Sheet.{Line, start, global, entry, value, last, none, lineFrom, into, piecesOf, isMark, isStart, startLine, globalOf, globalLine, entryLineOf, valueOf, lastLine, byMark, saysOf, saidBy, lastPiece, saidByAll, lineOf, textOf}
 use Rattle.sheets.specs.WellFormed.{Held, Filled}
 use Rattle.sheets.proofs.Spellings.{print-spelled, missing, missing-placed}
 use Rattle.sheets.proofs.Machine.{numbered, global-right}

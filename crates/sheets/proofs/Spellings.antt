@@ -12,9 +12,8 @@ use Rattle.columns.proofs.Looks.{print-both, print-cons}
 use Rattle.columns.proofs.Decimals.{print-digits, dec-digits}
 use Rattle.values.specs.declared.Value.{Value}
 use Rattle.values.specs.declared.Value.the-variants.{Default, Whole, Real, Text}
-use Rattle.values.specs.Value.{Item, default, whole, real, text, itemOf, isDefault, letter, exponent, head, spelled, Printed}
+use Rattle.values.specs.Value.{Item, default, whole, real, text, itemOf, isDefault, letter, exponent, head, spelled, Printed, isMissing}
 use Rattle.values.proofs.OneSpelling.{placed}
-use Rattle.sheets.specs.Sheet.{isMissing}
 
 print-dec : (n : ℕ) → printable (dec n) ≡ true
 print-dec n = print-digits (dec-digits n)

@@ -10,8 +10,8 @@ use Rattle.sheets.specs.declared.State.{State}
 use Rattle.sheets.specs.declared.Step.{Step}
 use Rattle.sheets.specs.declared.Step.the-variants.{On, Off}
 use Rattle.values.specs.declared.Value.{Value}
+use Rattle.values.specs.Value.{isMissing}
 use Rattle.directory.specs.declared.Fields.{Fields}
-use Rattle.sheets.specs.Sheet.{isMissing}
 use Rattle.sheets.specs.Order.{sheetLine, next, closed, startStep, globalStep, entryStep, valueStep, lastStep, noneStep}
 use Rattle.sheets.specs.Reading.{stepSaid}
 

@@ -15,13 +15,14 @@ use Rattle.values.specs.declared.Value.{Value}
 use Rattle.values.specs.declared.Strict.{Strict}
 use Rattle.values.specs.declared.Strict.the-variants.{Is, Not}
 use Rattle.values.specs.Strict.{strictOf}
+use Rattle.values.specs.Value.{isMissing}
 use Rattle.records.specs.Global.{firstField, lastField}
 use Rattle.sheets.specs.declared.EntryLine.{EntryLine}
 use Rattle.sheets.specs.declared.EntryLine.the-variants.{Got, Wrong}
 use Rattle.sheets.specs.declared.Said.the-variants.{Start, Global, Value as Given, Last, Nothing}
 use Rattle.sheets.specs.Plain.{most, plainOf}
 use Rattle.sheets.specs.Line.{run, entryOf}
-use Rattle.sheets.specs.Sheet.{isMark, isValue, isMissing, isStart, startLine, globalOf, globalLine, entryLineOf, valueOf, lastLine, byMark, saysOf}
+use Rattle.sheets.specs.Sheet.{isMark, isValue, isStart, startLine, globalOf, globalLine, entryLineOf, valueOf, lastLine, byMark, saysOf}
 use Rattle.sheets.specs.Reading.{NoValue}
 use Rattle.sheets.proofs.Plains.{columns-drop}
 

@@ -2,13 +2,13 @@
 use mathlib.Core.Bool.{Bool}
 use Prim.Native.Nat.{ℕ, _-_, _≤_}
 use Rattle.values.specs.Writing.{Inside}
+use Rattle.values.specs.Value.{isMissing}
 use Rattle.records.specs.Global.{firstField, lastField}
 use Rattle.sheets.specs.declared.Said.{Said}
 use Rattle.sheets.specs.declared.Said.the-variants.{Start, Global, Entry, Value as Given, Last, Nothing}
 use Rattle.sheets.specs.declared.State.{State}
 use Rattle.sheets.specs.declared.Step.{Step}
 use Rattle.sheets.specs.declared.Verdict.{Verdict}
-use Rattle.sheets.specs.Sheet.{isMissing}
 use Rattle.sheets.specs.Order.{startStep, globalStep, entryStep, valueStep, lastStep, noneStep, verdict}
 
 -- the step of a line, without the line

@@ -7,11 +7,9 @@ use lib.Dec.{ltb, leb, eqb}
 use Rattle.columns.specs.declared.Signed.{Signed}
 use Rattle.columns.specs.Columns.{printable}
 use Rattle.columns.specs.Decimal.{dec}
-use Rattle.values.specs.declared.Value.{Value}
-use Rattle.values.specs.declared.Value.the-variants.{Default, Whole, Real, Text}
 use Rattle.values.specs.declared.Strict.{Strict}
 use Rattle.values.specs.declared.Strict.the-variants.{Is, Not}
-use Rattle.values.specs.Value.{Item, itemOf, spelled}
+use Rattle.values.specs.Value.{Item, itemOf, spelled, isMissing}
 use Rattle.values.specs.Strict.{strictOf}
 use Rattle.records.specs.Global.{firstField, lastField}
 use Rattle.directory.specs.declared.Fields.{Fields}
@@ -88,13 +86,6 @@ unfoldable pub sheetText : Sheet → List ℕ
 sheetText s = textOf (linesOf s)
 
 -- ---- what a line says: it has one spelling
-
--- a default
-abbrev pub isMissing : Value → Bool
-isMissing Default = true
-isMissing (Whole neg size) = false
-isMissing (Real neg m eneg e double) = false
-isMissing (Text at count) = false
 
 -- a byte is R (82) or V (86)
 unfoldable pub isMark : ℕ → Bool

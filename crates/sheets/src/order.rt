@@ -6,10 +6,9 @@ use crate::Verdict;
 use columns::SheetLine;
 use columns::Signed;
 use values::Value;
+use values::is_missing;
 ghost use mathlib.Core.Path.{_≡_};
-ghost use mathlib.Core.Bool.{true, false};
 ghost use Prim.Native.Nat.{_+_, _*_, _^_, _≤_, _<_};
-ghost use Rattle.sheets.specs.Sheet.{isMissing};
 ghost use Rattle.sheets.specs.Order.{startStep, globalStep, entryStep, valueStep, lastStep, noneStep, finish};
 ghost use Rattle.sheets.specs.Reading.{stepSaid, pieceVerdict};
 
@@ -161,18 +160,6 @@ fn none_step(st: State, b: bool) -> Step
         return Step::Off(SheetLine(st.run));
     }
     Step::Off(SheetLine(line))
-}
-
-// Whether a value is missing.
-pub fn is_missing(v: Value) -> bool
-    ensures { λ r. ⌜ r ≡ isMissing v ⌝ }
-{
-    match v {
-        Value::Default => true,
-        Value::Whole { .. } => false,
-        Value::Real { .. } => false,
-        Value::Text { .. } => false,
-    }
 }
 
 // What a line does.

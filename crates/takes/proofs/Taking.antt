@@ -7,18 +7,19 @@ use lib.Dec.{eqb}
 use Rattle.layouts.specs.declared.Kind.{Kind}
 use Rattle.layouts.specs.declared.Kind.the-variants.{R, Given, Weight, S, I, Flag, Count, Outer, Upper1, Upper2, Degree1, Degree2, P, Q, Bound, Rest}
 use Rattle.values.specs.declared.Value.{Value}
+use Rattle.values.specs.Value.{isMissing}
 use Rattle.layouts.specs.declared.State.{State}
 use Rattle.layouts.specs.declared.Stepped.{Stepped}
 use Rattle.layouts.specs.Layout.{mostInteger, mostUpper}
-use Rattle.layouts.specs.Machine.{missing, real, above, text, within, size, need, refer, takes, withK1, withK2, withM1, withM2}
+use Rattle.layouts.specs.Machine.{real, above, text, within, size, need, refer, takes, withK1, withK2, withM1, withM2}
 use Rattle.layouts.proofs.Values.{within-size}
 
 module _ (k : Kind) (s : State) (v : Value) (class : ℕ) (r : Stepped) where
-  pub takes-r : (x y b : Bool) → k ≡ R → x ≡ real v → y ≡ missing v → b ≡ (x || y) → r ≡ need b s → r ≡ takes k s v class
+  pub takes-r : (x y b : Bool) → k ≡ R → x ≡ real v → y ≡ isMissing v → b ≡ (x || y) → r ≡ need b s → r ≡ takes k s v class
   unfolding takes
   takes-r x y b e ex ey eb q = rw (e, ← ex, ← ey, ← eb) q
 
-  pub takes-s : (x y b : Bool) → k ≡ S → x ≡ text v → y ≡ missing v → b ≡ (x || y) → r ≡ need b s → r ≡ takes k s v class
+  pub takes-s : (x y b : Bool) → k ≡ S → x ≡ text v → y ≡ isMissing v → b ≡ (x || y) → r ≡ need b s → r ≡ takes k s v class
   unfolding takes
   takes-s x y b e ex ey eb q = rw (e, ← ex, ← ey, ← eb) q
 
@@ -30,7 +31,7 @@ module _ (k : Kind) (s : State) (v : Value) (class : ℕ) (r : Stepped) where
   unfolding takes
   takes-weight b e eb q = rw (e, ← eb) q
 
-  pub takes-rest : (b : Bool) → k ≡ Rest → b ≡ missing v → r ≡ need b s → r ≡ takes k s v class
+  pub takes-rest : (b : Bool) → k ≡ Rest → b ≡ isMissing v → r ≡ need b s → r ≡ takes k s v class
   unfolding takes
   takes-rest b e eb q = rw (e, ← eb) q
 

@@ -5,7 +5,6 @@ ghost use Prim.Native.Nat.{_^_, _<_};
 ghost use lib.Dec.{eqb};
 ghost use Rattle.layouts.specs.Machine.{need, withK1, withK2, withM1, withM2, withBad, refer, takes};
 use layoutrows::told::above_in;
-use layoutrows::told::missing_in;
 use layoutrows::told::real_in;
 use layoutrows::told::size_in;
 use layoutrows::told::text_in;
@@ -14,6 +13,7 @@ use layouts::Kind;
 use layouts::State;
 use layouts::Stepped;
 use values::Value;
+use values::is_missing;
 
 // The largest integer, and the largest K.
 const MOST_INTEGER: u32 = 2147483647;
@@ -112,10 +112,10 @@ pub fn takes_in(k: Kind, s: State, v: Value, class: u8) -> Stepped
     ensures { λ r. ⌜ r ≡ takes k s v class ⌝ }
 {
     match k {
-        Kind::R => need_of(either(real_in(v), missing_in(v)), s),
+        Kind::R => need_of(either(real_in(v), is_missing(v)), s),
         Kind::Given => need_of(real_in(v), s),
         Kind::Weight => need_of(above_in(v), s),
-        Kind::S => need_of(either(text_in(v), missing_in(v)), s),
+        Kind::S => need_of(either(text_in(v), is_missing(v)), s),
         Kind::I { low, high } => need_of(within_in(false, low, high, v), s),
         Kind::Flag => need_of(within_in(true, 0, 1, v), s),
         Kind::Count => keep_k1(within_in(false, 0, MOST_INTEGER, v), s, size_in(v)),
@@ -127,6 +127,6 @@ pub fn takes_in(k: Kind, s: State, v: Value, class: u8) -> Stepped
         Kind::P { want } => refer_in(true, want, s, v, class),
         Kind::Q { want } => refer_in(false, want, s, v, class),
         Kind::Bound { want } => refer_in(s.k2 != 1, want, s, v, class),
-        Kind::Rest => need_of(missing_in(v), s),
+        Kind::Rest => need_of(is_missing(v), s),
     }
 }

@@ -38,6 +38,13 @@ isDefault (whole neg size) = false
 isDefault (real neg m eneg e double) = false
 isDefault (text bs) = false
 
+-- whether a value that was read is a default
+abbrev pub isMissing : Value → Bool
+isMissing Default = true
+isMissing (Whole neg size) = false
+isMissing (Real neg m eneg e double) = false
+isMissing (Text start count) = false
+
 -- ---- its one spelling
 
 -- D (68) for a double, E (69) for a single

@@ -2,6 +2,9 @@
 // Crate `numbers` reads a number or a string's head from the rest of a line, `spell` writes a value in its one spelling, `strict` reads
 // that spelling alone.
 
+ghost use mathlib.Core.Path.{_≡_};
+ghost use Rattle.values.specs.Value.{isMissing};
+
 // A value as it is read. A real is m times ten to plus or minus e; a string is where its characters stand in the record's text, and how many.
 pub enum Value {
     Default,
@@ -84,4 +87,22 @@ pub struct Run {
 pub struct Decimal {
     pub value: u64,
     pub end: usize,
+}
+
+// Whether a value is a default.
+pub fn is_missing(v: Value) -> bool
+    ensures { λ r. ⌜ r ≡ isMissing v ⌝ }
+{
+    match v {
+        Value::Default => true,
+        Value::Whole { neg: _, size: _ } => false,
+        Value::Real {
+            neg: _,
+            m: _,
+            eneg: _,
+            e: _,
+            double: _,
+        } => false,
+        Value::Text { start: _, count: _ } => false,
+    }
 }

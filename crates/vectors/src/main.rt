@@ -1,11 +1,31 @@
 // Tries the vectors of the pack at standard input, and says how many of them passed; those that did not are named.
-use trying::Packed;
-use trying::pack::vector_at;
-use trying::vector::gives;
-use trying::vector::wants_room;
+// `pack` finds a vector's parts, `room` makes a buffer ready and looks what became of it, `vector` tries one.
+mod pack;
+mod room;
+mod vector;
+
+use crate::pack::vector_at;
+use crate::vector::gives;
+use crate::vector::wants_room;
 ghost use mathlib.Core.Path.{_≡_};
 ghost use Prim.Native.Nat.{_≤_};
 ghost use lib.ListN.{length};
+
+// A vector: whether it is written (1) or read (0), under which list, the answer that is expected; where its name, its input and the expected
+// output stand in its pack, up to where the next vector begins.
+pub enum Packed {
+    Vector {
+        op: u64,
+        list: u64,
+        number: u64,
+        place: u64,
+        name: usize,
+        input: usize,
+        output: usize,
+        end: usize,
+    },
+    Broken,
+}
 
 // More than the pack takes.
 const PACK: usize = 524288;

@@ -12,6 +12,7 @@ use spell::head_len;
 use spell::real_len;
 use spell::whole_len;
 use values::Value;
+use values::is_missing;
 ghost use mathlib.Core.Path.{_≡_};
 ghost use Prim.Native.Nat.{_+_, _*_, _^_, _≤_, _<_};
 ghost use lib.ListN.{length, replicate};
@@ -21,29 +22,11 @@ ghost use Rattle.records.specs.Record.{valuesAt};
 ghost use Rattle.records.specs.Reading.{Stands};
 ghost use Rattle.records.specs.Written.{copied};
 ghost use Rattle.directory.specs.Naming.{typesAt};
-ghost use Rattle.layouts.specs.Machine.{missing};
 ghost use Rattle.layouts.specs.Entities.{run};
 ghost use Rattle.entities.specs.Walking.{stateAfter, owedAfter, lengthAfter, walkedFrom, Light};
 
 // The mark, the tab and the LF of a value line.
 const AROUND: usize = 3;
-
-fn is_missing(v: Value) -> bool
-    ensures { λ r. ⌜ r ≡ missing v ⌝ }
-{
-    match v {
-        Value::Default => true,
-        Value::Whole { neg: _, size: _ } => false,
-        Value::Real {
-            neg: _,
-            m: _,
-            eneg: _,
-            e: _,
-            double: _,
-        } => false,
-        Value::Text { start: _, count: _ } => false,
-    }
-}
 
 // The layout behind so many defaults.
 fn behind_defaults(file: &[u8], first: usize, n: usize, g: Stepped, owed: usize) -> Stepped

@@ -5,13 +5,13 @@ use mathlib.Core.List.{List, _∷_}
 use Prim.Native.Nat.{ℕ, _+_}
 use Rattle.columns.specs.Laid.{laid}
 use Rattle.values.specs.declared.Value.{Value}
-use Rattle.values.specs.Value.{itemOf}
+use Rattle.values.specs.Value.{itemOf, isMissing}
 use Rattle.sheets.specs.declared.Said.the-variants.{Value as Given}
 use Rattle.sheets.specs.declared.State.{State}
 use Rattle.sheets.specs.declared.Step.{Step}
 use Rattle.sheets.specs.declared.Step.the-variants.{On}
 use Rattle.sheets.specs.declared.Verdict.{Verdict}
-use Rattle.sheets.specs.Sheet.{Line, value, isMissing}
+use Rattle.sheets.specs.Sheet.{Line, value}
 use Rattle.sheets.specs.Order.{valueStep, stepLine, goLines}
 use Rattle.sheets.proofs.Walk.{step-said}
 use Rattle.rows.specs.Rows.{typesIn}

@@ -19,6 +19,7 @@ use tally::behind_value;
 use tally::tally_said;
 use tally::with_values;
 use values::Strict;
+use values::is_missing;
 ghost use mathlib.Core.Path.{_≡_};
 ghost use Prim.Native.Nat.{_^_, _≤_};
 ghost use lib.ListN.{length, drop};
@@ -52,7 +53,7 @@ fn past_values(t: &[u8], from: usize, begun: State, p: usize) -> Past
         }
         let spelled = next + 2;
         match strict_at(t, spelled, end) {
-            Strict::Is(value) => match order::value_step(state, order::is_missing(value)) {
+            Strict::Is(value) => match order::value_step(state, is_missing(value)) {
                 Step::On(st) => {
                     at = behind_value(at, &t[spelled..end], value);
                     state = st;

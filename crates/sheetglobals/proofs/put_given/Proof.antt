@@ -1,6 +1,6 @@
 -- A default has no line.
 use borrow.Author.Needs.{needs}
-use Rattle.printing.proofs.Given.{missing}
+use Rattle.printing.proofs.Given.{given-lines}
 use Rattle.sheetglobals.proofs.put_given.Statement.{statement}
 use Rattle.sheetglobals.proofs.put_given.Tie as tie
 
@@ -8,8 +8,8 @@ pub put-given-spec : {M : Type 1} → statement M
 put-given-spec =
     tie.close
     (tie.spec
-    (λ c κs. search (needs, missing))
-    (λ c. search (needs, missing))
-    (λ c κs. search (needs, missing))
-    (λ c. search (needs, missing))
-    (λ c. search (needs, missing)))
+    (λ c κs. search (needs, given-lines))
+    (λ c. search (needs, given-lines))
+    (λ c κs. search (needs, given-lines))
+    (λ c. search (needs, given-lines))
+    (λ c. search (needs, given-lines)))

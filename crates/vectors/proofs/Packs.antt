@@ -2,9 +2,9 @@
 use mathlib.Core.Path.{_≡_}
 use Prim.Native.Nat.{ℕ, _+_, _-_, _≤_, _<_}
 use native.Mathlib.Omega.{arith}
-use Rattle.trying.specs.declared.Packed.{Packed}
-use Rattle.trying.specs.declared.Packed.the-variants.{Vector}
-use Rattle.trying.specs.Packs.{Lies}
+use Rattle.vectors.specs.declared.Packed.{Packed}
+use Rattle.vectors.specs.declared.Packed.the-variants.{Vector}
+use Rattle.vectors.specs.Packs.{Lies}
 
 module _ (at n : ℕ) (x : Packed) (lies : Lies at n x) (op list number place name input output end : ℕ) (e : x ≡ Vector op list number place name input output end) where
   inside : Lies at n (Vector op list number place name input output end)

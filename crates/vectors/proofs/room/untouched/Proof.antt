@@ -2,8 +2,8 @@
 use Prim.Native.Nat.{_-_}
 use lib.ListN.{length}
 use borrow.Author.Needs.{needs}
-use Rattle.trying.proofs.room.untouched.Statement.{statement}
-use Rattle.trying.proofs.room.untouched.Tie as tie
+use Rattle.vectors.proofs.room.untouched.Statement.{statement}
+use Rattle.vectors.proofs.room.untouched.Tie as tie
 
 abbrev Inv-loop : tie.InvT-loop
 Inv-loop out from i₀ i = Unit {0}

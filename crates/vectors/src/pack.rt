@@ -6,7 +6,7 @@ use columns::wide;
 use fixed::read_field;
 ghost use Prim.Native.Nat.{_+_, _≤_, _<_};
 ghost use lib.ListN.{length};
-ghost use Rattle.trying.specs.Packs.{Lies};
+ghost use Rattle.vectors.specs.Packs.{Lies};
 
 // Seven numbers and an LF.
 const HEAD: usize = 57;

@@ -1,8 +1,8 @@
 -- The buffer is as long as what is expected, or longer.
 use borrow.Author.Needs.{needs}
-use Rattle.trying.proofs.Rooms.{parts}
-use Rattle.trying.proofs.vector.holds.Statement.{statement}
-use Rattle.trying.proofs.vector.holds.Tie as tie
+use Rattle.vectors.proofs.Rooms.{parts}
+use Rattle.vectors.proofs.vector.holds.Statement.{statement}
+use Rattle.vectors.proofs.vector.holds.Tie as tie
 
 pub holds-spec : {M : Type 1} → statement M
 holds-spec =

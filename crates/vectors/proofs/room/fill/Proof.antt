@@ -3,8 +3,8 @@ use mathlib.Core.Path.{_≡_}
 use Prim.Native.Nat.{_-_}
 use lib.ListN.{length, length-set}
 use borrow.Author.Needs.{needs}
-use Rattle.trying.proofs.room.fill.Statement.{statement}
-use Rattle.trying.proofs.room.fill.Tie as tie
+use Rattle.vectors.proofs.room.fill.Statement.{statement}
+use Rattle.vectors.proofs.room.fill.Tie as tie
 
 abbrev Inv-loop : tie.InvT-loop
 Inv-loop out₀ i₀ out i = length out ≡ length out₀

@@ -1,7 +1,7 @@
 -- Where a vector stands in its pack.
 use Prim.Native.Nat.{ℕ, _≤_, _<_}
-use Rattle.trying.specs.declared.Packed.{Packed}
-use Rattle.trying.specs.declared.Packed.the-variants.{Vector, Broken}
+use Rattle.vectors.specs.declared.Packed.{Packed}
+use Rattle.vectors.specs.declared.Packed.the-variants.{Vector, Broken}
 
 -- behind `at`, its parts in order, inside a pack of n bytes
 abbrev pub Lies : ℕ → ℕ → Packed → Type 0

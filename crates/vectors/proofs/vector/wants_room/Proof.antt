@@ -1,8 +1,8 @@
 -- The buffer is long enough for a byte less.
 use borrow.Author.Needs.{needs}
-use Rattle.trying.proofs.Rooms.{parts}
-use Rattle.trying.proofs.vector.wants_room.Statement.{statement}
-use Rattle.trying.proofs.vector.wants_room.Tie as tie
+use Rattle.vectors.proofs.Rooms.{parts}
+use Rattle.vectors.proofs.vector.wants_room.Statement.{statement}
+use Rattle.vectors.proofs.vector.wants_room.Tie as tie
 
 pub wants-room-spec : {M : Type 1} → statement M
 wants-room-spec =
