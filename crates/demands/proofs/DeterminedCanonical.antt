@@ -1,4 +1,4 @@
--- No second result fits the contract of a public function of crate canonical. Assumes nothing.
+-- No second result fits the contract of a public function of crates tally and canonical. Assumes nothing.
 use mathlib.Core.Path.{refl}
 use Rattle.tally.proofs.tally_said.Kinds as tally-tally-said-kinds
 use Rattle.tally.proofs.tally_said.Reads as tally-tally-said-reads

@@ -1,4 +1,4 @@
--- No second result fits the contract of a public function of crate cards. Assumes nothing.
+-- No second result fits the contract of a public function of crates sections, cards and oneline. Assumes nothing.
 use mathlib.Core.Path.{refl}
 use Rattle.sections.proofs.cards.Kinds as sections-cards-kinds
 use Rattle.sections.proofs.cards.Reads as sections-cards-reads

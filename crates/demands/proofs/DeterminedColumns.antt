@@ -1,4 +1,4 @@
--- No second result fits the contract of a public function of crate columns. Assumes nothing.
+-- No second result fits the contract of a public function of crates emit, decimals, fixed and columns. Assumes nothing.
 use mathlib.Core.Path.{refl}
 use Rattle.emit.proofs.put.Kinds as emit-put-kinds
 use Rattle.emit.proofs.put.Reads as emit-put-reads

@@ -1,4 +1,4 @@
--- No second result fits the contract of a public function of crate directory. Assumes nothing.
+-- No second result fits the contract of a public function of crates dlines, classes, entryrules and dsection. Assumes nothing.
 use mathlib.Core.Path.{refl}
 use Rattle.dlines.proofs.entry_at.Kinds as dlines-entry-at-kinds
 use Rattle.dlines.proofs.entry_at.Reads as dlines-entry-at-reads

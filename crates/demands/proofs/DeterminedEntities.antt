@@ -1,4 +1,4 @@
--- No second result fits the contract of a public function of crate entities. Assumes nothing.
+-- No second result fits the contract of a public function of crates entitypass, entities and walking. Assumes nothing.
 use mathlib.Core.Path.{refl, ap₂}
 use Prim.Native.Nat.{ℕ}
 use Rattle.entities.specs.declared.EntityAnswer.{EntityAnswer}

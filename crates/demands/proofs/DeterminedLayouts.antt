@@ -1,4 +1,4 @@
--- No second result fits the contract of a public function of crate layouts. Assumes nothing.
+-- No second result fits the contract of a public function of crates typelists, machine, layoutrows and takes. Assumes nothing.
 use mathlib.Core.Path.{refl}
 use Rattle.typelists.proofs.bit_of.Kinds as typelists-bit-of-kinds
 use Rattle.typelists.proofs.bit_of.Reads as typelists-bit-of-reads

@@ -1,4 +1,4 @@
--- No second result fits the contract of a public function of crate owners. Assumes nothing.
+-- No second result fits the contract of a public function of crates owning and owners. Assumes nothing.
 use mathlib.Core.Path.{refl}
 use Rattle.owning.proofs.owners.Kinds as owning-owners-kinds
 use Rattle.owning.proofs.owners.Reads as owning-owners-reads

@@ -1,4 +1,4 @@
--- No second result fits the contract of a public function of crate passes. Assumes nothing.
+-- No second result fits the contract of a public function of crates dpass, gpass and before. Assumes nothing.
 use mathlib.Core.Path.{refl}
 use Rattle.dpass.proofs.entries.Kinds as dpass-entries-kinds
 use Rattle.dpass.proofs.entries.Reads as dpass-entries-reads

@@ -1,4 +1,4 @@
--- No second result fits the contract of a public function of crate printing. Assumes nothing.
+-- No second result fits the contract of a public function of crates carried, printing, sheetglobals, printed and sheetstarts. Assumes nothing.
 use mathlib.Core.Path.{refl}
 use Rattle.carried.proofs.put_values.Kinds as carried-put-values-kinds
 use Rattle.carried.proofs.put_values.Reads as carried-put-values-reads

@@ -1,4 +1,4 @@
--- No second result fits the contract of a public function of crate reading. Assumes nothing.
+-- No second result fits the contract of a public function of crates weighing and reading. Assumes nothing.
 use mathlib.Core.Path.{refl}
 use Rattle.weighing.proofs.last_pass.Kinds as weighing-last-pass-kinds
 use Rattle.weighing.proofs.last_pass.Reads as weighing-last-pass-reads

@@ -1,4 +1,4 @@
--- No second result fits the contract of a public function of crate records. Assumes nothing.
+-- No second result fits the contract of a public function of crates flow, global, freeformat and records. Assumes nothing.
 use mathlib.Core.Path.{refl}
 use Rattle.flow.proofs.put_char.Kinds as flow-put-char-kinds
 use Rattle.flow.proofs.put_char.Reads as flow-put-char-reads

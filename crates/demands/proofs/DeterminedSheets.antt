@@ -1,4 +1,4 @@
--- No second result fits the contract of a public function of crate sheets. Assumes nothing.
+-- No second result fits the contract of a public function of crates sheets, plain, said and sheetlines. Assumes nothing.
 use mathlib.Core.Path.{_≡_, refl, sym, ap, ap₂, _∙_}
 use Prim.Native.Nat.{ℕ}
 use denote.Ref.{now}

@@ -1,4 +1,4 @@
--- No second result fits the contract of a public function of crate values. Assumes nothing.
+-- No second result fits the contract of a public function of crates strict, digits, numbers, spell, limits and values. Assumes nothing.
 use mathlib.Core.Path.{refl}
 use Rattle.strict.proofs.strict.Kinds as strict-strict-kinds
 use Rattle.strict.proofs.strict.Reads as strict-strict-reads

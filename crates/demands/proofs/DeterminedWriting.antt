@@ -1,4 +1,4 @@
--- No second result fits the contract of a public function of crate writing. Assumes nothing.
+-- No second result fits the contract of a public function of crates writing, judging and asking. Assumes nothing.
 use mathlib.Core.Path.{refl}
 use Rattle.writing.proofs.check.Kinds as check-kinds
 use Rattle.writing.proofs.check.Reads as check-reads

@@ -24,7 +24,7 @@ use Rattle.szelmikra.proofs.szelmikra_write.Reads as szelmikra-write-reads
 
 -- ---- a call that has returned, as its contract has it: list, bytes passed, the lent buffer before, the answer, the buffer after
 
--- of `rewrap::read`, or of `szelmikra_read`
+-- of `unwrap::read`, or of `szelmikra_read`
 pub data ReadCall : ℕ → List ℕ → List ℕ → Answer → List ℕ → Type 0 where
   read : (κs : Lfts 2) (a : Dens κs read-kinds.ps) (z : Answer) (left : Lasts (endedOf 2 read-kinds.ps read-kinds.r) κs a)
       → read-reads.Post κs a z (atExit (endedOf 2 read-kinds.ps read-kinds.r) κs a left)
@@ -33,7 +33,7 @@ pub data ReadCall : ℕ → List ℕ → List ℕ → Answer → List ℕ → Ty
       → szelmikra-read-reads.Post κs a z (atExit (endedOf 2 szelmikra-read-kinds.ps szelmikra-read-kinds.r) κs a left)
       → ReadCall (a .0) (now (a .1 .0)) (now (a .1 .1 .0)) z (left .1 .1 .0)
 
--- of `rewrap::write`, or of `szelmikra_write`
+-- of `wrap::write`, or of `szelmikra_write`
 pub data WriteCall : ℕ → List ℕ → List ℕ → Answer → List ℕ → Type 0 where
   write : (κs : Lfts 2) (a : Dens κs write-kinds.ps) (z : Answer) (left : Lasts (endedOf 2 write-kinds.ps write-kinds.r) κs a)
       → write-reads.Post κs a z (atExit (endedOf 2 write-kinds.ps write-kinds.r) κs a left)

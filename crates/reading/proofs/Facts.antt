@@ -1,4 +1,4 @@
--- What a caller of `check` has in hand: a good file has a model, is ready to be printed, and has delimiters; a refusal is that of reading.
+-- What a caller of `weighing::check` has in hand: a good file has a model, is ready to be printed, and has delimiters; a refusal is that of reading.
 use mathlib.Core.Path.{_≡_, refl, sym, ap, ap₂, _∙_}
 use mathlib.Core.Bool.{true}
 use mathlib.Core.List.{List, [], _∷_, map}
@@ -88,7 +88,7 @@ parts list f m h =
       is = cc;
     }
 
--- ---- the answer of `check`
+-- ---- the answer of `weighing::check`
 
 -- the model of a file with these counts and delimiters: its entries carry what stands in their records
 pub record Modelled (list : ℕ) (f : List ℕ) (c : Counts) (p d : ℕ) : Type 0 where

@@ -1,4 +1,4 @@
-// What C and C++ call; include/szelmikra.h declares it. Each function is the proved one of `rewrap` under a plain name.
+// What C and C++ call; include/szelmikra.h declares it. Each function is the proved one of `unwrap` or `wrap` under a plain name.
 use rewrap::Answer;
 ghost use mathlib.Core.Path.{_≡_};
 ghost use lib.ListN.{length};

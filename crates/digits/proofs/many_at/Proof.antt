@@ -1,4 +1,4 @@
--- `numbers::many_at`: the run so far, capped, and the digits left spell what all the digits spell.
+-- `digits::many_at`: the run so far, capped, and the digits left spell what all the digits spell.
 use mathlib.Core.Path.{_≡_}
 use Prim.Native.Nat.{_+_, _-_, _≤_}
 use lib.ListN.{length, drop}

@@ -1,4 +1,4 @@
--- `numbers::run_of`: one more digit changes the run as the definition has it; the cap is in v already.
+-- `digits::run_of`: one more digit changes the run as the definition has it; the cap is in v already.
 use borrow.Author.Needs.{needs}
 use Rattle.values.proofs.Steps.{parts}
 use Rattle.digits.proofs.run_of.Statement.{statement}

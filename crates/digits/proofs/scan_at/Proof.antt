@@ -1,4 +1,4 @@
--- `numbers::scan_at`: the run so far and the digits left spell what all the digits spell; past sixteen digits another goes on.
+-- `digits::scan_at`: the run so far and the digits left spell what all the digits spell; past sixteen digits another goes on.
 use mathlib.Core.Path.{_≡_}
 use Prim.Native.Nat.{_+_, _-_, _≤_}
 use lib.ListN.{length, drop}

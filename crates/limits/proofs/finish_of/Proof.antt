@@ -1,4 +1,4 @@
--- `numbers::finish_of`: by the exponent and the point, as the definition goes.
+-- `limits::finish_of`: by the exponent and the point, as the definition goes.
 use borrow.Author.Needs.{needs}
 use Rattle.values.proofs.Laws.{laws}
 use Rattle.limits.proofs.finish_of.Statement.{statement}

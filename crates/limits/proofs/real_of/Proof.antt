@@ -1,4 +1,4 @@
--- `numbers::real_of`: by its limits: zero, too many digits, an exponent too far from 0, or within them.
+-- `limits::real_of`: by its limits: zero, too many digits, an exponent too far from 0, or within them.
 use borrow.Author.Needs.{needs}
 use Rattle.values.proofs.Steps.{parts}
 use Rattle.limits.proofs.real_of.Statement.{statement}

@@ -1,4 +1,4 @@
--- `numbers::whole_of`: by its limit, and 0 has no sign.
+-- `limits::whole_of`: by its limit, and 0 has no sign.
 use borrow.Author.Needs.{needs}
 use Rattle.values.proofs.Steps.{parts}
 use Rattle.limits.proofs.whole_of.Statement.{statement}

@@ -1,4 +1,4 @@
--- `owners::owners`: the first entry that fails, or else the first line; either is small, since a file has at most so many lines.
+-- `owning::owners`: the first entry that fails, or else the first line; either is small, since a file has at most so many lines.
 use borrow.Author.Needs.{needs}
 use Rattle.owners.proofs.Laws.{answers, answer-small}
 use Rattle.owning.proofs.owners.Statement.{statement}

@@ -1,4 +1,4 @@
--- `cards::cards`: the pass from the counts so far over the lines left is the pass over all lines; the total of the counts is the line reached.
+-- `sections::cards`: the pass from the counts so far over the lines left is the pass over all lines; the total of the counts is the line reached.
 use mathlib.Core.Path.{_≡_}
 use Prim.Native.Nat.{_+_, _-_, _≤_}
 use Rattle.cards.specs.Cards.{mostLines, linesFrom, linesOf, pass, start, total}
