@@ -36,11 +36,16 @@ sample: tools
 
 lib: target/staticlib/libszelmikra.a
 
+# What the archive leans on, in the order of crates.txt: so those are proved side by side that take about as long.
+FLOORS = $(shell awk '/^[a-z]/ { sub(":", ""); name[++n] = $$1; line[n] = $$0 } END { need["szelmikra"] = 1; \
+    for (i = n; i > 0; i--) if (need[name[i]]) { k = split(line[i], to, " "); for (j = 2; j <= k; j++) need[to[j]] = 1 } \
+    for (i = 1; i <= n; i++) if (need[name[i]] && name[i] != "szelmikra") print name[i] }' crates.txt)
+
 # What the prover prints is kept aside; it is shown if it refuses.
 target/staticlib/libszelmikra.a: $(shell find crates -name '*.rt')
 	@mkdir -p target
 	@echo 'proving the library, which takes some minutes; target/szelmikra.log tells how far it is' >&2
-	@{ rt check unwrap wrap && rt staticlib szelmikra; } >target/szelmikra.log 2>&1 || { cat target/szelmikra.log; exit 1; }
+	@{ rt check $(FLOORS) && rt staticlib szelmikra; } >target/szelmikra.log 2>&1 || { cat target/szelmikra.log; exit 1; }
 
 $(OUT)/%.o: host/%.cpp host/host.mk Makefile | toolchain
 	@mkdir -p $(@D)
