@@ -1,7 +1,7 @@
 // The archive against plain, on random files and sheets, good and damaged, or on a few large ones.
 //
 //     differential [--seed N] [--first N] [--count N] [--keep FOLDER]
-//     differential --large
+//     differential --large [--keep FOLDER]
 //
 // Each random case has its own seed, made of --seed and its number, so `--first N --count 1` runs one again; --keep saves inputs on which
 // the two sides differ. It fails on any difference; a whole run, which starts at 0 and has the usual count or more, also fails if a
@@ -188,27 +188,31 @@ std::uint64_t numberOf(const char *word) {
     return number;
 }
 
+[[noreturn]] void usage() {
+    std::fprintf(stderr, "usage: differential [--seed N] [--first N] [--count N] [--keep FOLDER]\n"
+                         "       differential --large [--keep FOLDER]\n");
+    std::exit(2);
+}
+
 Options parse(int count, char **words) {
     Options options;
-    if (count == 2 && std::strcmp(words[1], "--large") == 0) {
-        options.large = true;
-        return options;
-    }
-    for (int i = 1; i + 1 < count; i += 2) {
-        if (std::strcmp(words[i], "--seed") == 0)
-            options.seed = numberOf(words[i + 1]);
-        else if (std::strcmp(words[i], "--first") == 0)
-            options.first = numberOf(words[i + 1]);
-        else if (std::strcmp(words[i], "--count") == 0)
-            options.count = numberOf(words[i + 1]);
-        else if (std::strcmp(words[i], "--keep") == 0)
-            options.keep = words[i + 1];
+    for (int i = 1; i < count; ++i) {
+        const char *const option = words[i];
+        if (std::strcmp(option, "--large") == 0) {
+            options.large = true;
+            continue;
+        }
+        if (++i == count) usage();
+        if (std::strcmp(option, "--seed") == 0)
+            options.seed = numberOf(words[i]);
+        else if (std::strcmp(option, "--first") == 0)
+            options.first = numberOf(words[i]);
+        else if (std::strcmp(option, "--count") == 0)
+            options.count = numberOf(words[i]);
+        else if (std::strcmp(option, "--keep") == 0)
+            options.keep = words[i];
         else
-            count = 0;
-    }
-    if (count % 2 == 0) {
-        std::fprintf(stderr, "usage: differential [--seed N] [--first N] [--count N] [--keep FOLDER]\n       differential --large\n");
-        std::exit(2);
+            usage();
     }
     return options;
 }
