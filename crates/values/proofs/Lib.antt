@@ -12,3 +12,4 @@ pub mod Direct
 pub mod Backs
 pub mod Fronts
 pub mod Steps
+pub mod Worth

@@ -1,4 +1,5 @@
--- Cases a to k of document 01: what stands on the left, read as one value, has the spelling on the right, or gives that refusal.
+-- Worked examples: cases a to k of document 01. What stands on the left, read as one value, has the spelling on the right, or gives that
+-- refusal.
 use mathlib.Core.Path.{_≡_, refl}
 use mathlib.Core.Bool.{cond}
 use mathlib.Core.List.{List, [], _∷_, map}

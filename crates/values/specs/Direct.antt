@@ -1,5 +1,5 @@
--- How the code reads a spelling back: straight from the text, by what stands behind its sign and its digits. Positions count from the
--- start of the text l.
+-- The code's form: how the code reads a spelling back: straight from the text, by what stands behind its sign and its digits. Positions
+-- count from the start of the text l.
 use mathlib.Core.Bool.{Bool, true, false, cond, not, _&&_, _||_}
 use mathlib.Core.List.{List, [], _∷_}
 use Prim.Native.Nat.{ℕ, _+_, _-_, _*_, _%_, _^_}

@@ -1,6 +1,7 @@
 pub mod Number
 pub mod Head
 pub mod Value
+pub mod Worth
 pub mod Strict
 pub mod Direct
 pub mod Cases

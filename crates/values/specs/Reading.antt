@@ -1,4 +1,4 @@
--- How the code goes about it: the digits read so far are a Run, and numbers past seventeen digits are all alike.
+-- The code's form: the digits read so far are a Run, and numbers past seventeen digits are all alike.
 use mathlib.Core.Bool.{Bool, false, cond}
 use mathlib.Core.List.{List, [], _∷_}
 use Prim.Native.Nat.{ℕ, _+_, _-_, _*_, _^_, _≤_, min}

@@ -1,4 +1,4 @@
--- How the code goes about a spelling: a string's characters are copied from where they stand, everything else is spelt.
+-- The code's form: how the code goes about a spelling: a string's characters are copied from where they stand, everything else is spelt.
 use mathlib.Core.List.{List, []}
 use Prim.Native.Nat.{ℕ, _+_, _≤_}
 use lib.ListN.{take, drop}
