@@ -8,3 +8,4 @@ pub mod Round
 pub mod First
 pub mod Text
 pub mod Outcomes
+pub mod Stops

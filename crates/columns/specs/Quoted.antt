@@ -1,4 +1,4 @@
--- Text in quotes as bytes, for worked examples.
+-- Text in quotes as bytes.
 use mathlib.Core.List.{List, [], _∷_}
 use Prim.Native.Nat.{ℕ}
 use Prim.Native.Char.{code}

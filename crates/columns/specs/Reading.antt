@@ -1,4 +1,5 @@
--- What callers of the code lean on besides its answers: how large a number that was read can be, and where a number starts.
+-- The code's form: what callers of the code lean on besides its answers: how large a number that was read can be, and where a number
+-- starts.
 use mathlib.Core.Path.{_≡_}
 use mathlib.Core.List.{List}
 use Prim.Native.Nat.{ℕ, _≤_, _<_}
