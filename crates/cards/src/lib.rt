@@ -1,8 +1,10 @@
 // The lines of a file: their bytes, section letters, sequence numbers, and the T line; and where each section starts.
 // Crate `oneline` looks at one line, `sections` goes over all.
 
+use columns::DirectoryNumber;
 use columns::Fault;
 use columns::FileLine;
+use columns::ParameterLine;
 use columns::wide;
 ghost use mathlib.Core.Path.{_≡_};
 ghost use Prim.Native.Nat.{_+_, _*_, _^_, _<_, _≤_};
@@ -54,7 +56,19 @@ pub fn length_ok(len: usize) -> bool
     n <= MOST_LINES
 }
 
-// The index of entry i's first line; entries are counted from 0.
+// Entries are counted from 0 and P lines from 1. An index counts the lines of a file from 0: it is a place in the bytes, since line k
+// stands from byte LINE_BYTES * k on, and so a plain number. The `FileLine` of that line, which a person is told, is k + 1.
+
+// The directory number of entry i.
+pub fn entry_number(i: usize) -> DirectoryNumber
+    requires { ⌜ i < 2 ^ 30 ⌝ }
+    ensures { λ r. ⌜ r .0 ≡ 2 * i + 1 ⌝ }
+{
+    let n = i as u32;
+    DirectoryNumber(2 * n + 1)
+}
+
+// The index of entry i's first line.
 pub fn entry_line(c: Counts, i: usize) -> usize
     requires { ⌜ i < 2 ^ 32 ⌝ }
     ensures { λ r. ⌜ (r ≡ entryLine c i) × (r < 2 ^ 40) ⌝ }
@@ -62,10 +76,10 @@ pub fn entry_line(c: Counts, i: usize) -> usize
     wide(c.s) + wide(c.g) + 2 * i
 }
 
-// The index of P line k; P lines are counted from 1.
-pub fn parameter_line(c: Counts, k: usize) -> usize
-    requires { ⌜ (1 ≤ k) × (k < 2 ^ 32) ⌝ }
-    ensures { λ r. ⌜ (r ≡ parameterLine c k) × (r < 2 ^ 40) ⌝ }
+// The index of P line k.
+pub fn parameter_line(c: Counts, k: ParameterLine) -> usize
+    requires { ⌜ 1 ≤ k .0 ⌝ }
+    ensures { λ r. ⌜ (r ≡ parameterLine c (k .0)) × (r < 2 ^ 40) ⌝ }
 {
-    wide(c.s) + wide(c.g) + wide(c.d) + (k - 1)
+    wide(c.s) + wide(c.g) + wide(c.d) + (wide(k.0) - 1)
 }

@@ -1,4 +1,5 @@
-// What a directory number names: entry i of the file has its first D line at line first + 2 * i.
+// What a directory number names: entry i of the file has its first D line at index first + 2 * i among the lines.
+use columns::DirectoryNumber;
 use dlines::type_at;
 use references::NO_ENTRY;
 ghost use mathlib.Core.Path.{_≡_};
@@ -8,14 +9,14 @@ ghost use Rattle.references.specs.References.{classAt};
 ghost use Rattle.directory.specs.Naming.{typesAt};
 
 // The class of what a directory number names, among n entries.
-pub fn class_at(file: &[u8], first: usize, n: usize, number: u32) -> u8
+pub fn class_at(file: &[u8], first: usize, n: usize, number: DirectoryNumber) -> u8
     requires { ⌜ 81 * (first + 2 * n) ≤ length (now file) ⌝ }
-    ensures { λ r. ⌜ r ≡ classAt (typesAt (now (file .entry)) first n) number ⌝ }
+    ensures { λ r. ⌜ r ≡ classAt (typesAt (now (file .entry)) first n) (number .0) ⌝ }
 {
-    if number % 2 != 1 {
+    if number.0 % 2 != 1 {
         return NO_ENTRY;
     }
-    let i = (number / 2) as usize;
+    let i = (number.0 / 2) as usize;
     if n <= i {
         return NO_ENTRY;
     }

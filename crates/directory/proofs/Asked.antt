@@ -72,10 +72,10 @@ pub ruleset meaning = (attribute-minus, attribute-plain, number-plain, number-mi
 
 -- ---- what a reference asks
 
-pub asks-number : (a : Attribute) (n want : ℕ) → a ≡ Number n → asking false 0 want ≡ ofAttribute a want
+pub asks-number : (a : Attribute) (n want : ℕ) → a ≡ Number n → asking false (named 0) want ≡ ofAttribute a want
 asks-number a n want e = rw e
 
-pub asks-reference : (a : Attribute) (d : DirectoryNumber) (want : ℕ) → a ≡ Reference d → asking true (d .0) want ≡ ofAttribute a want
+pub asks-reference : (a : Attribute) (d : DirectoryNumber) (want : ℕ) → a ≡ Reference d → asking true d want ≡ ofAttribute a want
 asks-reference a d want e = rw e
 
 module _ (e : Entry) (j : ℕ) (r : Wanted) where
@@ -152,7 +152,7 @@ module _ (types : List ℕ) where
 
     pub rest-next : (j : ℕ) → j < referenceCount → restFit types e j ≡ asksOk types (wantedOf e j) && restFit types e (j + 1)
     unfolding restFit wantedOf
-    rest-next j h = rw add-one (ap (allAskOk types) (drop-cons (wants e) j (asking false 0 any) h))
+    rest-next j h = rw add-one (ap (allAskOk types) (drop-cons (wants e) j (asking false (named 0) any) h))
 
     pub rest-end : (j : ℕ) → referenceCount ≤ j → restFit types e j ≡ true
     unfolding restFit

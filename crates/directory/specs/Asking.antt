@@ -1,4 +1,4 @@
--- The rules as the code asks them: a fault or none, and the references of an entry one by one.
+-- The code's form: the rules as the code asks them: a fault or none, and the references of an entry one by one.
 use mathlib.Core.Bool.{Bool, true, false, cond, not, _&&_}
 use mathlib.Core.List.{List, [], _∷_}
 use Prim.Native.Nat.{ℕ}
@@ -15,6 +15,7 @@ use Rattle.directory.specs.declared.Entry.{Entry}
 use Rattle.directory.specs.declared.Rule.{Rule}
 use Rattle.directory.specs.declared.Rule.the-variants.{Good, Refused}
 use Rattle.directory.specs.declared.Wanted.{Wanted}
+use Rattle.directory.specs.Fields.{named}
 use Rattle.directory.specs.Rules.{rangesOk}
 
 -- ---- 9 and 13
@@ -31,17 +32,17 @@ ruleOf x = cond (rangesOk x) (cond (eqb (x .entity .size) 306) (Refused Macro) G
 -- ---- 10: each of the references, asked or not
 
 -- whether it asks, the number that it names and the class that it wants
-abbrev pub asking : Bool → ℕ → ℕ → Wanted
+abbrev pub asking : Bool → DirectoryNumber → ℕ → Wanted
 asking asked number want = record { asked = asked; number = number; want = want }
 
 -- a reference of 0 asks nothing
 abbrev pub ofNumber : DirectoryNumber → ℕ → Wanted
-ofNumber d want = asking (not (eqb (d .0) 0)) (d .0) want
+ofNumber d want = asking (not (eqb (d .0) 0)) d want
 
 -- a number asks nothing
 abbrev pub ofAttribute : Attribute → ℕ → Wanted
-ofAttribute (Number n) want = asking false 0 want
-ofAttribute (Reference d) want = asking true (d .0) want
+ofAttribute (Number n) want = asking false (named 0) want
+ofAttribute (Reference d) want = asking true d want
 
 -- how many an entry may have
 abbrev pub referenceCount : ℕ
@@ -55,11 +56,11 @@ wants e =
 
 -- one of them
 unfoldable pub wantedOf : Entry → ℕ → Wanted
-wantedOf e j = getD (wants e) j (asking false 0 any)
+wantedOf e j = getD (wants e) j (asking false (named 0) any)
 
 -- it asks nothing, or what it names is there and of the class wanted
 abbrev pub asksOk : List ℕ → Wanted → Bool
-asksOk types w = cond (w .asked) (fits (w .want) (classAt types (w .number))) true
+asksOk types w = cond (w .asked) (fits (w .want) (classAt types (w .number .0))) true
 
 -- all of them
 abbrev pub allAskOk : List ℕ → List Wanted → Bool

@@ -1,4 +1,4 @@
--- The types of a file's entries, read where they stand: what a reference names is told by them.
+-- The code's form: the types of a file's entries, read where they stand: what a reference names is told by them.
 use mathlib.Core.List.{List, map}
 use Prim.Native.Nat.{ℕ, _+_, _*_}
 use Rattle.columns.specs.First.{upFrom}

@@ -1,4 +1,5 @@
--- What the code goes by besides its answers: where a slot stands, the two lines one by one, how large what was read can be, and what can be read back.
+-- The code's form: what the code goes by besides its answers: where a slot stands, the two lines one by one, how large what was read can
+-- be, and what can be read back.
 use mathlib.Core.Path.{_≡_}
 use mathlib.Core.Bool.{true, false}
 use mathlib.Core.List.{List, [], _∷_, _++_, map}

@@ -69,6 +69,6 @@ pub enum Rule {
 // What a reference of an entry asks, if it asks: that this directory number names an entry of the class wanted.
 pub struct Wanted {
     pub asked: bool,
-    pub number: u32,
+    pub number: DirectoryNumber,
     pub want: u8,
 }

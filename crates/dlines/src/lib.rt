@@ -1,4 +1,4 @@
-// The two D lines of an entry, read where they stand.
+// The two D lines of an entry, read where they stand. A line is told by its index in the file, from 0: it is a place in the bytes.
 
 use columns::Field;
 use columns::ParameterLine;
@@ -323,12 +323,12 @@ pub fn type_at(file: &[u8], k: usize) -> u32
     size_in(file, k, TYPE)
 }
 
-pub fn pointer_at(file: &[u8], k: usize) -> u32
+pub fn pointer_at(file: &[u8], k: usize) -> ParameterLine
     requires { ⌜ 81 * k + 162 ≤ length (now file) ⌝ }
-    ensures { λ r. ⌜ r ≡ sizeOf (signedOf (slotIn (now (file .entry)) k Slot.pointer)) ⌝ }
-    ensures { λ r. ⌜ r < 100000000 ⌝ }
+    ensures { λ r. ⌜ r .0 ≡ sizeOf (signedOf (slotIn (now (file .entry)) k Slot.pointer)) ⌝ }
+    ensures { λ r. ⌜ r .0 < 100000000 ⌝ }
 {
-    size_in(file, k, POINTER)
+    ParameterLine(size_in(file, k, POINTER))
 }
 
 pub fn lines_at(file: &[u8], k: usize) -> u32

@@ -1,4 +1,4 @@
-// What an entry names: an entry of the file, of the type wanted (10). Entry i has its first D line at line first + 2 * i.
+// What an entry names: an entry of the file, of the type wanted (10). Entry i has its first D line at index first + 2 * i among the lines.
 use columns::Fault;
 use columns::FileLine;
 use directory::Entry;

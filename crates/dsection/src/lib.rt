@@ -1,4 +1,5 @@
 // The two D lines of an entry, laid over a lent buffer: columns 1 to 72 of each.
+use columns::ParameterLine;
 use columns::Signed;
 use directory::Fields;
 use directory::SLOT_COLUMNS;
@@ -32,14 +33,14 @@ fn put_three(out: &mut [u8], at: usize, x: Signed, y: Signed, z: Signed) -> usiz
 }
 
 // Writes the first D line of an entry; `from` is its parameter pointer. The status has eight digits.
-pub fn put_first(out: &mut [u8], at: usize, x: Fields, from: u32) -> usize
+pub fn put_first(out: &mut [u8], at: usize, x: Fields, from: ParameterLine) -> usize
     requires { ⌜ at < 2 ^ 59 ⌝ }
-    ensures { λ r. ⌜ Wrote (now (out .entry)) at (firstLine x from) (now (out .exit)) r ⌝ }
+    ensures { λ r. ⌜ Wrote (now (out .entry)) at (firstLine x (from .0)) (now (out .exit)) r ⌝ }
     ensures { λ r. ⌜ r ≤ at + 252 ⌝ }
 {
     let status = x.status;
     let a = put_number(out, at, x.entity);
-    let b = decimals::put_right(out, a, 32, SLOT_COLUMNS, from as u64);
+    let b = decimals::put_right(out, a, 32, SLOT_COLUMNS, from.0 as u64);
     let c = put_three(out, b, x.structure, x.font, x.level);
     let d = put_three(out, c, x.view, x.matrix, x.display);
     decimals::put_right(out, d, 48, SLOT_COLUMNS, status.size as u64)

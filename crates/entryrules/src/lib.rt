@@ -237,7 +237,7 @@ fn of_number(d: DirectoryNumber, want: u8) -> Wanted
 {
     Wanted {
         asked: d.0 != 0,
-        number: d.0,
+        number: d,
         want,
     }
 }
@@ -248,12 +248,12 @@ fn of_attribute(a: Attribute, want: u8) -> Wanted
     match a {
         Attribute::Number(_) => Wanted {
             asked: false,
-            number: 0,
+            number: DirectoryNumber(0),
             want,
         },
         Attribute::Reference(d) => Wanted {
             asked: true,
-            number: d.0,
+            number: d,
             want,
         },
     }

@@ -34,9 +34,9 @@ pub number-0 : (f : Field) → f ≡ Bad → 0 ≡ numberOr0 f
 unfolding numberOr0
 number-0 f e = rw e
 
-pub number-n : (f : Field) (r n : ℕ) → f ≡ Number n → r ≡ n → r ≡ numberOr0 f
+pub number-n : (f : Field) (n : ℕ) → f ≡ Number n → n ≡ numberOr0 f
 unfolding numberOr0
-number-n f r n e h = rw e h
+number-n f n e = rw e
 
 -- with a sign
 pub size-bad : (f : SignedField) → f ≡ SignedBad → 0 ≡ sizeOr0 f
@@ -47,9 +47,9 @@ pub size-negative : (f : SignedField) (x : Signed) → f ≡ SignedNumber x → 
 unfolding sizeOr0
 size-negative f x e h = rw (e, h)
 
-pub size-some : (f : SignedField) (x : Signed) (r : ℕ) → f ≡ SignedNumber x → x .neg ≡ false → r ≡ x .size → r ≡ sizeOr0 f
+pub size-some : (f : SignedField) (x : Signed) → f ≡ SignedNumber x → x .neg ≡ false → x .size ≡ sizeOr0 f
 unfolding sizeOr0
-size-some f x r e h q = rw (e, h) q
+size-some f x e h = rw (e, h)
 
 pub size-of : (f : List ℕ) (l a r : ℕ) (x : SignedField) → a + 8 ≤ 81 → x ≡ signedOf (columns f (81 * l + a) (81 * l + a + 8)) → r ≡ sizeOr0 x → r ≡ sizeAt (lineAt f l) a
 unfolding sizeAt
@@ -106,49 +106,50 @@ module _ (f : List ℕ) (c : Counts) (i from count : ℕ) (ef : from ≡ fromIn 
   unfolding entryOwns
   entry-before h = rw (← ef, lt-leb _ _ h)
 
-  module _ (p : ℕ) (ep : p ≡ c .p) (lo : 1 ≤ from) where
-    pub entry-past : p + 1 < from + count → false ≡ entryIn f c i
+  module _ (p x n : ℕ) (ep : p ≡ c .p) (ex : x ≡ from) (ey : n ≡ count) (lo : 1 ≤ from) where
+    pub entry-past : p + 1 < x + n → false ≡ entryIn f c i
     unfolding entryOwns
     entry-past h = rw (← ef, ← en, le-leb _ _ lo, lt-leb (from + count) (c .p + 1) (omega arith))
 
-    pub entry-run : (end : ℕ) → from + count ≤ p + 1 → end ≡ firstNot (nameIs (ownerIn f c) (2 * i + 1)) from count → eqb end (from + count) ≡ entryIn f c i
+    pub entry-run : (m end e : ℕ) → x + n ≤ p + 1 → m ≡ 2 * i + 1 → end ≡ firstNot (nameIs (ownerIn f c) m) from count → e ≡ end → eqb e (x + n) ≡ entryIn f c i
     unfolding entryOwns
-    entry-run end h e = rw (← ef, ← en, le-leb _ _ lo, le-leb (from + count) (c .p + 1) (omega arith), ← e)
+    entry-run m end e h em el ee = rw (← ef, ← en, le-leb _ _ lo, le-leb (from + count) (c .p + 1) (omega arith), ← em, ← el, ee, ex, ey)
 
-module _ (f : List ℕ) (c : Counts) (k m d : ℕ) (em : m ≡ ownerIn f c k) (ed : d ≡ c .d) where
-  pub line-even : (m % 2 ≡ 1 → ⊥) → false ≡ lineIn f c k
+-- the numbers are read as they stand in the file, then counted with: x is m, y is from, n is count, j is k
+module _ (f : List ℕ) (c : Counts) (k m x d : ℕ) (em : m ≡ ownerIn f c k) (ex : x ≡ m) (ed : d ≡ c .d) where
+  pub line-even : (x % 2 ≡ 1 → ⊥) → false ≡ lineIn f c k
   unfolding lineOwned inRange
-  line-even h = rw (← em, ne-eqb _ _ h)
+  line-even h = rw (← em, ← ex, ne-eqb _ _ h)
 
-  module _ (odd : m % 2 ≡ 1) where
-    pub line-far : d / 2 ≤ m / 2 → false ≡ lineIn f c k
+  module _ (odd : x % 2 ≡ 1) where
+    pub line-far : d / 2 ≤ x / 2 → false ≡ lineIn f c k
     unfolding lineOwned inRange
-    line-far h = rw (← em, eq-eqb _ _ odd, le-ltb (m / 2) (c .d / 2) (omega arith))
+    line-far h = rw (← em, ← ex, eq-eqb _ _ odd, le-ltb (x / 2) (c .d / 2) (omega arith))
 
-    module _ (from count : ℕ) (near : m / 2 < d / 2) (ef : from ≡ fromIn f c (m / 2)) (en : count ≡ countIn f c (m / 2)) where
-      pub line-before : k < from → false ≡ lineIn f c k
+    module _ (from count j y : ℕ) (near : x / 2 < d / 2) (ef : from ≡ fromIn f c (x / 2)) (en : count ≡ countIn f c (x / 2)) (ej : j ≡ k) (ey : y ≡ from) where
+      pub line-before : j < y → false ≡ lineIn f c k
       unfolding lineOwned inRange
-      line-before h = rw (← em, eq-eqb _ _ odd, lt-ltb (m / 2) (c .d / 2) (omega arith), ← ef, lt-leb _ _ h)
+      line-before h = rw (← em, ← ex, eq-eqb _ _ odd, lt-ltb (x / 2) (c .d / 2) (omega arith), ← ef, lt-leb from k (omega arith))
 
-      pub line-within : from ≤ k → ltb k (from + count) ≡ lineIn f c k
+      pub line-within : (n : ℕ) → y ≤ j → n ≡ count → ltb j (y + n) ≡ lineIn f c k
       unfolding lineOwned inRange
-      line-within h = rw (← em, eq-eqb _ _ odd, lt-ltb (m / 2) (c .d / 2) (omega arith), ← ef, le-leb _ _ h, ← en)
+      line-within n h e = rw (← em, ← ex, eq-eqb _ _ odd, lt-ltb (x / 2) (c .d / 2) (omega arith), ← ef, le-leb from k (omega arith), ← en, ej, ey, e)
 
 pub ruleset tests = (entry-before, entry-past, entry-run, line-even, line-far, line-before, line-within)
 
-module _ (f : List ℕ) (c : Counts) (d p i : ℕ) (ed : d ≡ c .d) (ep : p ≡ c .p) (ei : i ≡ firstNot (entryIn f c) 0 (c .d / 2)) where
-  pub says-entry : (m : ℕ) → i < d / 2 → m ≡ 2 * i + 1 → Entry (record { 0 = m }) ≡ ownersIn f c
+module _ (f : List ℕ) (c : Counts) (d i : ℕ) (ed : d ≡ c .d) (ei : i ≡ firstNot (entryIn f c) 0 (c .d / 2)) where
+  pub says-entry : (m : DirectoryNumber) → i < d / 2 → m .0 ≡ 2 * i + 1 → Entry m ≡ ownersIn f c
   unfolding ownersIn ownersOf
-  says-entry m h e = rw (← ei, lt-ltb i (c .d / 2) (omega arith), e)
+  says-entry m h e = rw (← ei, lt-ltb i (c .d / 2) (omega arith), ← e)
 
-  module _ (k : ℕ) (ge : d / 2 ≤ i) (ek : k ≡ firstNot (lineIn f c) 1 (c .p)) where
-    pub says-line : (m : ℕ) → k ≤ p → m ≡ k → Line (record { 0 = m }) ≡ ownersIn f c
+  module _ (k : ParameterLine) (ge : d / 2 ≤ i) (ek : k .0 ≡ firstNot (lineIn f c) 1 (c .p)) where
+    pub says-line : k .0 ≤ c .p → Line k ≡ ownersIn f c
     unfolding ownersIn ownersOf
-    says-line m h e = rw (← ei, ← ek, le-ltb i (c .d / 2) (omega arith), le-leb k (c .p) (omega arith), e)
+    says-line h = rw (← ei, ← ek, le-ltb i (c .d / 2) (omega arith), le-leb _ _ h)
 
-    pub says-all : p < k → Everyone ≡ ownersIn f c
+    pub says-all : c .p < k .0 → Everyone ≡ ownersIn f c
     unfolding ownersIn ownersOf
-    says-all h = rw (← ei, ← ek, le-ltb i (c .d / 2) (omega arith), lt-leb k (c .p) (omega arith))
+    says-all h = rw (← ei, ← ek, le-ltb i (c .d / 2) (omega arith), lt-leb _ _ h)
 
 pub ruleset answers = (says-entry, says-line, says-all)
 

@@ -1,4 +1,5 @@
--- The rules of ownership with no order in them, what follows for each P line, and the blocks of a canonical file.
+-- On the way: the rules of ownership with no order in them over any names and ranges, what follows for each P line, and the blocks of a
+-- canonical file.
 use Prim.Native.Nat.{ℕ, _+_, _*_, _≤_, _<_}
 use mathlib.Core.Path.{_≡_}
 use Rattle.owners.specs.Owners.{startOf}

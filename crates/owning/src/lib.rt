@@ -7,8 +7,7 @@ use columns::wide;
 use owners::Owned;
 use owners::places;
 ghost use mathlib.Core.Path.{_≡_};
-ghost use mathlib.Core.Bool.{false};
-ghost use Prim.Native.Nat.{_+_, _*_, _/_, _^_, _<_, _≤_};
+ghost use Prim.Native.Nat.{_+_, _<_, _≤_};
 ghost use Rattle.columns.specs.First.{firstNot};
 ghost use Rattle.cards.specs.Cards.{entries};
 ghost use Rattle.cards.specs.Rules.{Holds};
@@ -16,28 +15,27 @@ ghost use Rattle.cards.specs.Shared.{fileLine};
 ghost use Rattle.owners.specs.Owners.{nameIs};
 ghost use Rattle.owners.specs.InFile.{ownerIn, entryIn, lineIn, ownersIn, lineOf, Small};
 
-fn narrow(x: usize) -> u32
-    requires { ⌜ x < 2 ^ 32 ⌝ }
-    ensures { λ r. ⌜ r ≡ x ⌝ }
-{
-    x as u32
-}
-
 // The first line from `from` on, of `count`, that does not name m.
-fn run_end(file: &[u8], c: Counts, m: usize, from: usize, count: usize) -> usize
-    requires { ⌜ Holds (now file) c × ((1 ≤ from) × (from + count ≤ c .p + 1)) ⌝ }
-    ensures { λ r. ⌜ r ≡ firstNot (nameIs (ownerIn (now (file .entry)) c) m) from count ⌝ }
+fn run_end(
+    file: &[u8],
+    c: Counts,
+    m: DirectoryNumber,
+    from: ParameterLine,
+    count: u32,
+) -> ParameterLine
+    requires { ⌜ Holds (now file) c × ((1 ≤ from .0) × (from .0 + count ≤ c .p + 1)) ⌝ }
+    ensures { λ r. ⌜ r .0 ≡ firstNot (nameIs (ownerIn (now (file .entry)) c) (m .0)) (from .0) count ⌝ }
 {
-    let end = from + count;
-    let mut k = from;
+    let end = from.0 + count;
+    let mut k = from.0;
     while k < end {
-        let name = places::owner_at(file, c, k);
-        if name != m {
-            return k;
+        let name = places::owner_at(file, c, ParameterLine(k));
+        if name.0 != m.0 {
+            return ParameterLine(k);
         }
         k += 1;
     }
-    k
+    ParameterLine(k)
 }
 
 // Whether entry i's range stays in P and every line in it names the entry. A range that passes is its entry's alone, so all of
@@ -49,22 +47,24 @@ fn entry_owns(file: &[u8], c: Counts, i: usize) -> bool
     let from = places::from_at(file, c, i);
     let count = places::count_at(file, c, i);
     let most = wide(c.p) + 1;
-    if from < 1 {
+    if from.0 < 1 {
         return false;
     }
-    if most < from + count {
+    let behind = wide(from.0) + wide(count);
+    if most < behind {
         return false;
     }
-    let end = run_end(file, c, 2 * i + 1, from, count);
-    end == from + count
+    let end = run_end(file, c, cards::entry_number(i), from, count);
+    wide(end.0) == behind
 }
 
 // Whether P line k lies in the range of the entry that it names.
-fn line_owned(file: &[u8], c: Counts, k: usize) -> bool
-    requires { ⌜ Holds (now file) c × ((1 ≤ k) × (k ≤ c .p)) ⌝ }
-    ensures { λ r. ⌜ r ≡ lineIn (now (file .entry)) c k ⌝ }
+fn line_owned(file: &[u8], c: Counts, k: ParameterLine) -> bool
+    requires { ⌜ Holds (now file) c × ((1 ≤ k .0) × (k .0 ≤ c .p)) ⌝ }
+    ensures { λ r. ⌜ r ≡ lineIn (now (file .entry)) c (k .0) ⌝ }
 {
-    let m = places::owner_at(file, c, k);
+    let owner = places::owner_at(file, c, k);
+    let m = wide(owner.0);
     let n = wide(c.d) / 2;
     if m % 2 != 1 {
         return false;
@@ -75,10 +75,12 @@ fn line_owned(file: &[u8], c: Counts, k: usize) -> bool
     }
     let from = places::from_at(file, c, i);
     let count = places::count_at(file, c, i);
-    if k < from {
+    let line = wide(k.0);
+    let start = wide(from.0);
+    if line < start {
         return false;
     }
-    k < from + count
+    line < start + wide(count)
 }
 
 fn first_entry(file: &[u8], c: Counts) -> usize
@@ -96,19 +98,19 @@ fn first_entry(file: &[u8], c: Counts) -> usize
     i
 }
 
-fn first_line(file: &[u8], c: Counts) -> usize
+fn first_line(file: &[u8], c: Counts) -> ParameterLine
     requires { ⌜ Holds (now file) c ⌝ }
-    ensures { λ r. ⌜ r ≡ firstNot (lineIn (now (file .entry)) c) 1 (c .p) ⌝ }
+    ensures { λ r. ⌜ r .0 ≡ firstNot (lineIn (now (file .entry)) c) 1 (c .p) ⌝ }
 {
-    let end = wide(c.p) + 1;
+    let end = c.p + 1;
     let mut k = 1;
     while k < end {
-        if !line_owned(file, c, k) {
-            return k;
+        if !line_owned(file, c, ParameterLine(k)) {
+            return ParameterLine(k);
         }
         k += 1;
     }
-    k
+    ParameterLine(k)
 }
 
 // Whether every P line of a file with these counts has its entry.
@@ -118,14 +120,13 @@ pub fn owners(file: &[u8], c: Counts) -> Owned
     ensures { λ r. ⌜ Small r ⌝ }
 {
     let n = wide(c.d) / 2;
-    let p = wide(c.p);
     let i = first_entry(file, c);
     if i < n {
-        return Owned::Entry(DirectoryNumber(narrow(2 * i + 1)));
+        return Owned::Entry(cards::entry_number(i));
     }
     let k = first_line(file, c);
-    if k <= p {
-        return Owned::Line(ParameterLine(narrow(k)));
+    if k.0 <= c.p {
+        return Owned::Line(k);
     }
     Owned::Everyone
 }

@@ -1,4 +1,4 @@
--- The entries of a file by their index: what is read at a computed place.
+-- The code's form: the entries of a file by their index: what is read at a computed place.
 use mathlib.Core.List.{List, [], map}
 use Prim.Native.Nat.{ℕ}
 use Rattle.columns.specs.First.{upFrom}

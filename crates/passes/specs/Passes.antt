@@ -1,4 +1,4 @@
--- The code's answers of a pass, as outcomes give them.
+-- The code's form: the answers of a pass, as outcomes give them.
 use Prim.Native.Nat.{ℕ}
 use Rattle.columns.specs.declared.FileLine.{FileLine}
 use Rattle.columns.specs.Refusal.{Outcome, accepted, refused}

@@ -1,4 +1,5 @@
--- What the last pass may count on: the counts hold, each entry is spelt by its lines, and its parameter lines are its own.
+-- The code's form: what the last pass may count on: the counts hold, each entry is spelt by its lines, and its parameter lines are its
+-- own.
 use mathlib.Core.Path.{_≡_}
 use mathlib.Core.List.{List}
 use Prim.Native.Nat.{ℕ}

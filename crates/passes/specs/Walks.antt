@@ -1,4 +1,4 @@
--- The passes as the code walks them: the first refusal of a row of checks, and Global's fields by their positions.
+-- The code's form: the passes as the code walks them: the first refusal of a row of checks, and Global's fields by their positions.
 use mathlib.Core.Bool.{Bool}
 use mathlib.Core.List.{List}
 use Prim.Native.Nat.{ℕ, zero, suc, _+_, _*_}

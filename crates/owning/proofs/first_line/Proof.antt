@@ -21,7 +21,6 @@ first-line-spec =
     (tie.spec
     Inv-loop
     μ-loop
-    (λ c κs. search (needs, firsts))
     (λ c. search (needs, firsts))
     (λ c. search (needs, firsts))
     (λ c κs. search (needs, firsts))

@@ -10,11 +10,11 @@ use Rattle.owning.proofs.run_end.Statement.{statement}
 use Rattle.owning.proofs.run_end.Tie as tie
 
 abbrev Inv-loop : tie.InvT-loop
-Inv-loop file c m from count end k₀ k =
-    (1 ≤ k) × (k ≤ end) × (firstNot (nameIs (ownerIn file c) m) k (end - k) ≡ firstNot (nameIs (ownerIn file c) m) from count)
+Inv-loop file c m count end k₀ k =
+    (1 ≤ k) × (k ≤ end) × (firstNot (nameIs (ownerIn file c) (m .0)) k (end - k) ≡ firstNot (nameIs (ownerIn file c) (m .0)) k₀ count)
 
 abbrev μ-loop : tie.MeasureT-loop
-μ-loop file c m from count end k₀ k = end - k
+μ-loop file c m count end k₀ k = end - k
 
 pub run-end-spec : {M : Type 1} → statement M
 run-end-spec =

@@ -11,5 +11,4 @@ number-or-0-spec =
     (λ c. search (needs, fields))
     (λ c. search (needs, fields))
     (λ c. search (needs, fields))
-    (λ c κs. search (needs, fields))
     (λ c. search (needs, fields)))

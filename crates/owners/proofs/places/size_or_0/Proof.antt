@@ -12,5 +12,4 @@ size-or-0-spec =
     (λ c. search (needs, fields))
     (λ c. search (needs, fields))
     (λ c. search (needs, fields))
-    (λ c κs. search (needs, fields))
     (λ c. search (needs, fields)))
