@@ -24,10 +24,8 @@ ghost use Rattle.values.specs.Value.{itemOf};
 ghost use Rattle.records.specs.Record.{valuesAt};
 ghost use Rattle.records.specs.Reading.{Stands, Writable};
 ghost use Rattle.directory.specs.Naming.{typesAt};
-ghost use Rattle.layouts.specs.Entities.{run, marks};
-ghost use Rattle.model.specs.Model.{marked};
-ghost use Rattle.entities.specs.Taking.{entityWith};
-ghost use Rattle.entities.specs.Marks.{carriedIn, markedFrom};
+ghost use Rattle.layouts.specs.Walk.{run};
+ghost use Rattle.entities.specs.Marks.{carriedIn, marksBegun, markedFrom};
 ghost use Rattle.printing.specs.Bytes.{valueBytes};
 ghost use Rattle.printing.specs.Taking.{Unrefused, owedBefore};
 
@@ -81,7 +79,7 @@ pub fn put_values(
     n: usize,
 ) -> usize
     requires { ⌜ Stands (now file) base 64 lines × (0 < c) × (0 < d) × (81 * (first + 2 * n) ≤ length (now file)) × (at < 2 ^ 58) × Unrefused (valuesAt 64 c d (textOf (now file) base 64 lines) 0) ⌝ }
-    ensures { λ r. ⌜ Wrote (now (out .entry)) at (valueBytes (marked (marks list (typesAt (now (file .entry)) first n) (entityWith typ form (carriedIn (valuesAt 64 c d (textOf (now (file .entry)) base 64 lines) 0)))) (carriedIn (valuesAt 64 c d (textOf (now (file .entry)) base 64 lines) 0)))) (now (out .exit)) r ⌝ }
+    ensures { λ r. ⌜ Wrote (now (out .entry)) at (valueBytes (markedFrom (typesAt (now (file .entry)) first n) (marksBegun list typ form) (carriedIn (valuesAt 64 c d (textOf (now (file .entry)) base 64 lines) 0)))) (now (out .exit)) r ⌝ }
     ensures { λ r. ⌜ r ≤ at + 70400 * lines ⌝ }
 {
     let mut g = marks_begun(list, typ, form);

@@ -8,6 +8,7 @@ use lib.ListN.{getD, drop}
 use Rattle.columns.specs.declared.Fault.{Fault}
 use Rattle.columns.specs.declared.Fault.the-variants.{FirstValue}
 use Rattle.columns.specs.Refusal.{Outcome, accepted, refused, demand, _then_}
+use Rattle.columns.proofs.Outcomes.{then-accepted}
 use Rattle.values.specs.Value.{default}
 use Rattle.records.specs.Record.{Values, values, wrong, valuesAt, trimmed}
 use Rattle.cards.specs.declared.Counts.{Counts}
@@ -15,7 +16,9 @@ use Rattle.layouts.specs.declared.Verdict.{Verdict}
 use Rattle.layouts.specs.declared.Verdict.the-variants.{Good as GoodVerdict, Layout, LayoutReference}
 use Rattle.layouts.specs.Known.{known}
 use Rattle.layouts.specs.Entities.{Entity, verdict, fault, entityCheck}
-use Rattle.model.specs.Model.{typeOf, entityOf}
+use Rattle.layouts.specs.Fits.{Keeps}
+use Rattle.layouts.proofs.Fits.{accepts-keeps}
+use Rattle.model.specs.Model.{Carried, typeOf, entityOf}
 use Rattle.model.specs.Read.{GlobalRead, Listed, isType, byParameters, carried, parametersOf, entityIn}
 use Rattle.entities.specs.declared.EntityAnswer.{EntityAnswer}
 use Rattle.entities.specs.declared.EntityAnswer.the-variants.{Good, Refused}
@@ -63,6 +66,23 @@ parameters-of list types place e (values vs end) = by (isType (typeOf (e .fields
         let x : Entity = entityOf (e .fields) (trimmed (drop 1 vs)) in
         then-of (carried e (trimmed (drop 1 vs))) place (entityCheck list types x place) (check-of list types x place)
     by false = of-refused FirstValue
+
+-- what an accepted entry carries keeps to its layout, if the list knows it
+parameters-keep : (list : ℕ) (types : List ℕ) (place : ℕ) (e : Listed) (vs : Values) (y : Carried) → byParameters list types place e vs ≡ accepted y
+    → known list (typeOf (y .fields)) (y .fields .form .size) ≡ true → Keeps types (entityOf (y .fields) (y .values))
+parameters-keep list types place e (wrong n start at) y h = let z : _≡_ {A = ℕ} 0 1 = cc in absurd (omega arith)
+parameters-keep list types place e (values vs end) y h =
+    let x : Entity = entityOf (e .fields) (trimmed (drop 1 vs)) in
+    let a = then-accepted (demand (isType (typeOf (e .fields)) (getD vs 0 default)) FirstValue place) (λ _. entityCheck list types x place then λ _. accepted (carried e (trimmed (drop 1 vs)))) y h in
+    let b = then-accepted (entityCheck list types x place) (λ _. accepted (carried e (trimmed (drop 1 vs)))) y (a .second) in
+    let s : accepted (carried e (trimmed (drop 1 vs))) ≡ accepted y = b .second in
+    let q : y ≡ carried e (trimmed (drop 1 vs)) = cc in
+    rw q (accepts-keeps types x list place (b .value) (b .first))
+
+pub entity-keeps : (list : ℕ) (f : List ℕ) (c : Counts) (g : GlobalRead) (types : List ℕ) (place : ℕ) (e : Listed) (y : Carried) → entityIn list f c g types place e ≡ accepted y
+    → known list (typeOf (y .fields)) (y .fields .form .size) ≡ true → Keeps types (entityOf (y .fields) (y .values))
+unfolding entityIn
+entity-keeps list f c g types place e y h = parameters-keep list types place e (valuesAt 64 (g .parameter) (g .record-end) (parametersOf f c e) 0) y h
 
 module _ (list : ℕ) (f : List ℕ) (c : Counts) (g : GlobalRead) (types : List ℕ) (place : ℕ) (e : Listed) {r : EntityAnswer}
     (er : r ≡ entityPassOf list types (typeOf (e .fields)) (e .fields .form .size) (valuesAt 64 (g .parameter) (g .record-end) (parametersOf f c e) 0)) where

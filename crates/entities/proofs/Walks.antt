@@ -26,13 +26,11 @@ use Rattle.layouts.specs.declared.Stepped.{Stepped}
 use Rattle.layouts.specs.declared.Stepped.the-variants.{Go, Bad}
 use Rattle.layouts.specs.Named.{named}
 use Rattle.layouts.specs.Machine.{stand, runsOn}
-use Rattle.layouts.specs.Stepping.{stepped}
-use Rattle.layouts.specs.Entities.{run}
+use Rattle.layouts.specs.Walk.{stepped, run}
 use Rattle.layouts.proofs.Steps.{runs-left, step-runs}
-use Rattle.layouts.proofs.Runs.{run-bad, run-append}
+use Rattle.layouts.proofs.Runs.{feed-stepped, run-bad, run-append}
 use Rattle.entities.specs.declared.Walked.{Walked}
 use Rattle.entities.specs.declared.Walked.the-variants.{Done, Wrong}
-use Rattle.entities.proofs.Marking.{feed-stepped}
 use Rattle.entities.specs.Walking.{carriedLength, owing, stateAfter, lengthAfter, owedAfter, walkedFrom}
 
 -- ---- a value by itself

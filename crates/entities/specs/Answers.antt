@@ -1,4 +1,4 @@
--- What the last pass says of one entity: the answer of `byParameters` without what is carried and without the place.
+-- The code's form: what the last pass says of one entity: the answer of `byParameters` without what is carried and without the place.
 use mathlib.Core.Bool.{Bool, false, cond, not, _&&_}
 use mathlib.Core.List.{List}
 use Prim.Native.Nat.{ℕ}
@@ -13,7 +13,8 @@ use Rattle.records.specs.Record.{Values, values, wrong, trimmed}
 use Rattle.layouts.specs.declared.Verdict.{Verdict}
 use Rattle.layouts.specs.declared.Verdict.the-variants.{Good as GoodVerdict, Layout, LayoutReference}
 use Rattle.layouts.specs.declared.Stepped.{Stepped}
-use Rattle.layouts.specs.Entities.{ended, entityCheck}
+use Rattle.layouts.specs.Entities.{entityCheck}
+use Rattle.layouts.specs.Walk.{ended}
 use Rattle.model.specs.Read.{isType}
 use Rattle.entities.specs.declared.EntityAnswer.{EntityAnswer}
 use Rattle.entities.specs.declared.EntityAnswer.the-variants.{Good, Refused}

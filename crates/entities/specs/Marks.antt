@@ -1,4 +1,4 @@
--- What printing needs of an entity: its carried values where they stand, and the mark of each.
+-- The code's form: what printing needs of an entity: its carried values where they stand, and the mark of each.
 use mathlib.Core.Bool.{Bool, cond}
 use mathlib.Core.List.{List, []}
 use Prim.Native.Nat.{ℕ}
@@ -9,7 +9,7 @@ use Rattle.layouts.specs.declared.Stepped.{Stepped}
 use Rattle.layouts.specs.declared.Stepped.the-variants.{Go, Bad}
 use Rattle.layouts.specs.Known.{known}
 use Rattle.layouts.specs.Machine.{start}
-use Rattle.layouts.specs.Entities.{marksFrom}
+use Rattle.layouts.specs.Walk.{marksFrom}
 use Rattle.model.specs.Model.{marked}
 
 -- the values behind the type, without the defaults at the end

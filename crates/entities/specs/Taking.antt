@@ -1,4 +1,4 @@
--- How the code goes through an entity's values: a value that was read and where it goes on behind it.
+-- The code's form: how the code goes through an entity's values: a value that was read and where it goes on behind it.
 use mathlib.Core.List.{List}
 use Prim.Native.Nat.{ℕ}
 use Rattle.values.specs.declared.Value.the-variants.{Default}

@@ -1,5 +1,5 @@
--- One walk over an entity's values: what the layout and the sheet see are those up to the last that is no default, so a default is owed until
--- a value is given behind it. Its lines in the sheet are measured on the way.
+-- The code's form: one walk over an entity's values: what the layout and the sheet see are those up to the last that is no default, so a
+-- default is owed until a value is given behind it. Its lines in the sheet are measured on the way.
 use mathlib.Core.Bool.{cond}
 use mathlib.Core.List.{List, [], _∷_, _++_}
 use Prim.Native.Nat.{ℕ, _+_, _*_, _≤_}
@@ -10,8 +10,7 @@ use Rattle.values.specs.Writing.{front}
 use Rattle.records.specs.Record.{Values, values, wrong, trimmed}
 use Rattle.records.specs.Written.{copied}
 use Rattle.layouts.specs.declared.Stepped.{Stepped}
-use Rattle.layouts.specs.Stepping.{stepped}
-use Rattle.layouts.specs.Entities.{run}
+use Rattle.layouts.specs.Walk.{stepped, run}
 use Rattle.entities.specs.declared.Walked.{Walked}
 use Rattle.entities.specs.declared.Walked.the-variants.{Done, Wrong}
 

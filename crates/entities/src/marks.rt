@@ -10,8 +10,7 @@ ghost use mathlib.Core.Path.{_≡_};
 ghost use Prim.Native.Nat.{_+_, _*_, _≤_};
 ghost use lib.ListN.{length};
 ghost use Rattle.directory.specs.Naming.{typesAt};
-ghost use Rattle.layouts.specs.Stepping.{stepped};
-ghost use Rattle.layouts.specs.Entities.{mark};
+ghost use Rattle.layouts.specs.Walk.{stepped, mark};
 ghost use Rattle.entities.specs.Marks.{marksBegun};
 
 // Before the first value.

@@ -1,5 +1,6 @@
-// What a value names: entry i of the file has its first D line at line first + 2 * i.
+// What a value names: entry i of the file has its first D line at index first + 2 * i among the lines.
 use classes::class_at;
+use columns::DirectoryNumber;
 use references::NO_ENTRY;
 use values::Value;
 ghost use mathlib.Core.Path.{_≡_};
@@ -19,7 +20,7 @@ pub fn named_at(file: &[u8], first: usize, n: usize, v: Value) -> u8
             if neg {
                 return NO_ENTRY;
             }
-            class_at(file, first, n, size)
+            class_at(file, first, n, DirectoryNumber(size))
         }
         Value::Real {
             neg: _,

@@ -8,7 +8,7 @@ use native.Mathlib.Omega.{arith}
 use borrow.Author.Tests.{not-true, not-false}
 use Rattle.columns.specs.declared.Fault.{Fault}
 use Rattle.columns.specs.declared.Fault.the-variants.{FirstValue, Layout as LayoutFault}
-use Rattle.columns.specs.Refusal.{accepted, demand, _then_}
+use Rattle.columns.specs.Refusal.{Outcome, accepted, demand, _then_}
 use Rattle.values.specs.declared.Value.{Value}
 use Rattle.values.specs.Value.{Item, itemOf}
 use Rattle.records.specs.declared.Got.{Got}
@@ -22,12 +22,15 @@ use Rattle.layouts.specs.declared.Stepped.the-variants.{Go, Bad}
 use Rattle.layouts.specs.declared.Verdict.{Verdict}
 use Rattle.layouts.specs.Machine.{start, end}
 use Rattle.layouts.specs.Known.{known}
-use Rattle.layouts.specs.Entities.{run, ended, verdict, verdictFrom, fault, entityCheck}
+use Rattle.layouts.specs.Entities.{fault}
+use Rattle.layouts.specs.Walk.{run, verdictFrom, judged}
+use Rattle.layouts.proofs.Walk.{check-judged}
 use Rattle.model.specs.Read.{isType}
 use Rattle.entities.specs.declared.EntityAnswer.{EntityAnswer}
 use Rattle.entities.specs.declared.EntityAnswer.the-variants.{Good, Refused}
 use Rattle.entities.specs.declared.Walked.{Walked}
 use Rattle.entities.specs.declared.Walked.the-variants.{Done, Wrong}
+use Rattle.entities.specs.Taking.{entityWith}
 use Rattle.entities.specs.Answers.{entityAnswer, entityPassOf, typeRead, verdictAnswer, passAnswer}
 use Rattle.entities.specs.Marks.{carriedIn, marksBegun}
 use Rattle.entities.specs.Walking.{carriedLength, owing, walkedFrom, Light}
@@ -58,12 +61,14 @@ pub ruleset answers = (not-true, not-false, answer-first, answer-outside, answer
 module _ (list : ℕ) (types : List ℕ) (typ form : ℕ) where
   -- the first value, and the layout behind the others
   pass-all : (i : Item) (vs : List Item) (to : ℕ) → passAnswer (isType typ i) (known list typ form) (run types (marksBegun list typ form) (trimmed vs)) ≡ entityPassOf list types typ form (values (i ∷ vs) to)
-  unfolding entityPassOf entityCheck verdict verdictFrom marksBegun
-  pass-all i vs to = by (isType typ i) (known list typ form)
+  unfolding entityPassOf judged verdictFrom marksBegun
+  pass-all i vs to =
+      by (isType typ i) (known list typ form)
+      ∙ ap (λ (o : Outcome (Unit {0})). entityAnswer (demand (isType typ i) FirstValue 0 then λ _. o)) (check-judged types list (entityWith typ form (trimmed vs)) 0)
     where
       by : (a b : Bool) → passAnswer a b (run types (cond b (Go (start typ form)) Bad) (trimmed vs))
-          ≡ entityAnswer (demand a FirstValue 0 then λ _. cond b (fault (ended (run types (Go (start typ form)) (trimmed vs))) 0) (accepted tt))
-      by true true = answer-fault (ended (run types (Go (start typ form)) (trimmed vs))) 0
+          ≡ entityAnswer (demand a FirstValue 0 then λ _. cond b (fault (judged types (entityWith typ form (trimmed vs))) 0) (accepted tt))
+      by true true = answer-fault (judged types (entityWith typ form (trimmed vs))) 0
       by true false = refl
       by false b = refl
 

@@ -2,7 +2,8 @@
 pub mod told;
 
 ghost use mathlib.Core.Path.{_≡_};
-ghost use Rattle.layouts.specs.Layout.{_of_, placeAt};
+ghost use Rattle.layouts.specs.Layout.{_of_};
+ghost use Rattle.layouts.specs.Table.{placeAt};
 ghost use Rattle.layouts.specs.Coded.{shapeOf, letterAt};
 ghost use Rattle.layouts.specs.Machine.{rests};
 use layouts::Kind;

@@ -4,4 +4,9 @@ pub mod Moves
 pub mod Steps
 pub mod Runs
 pub mod Demand
+pub mod Fits
 pub mod Trailing
+pub mod Empties
+pub mod Agrees
+pub mod Judges
+pub mod Walk

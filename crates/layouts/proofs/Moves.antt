@@ -7,7 +7,7 @@ use Rattle.layouts.specs.declared.Then.{Then}
 use Rattle.layouts.specs.declared.Then.the-variants.{Next}
 use Rattle.layouts.specs.declared.Place.{Place}
 use Rattle.layouts.specs.declared.State.{State}
-use Rattle.layouts.specs.Layout.{placeAt}
+use Rattle.layouts.specs.Table.{placeAt}
 use Rattle.layouts.specs.Machine.{times, follow, enter, beyond, ifEmpty, stand, settle, onward}
 
 pub follow-next : (x : Then) (s : State) → stand s (s .at + 1) 0 ≡ follow x s

@@ -17,7 +17,8 @@ use Rattle.layouts.specs.declared.Stepped.{Stepped}
 use Rattle.layouts.specs.declared.Stepped.the-variants.{Go, Bad}
 use Rattle.layouts.specs.declared.Verdict.{Verdict}
 use Rattle.layouts.specs.declared.Verdict.the-variants.{Layout}
-use Rattle.layouts.specs.Layout.{mostInteger, mostUpper, paper, placeAt, starts, startOf, bitOf}
+use Rattle.layouts.specs.Layout.{mostInteger, mostUpper, paper, bitOf}
+use Rattle.layouts.specs.Table.{placeAt, starts, startOf}
 use Rattle.layouts.specs.Machine.{fresh, start, real, above, text, need, refer, takes, settle, onward, rests, moved, step, closed, after, finish, end, within, size, withK1, withK2, withM1, withM2, withBad, stand, follow, enter, beyond, reals, kindAt, runsOn}
 use Rattle.references.specs.References.{fits}
 use Rattle.layouts.specs.declared.Then.{Then}

@@ -15,7 +15,8 @@ use Rattle.layouts.specs.declared.Place.{Place}
 use Rattle.layouts.specs.declared.Kind.{Kind}
 use Rattle.layouts.specs.declared.Kind.the-variants.{Rest}
 use Rattle.layouts.specs.declared.Times.the-variants.{Fixed}
-use Rattle.layouts.specs.Layout.{_of_, Row, paper, table, placeAt, bitOf, seek}
+use Rattle.layouts.specs.Layout.{_of_, Row, paper, bitOf, seek}
+use Rattle.layouts.specs.Table.{table, placeAt}
 use Rattle.layouts.specs.Coded.{Shape, shapes, shapeIn, shapeOf, codes, letterAt, told}
 use Rattle.layouts.specs.Machine.{reals, refers, kindAt}
 use Rattle.layouts.specs.declared.State.{State}

@@ -1,13 +1,12 @@
 -- A default more at the end of an entity says nothing, and the sixteen turns of `end` are enough. Assumes nothing.
 use mathlib.Core.Path.{_≡_, refl, sym, ap, ap₂, _∙_}
 use mathlib.Core.Bool.{Bool, true, false, cond, not, _||_, _&&_, false≢true}
-use mathlib.Core.List.{List, [], _∷_, _++_, map, map-append}
+use mathlib.Core.List.{List, [], _∷_}
 use Prim.Native.Nat.{ℕ, zero, suc, _+_, _-_, _≤_, _<_}
 use native.Mathlib.Nat.{le-refl, le-of-lt, not-suc-le-zero}
 use native.Mathlib.Omega.{arith}
 use lib.Dec.{eqb, leb, ltb}
-use lib.ListN.{length, getD, take, replicate, List·getD-eq-default}
-use lib.Seq.{take-at}
+use lib.ListN.{length, getD, List·getD-eq-default}
 use borrow.Author.Tests.{leb-true, eqb-true, ltb-true, ltb-false}
 use Rattle.layouts.specs.declared.Kind.{Kind}
 use Rattle.layouts.specs.declared.Kind.the-variants.{R, Given, Weight, S, I, Flag, Count, Outer, Upper1, Upper2, Degree1, Degree2, P, Q, Bound, Rest}
@@ -16,17 +15,14 @@ use Rattle.layouts.specs.declared.Times.the-variants.{Fixed, N, Knots1, 
 use Rattle.layouts.specs.declared.Then.{Then}
 use Rattle.layouts.specs.declared.Then.the-variants.{Next}
 use Rattle.layouts.specs.declared.Place.{Place}
-use Rattle.values.specs.Value.{Item, default}
 use Rattle.values.specs.declared.Value.the-variants.{Default}
 use Rattle.layouts.specs.declared.State.{State}
 use Rattle.layouts.specs.declared.Stepped.{Stepped}
 use Rattle.layouts.specs.declared.Stepped.the-variants.{Go, Bad}
-use Rattle.layouts.specs.Named.{named}
-use Rattle.layouts.specs.Layout.{paper, table, placeAt}
-use Rattle.layouts.specs.Machine.{takes, times, stand, settle, onward, rests, kindAt, moved, start, step, after, finish, end, withK1, withK2, withBad, follow, enter, beyond, ifEmpty}
-use Rattle.layouts.specs.Known.{known}
-use Rattle.layouts.specs.Entities.{Entity, begun, feed, ended, run, verdictFrom, verdict, entityCheck, marksFrom, carried, marks}
-use Rattle.layouts.proofs.Runs.{marks-append, marksFrom-length, carried-length}
+use Rattle.layouts.specs.Layout.{paper}
+use Rattle.layouts.specs.Table.{table, placeAt}
+use Rattle.layouts.specs.Machine.{takes, times, stand, settle, onward, rests, kindAt, moved, step, after, finish, end, withK1, withK2, withBad, follow, enter, beyond, ifEmpty}
+use Rattle.layouts.specs.Walk.{ended}
 use Rattle.layouts.proofs.Tables.{and-both, upTo, upTo-at, past}
 use Rattle.layouts.proofs.Steps.{not-rest, stays}
 
@@ -213,6 +209,14 @@ stable (suc n) s h = go (rests (kindAt s)) (takes (kindAt s) s Default 0) refl r
     go true (Go t) r e ih = refl
     go false (Go t) r e ih = ih (settle (beyond t)) (next-low s t n r e h)
 
+-- the turns of `end` are enough: with any number more it says the same
+pub enough : (n : ℕ) (s : State) → finish (16 + n) s ≡ end s
+unfolding end
+enough zero s = refl
+enough (suc n) s =
+    let m : 16 + suc n ≡ suc (16 + n) = omega arith in
+    ap (λ (k : ℕ). finish k s) m ∙ sym (stable (16 + n) s (omega (arith, rank-low (s .at)))) ∙ enough n s
+
 -- ---- a default more
 
 follow-stand : (x : Then) (t : State) (n : ℕ) → follow x (stand t (t .at) n) ≡ follow x t
@@ -250,37 +254,3 @@ trailing s = go (rests (kindAt s)) (takes (kindAt s) s Default 0) refl refl ∙ 
     go b Bad r e = refl
     go true (Go t) r e = idles t (t .left) true r e
     go false (Go t) r e = on t (ltb 1 (t .left)) refl r e
-
--- of an entity
-module _ (types : List ℕ) where
-  trailing-run : (g : Stepped) (vs : List Item) (n : ℕ) → ended (run types g (vs ++ replicate n default)) ≡ ended (run types g vs)
-  unfolding run named
-  trailing-run g (v ∷ vs) n = trailing-run (feed types g v) vs n
-  trailing-run g [] zero = refl
-  trailing-run g [] (suc n) = trailing-run (feed types g default) [] n ∙ once g
-    where
-      once : (g : Stepped) → ended (feed types g default) ≡ ended g
-      once Bad = refl
-      once (Go s) = trailing s
-
-  -- defaults more at the end change nothing in the verdict
-  pub trailing-verdict : (e f : Entity) (n : ℕ) → f .typ ≡ e .typ → f .form ≡ e .form → f .values ≡ e .values ++ replicate n default → verdict types f ≡ verdict types e
-  unfolding verdict verdictFrom
-  trailing-verdict e f n t g v =
-      ap (λ (vs : List Item). ended (run types (begun f) vs)) v ∙ trailing-run (begun f) (e .values) n
-      ∙ ap₂ (λ (x y : ℕ). ended (run types (Go (start x y)) (e .values))) t g
-
-  pub trailing-check : (list : ℕ) (e f : Entity) (n p : ℕ) → f .typ ≡ e .typ → f .form ≡ e .form → f .values ≡ e .values ++ replicate n default → entityCheck list types f p ≡ entityCheck list types e p
-  unfolding entityCheck
-  trailing-check list e f n p t g v = rw (trailing-verdict e f n t g v, t, g)
-
-  -- nor in the marks of the others
-  pub trailing-marks : (list : ℕ) (e f : Entity) (n : ℕ) → f .typ ≡ e .typ → f .form ≡ e .form → f .values ≡ e .values ++ replicate n default
-      → take (length (e .values)) (marks list types f) ≡ marks list types e
-  unfolding marks
-  trailing-marks list e f n t g v = rw (v, t, g) (go (known list (e .typ) (e .form)))
-    where
-      go : (b : Bool) → take (length (e .values)) (cond b (marksFrom types (begun e) (e .values ++ replicate n default)) (map carried (e .values ++ replicate n default)))
-          ≡ cond b (marksFrom types (begun e) (e .values)) (map carried (e .values))
-      go true = ap (take (length (e .values))) (marks-append types (begun e) (e .values) (replicate n default)) ∙ take-at _ _ _ (marksFrom-length types (begun e) (e .values))
-      go false = ap (take (length (e .values))) (map-append carried (e .values) (replicate n default)) ∙ take-at _ _ _ (carried-length types (e .values))

@@ -1,4 +1,4 @@
--- How the code has the table: each of the places that rows are made of has a letter.
+-- The code's form: its table, in which each of the places that rows are made of has a letter.
 use mathlib.Core.List.{List, [], _∷_}
 use mathlib.Core.Bool.{Bool, false, cond}
 use Prim.Native.Nat.{ℕ, _-_}

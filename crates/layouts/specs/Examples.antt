@@ -1,4 +1,4 @@
--- Worked examples of the layouts, as tables and one theorem.
+-- Worked examples: entities with their verdicts, refusals and marks, as tables and one theorem.
 use mathlib.Core.Path.{_≡_, refl}
 use mathlib.Core.Bool.{true, false}
 use mathlib.Core.List.{List, [], _∷_, _++_, map}
@@ -11,10 +11,10 @@ use Rattle.layouts.specs.declared.Verdict.{Verdict}
 use Rattle.layouts.specs.declared.Verdict.the-variants.{Good, Layout, LayoutReference}
 use Rattle.references.specs.References.{classAt, classOf}
 use Rattle.layouts.specs.Named.{named}
-use Rattle.layouts.specs.Layout.{paper, table, startOf, placeAt, bitOf}
-use Rattle.layouts.specs.Machine.{settle, onward, takes, start, step, finish, end}
+use Rattle.layouts.specs.Layout.{paper, bitOf}
 use Rattle.layouts.specs.Known.{known, mostList}
-use Rattle.layouts.specs.Entities.{Entity, run, verdictFrom, verdict, marksFrom, marks, entityCheck}
+use Rattle.layouts.specs.Fits.{placesOf, asked}
+use Rattle.layouts.specs.Entities.{Entity, everywhere, verdict, entityCheck, referencePlaces, marks}
 
 -- a file whose entries 1, 3, 5 are a point, a 308 and a 142
 abbrev types : List ℕ
@@ -110,7 +110,7 @@ checks =
 -- all of them; 402 form 6 is carried under any list, 402 form 7 is read under list 2048; counts are V, references R
 pub examples : (map (λ (x : Entity × Verdict). verdict types (x .0)) tests ≡ map (λ (x : Entity × Verdict). x .1) tests)
     × (map (λ (x : ℕ × Entity × Outcome (Unit {0})). entityCheck (x .0) types (x .1) 9) checks ≡ map (λ (x : ℕ × Entity × Outcome (Unit {0})). x .2) checks)
-    × (marks mostList types (entity 144 0 (i 1 ∷ i 0 ∷ i 1 ∷ i 0 ∷ i 5 ∷ i 1 ∷ i 1 ∷ [])) ≡ true ∷ false ∷ false ∷ true ∷ true ∷ false ∷ true ∷ [])
-    × (marks 0 types (entity 144 0 (i 1 ∷ i 0 ∷ [])) ≡ false ∷ false ∷ [])
-unfolding marks marksFrom entityCheck known verdict verdictFrom run start step settle onward takes finish end paper table startOf placeAt bitOf named classAt classOf
+    × (marks mostList (entity 144 0 (i 1 ∷ i 0 ∷ i 1 ∷ i 0 ∷ i 5 ∷ i 1 ∷ i 1 ∷ [])) ≡ true ∷ false ∷ false ∷ true ∷ true ∷ false ∷ true ∷ [])
+    × (marks 0 (entity 144 0 (i 1 ∷ i 0 ∷ [])) ≡ false ∷ false ∷ [])
+unfolding marks referencePlaces entityCheck known verdict everywhere asked placesOf paper bitOf named classAt classOf
 examples = (refl, refl, refl, refl)

@@ -1,11 +1,10 @@
 -- The type list and the layouts of document 01, "Type list", as its table has them.
 use mathlib.Core.Bool.{Bool, true, cond, _&&_}
-use mathlib.Core.List.{List, [], _∷_, _++_}
-use Prim.Native.Nat.{ℕ, suc, _+_}
-use lib.ListN.{length, getD}
+use mathlib.Core.List.{List, [], _∷_}
+use Prim.Native.Nat.{ℕ, suc}
 use lib.Dec.{eqb}
 use Rattle.layouts.specs.declared.Kind.{Kind}
-use Rattle.layouts.specs.declared.Kind.the-variants.{R, Given, Weight, S, I, Flag, Count, Outer, Upper1, Upper2, Degree1, Degree2, P, Q, Bound, Rest}
+use Rattle.layouts.specs.declared.Kind.the-variants.{R, Given, Weight, S, I, Flag, Count, Outer, Upper1, Upper2, Degree1, Degree2, P, Q, Bound}
 use Rattle.layouts.specs.declared.Times.{Times}
 use Rattle.layouts.specs.declared.Times.the-variants.{Fixed, N, Knots1, Knots2, C, ThreeC}
 use Rattle.layouts.specs.declared.Then.the-variants.{Next}
@@ -18,7 +17,7 @@ abbrev pub _of_ : Times → Kind → Place
 t of k = record { kind = k; times = t; next = Next }
 
 -- one place
-abbrev one : Kind → Place
+abbrev pub one : Kind → Place
 one k = Fixed 1 of k
 
 -- a reference that asks its target for no type; others name the class that they ask for
@@ -66,31 +65,9 @@ paper =
     ∷ row 408 every (one (Q entry308) ∷ Fixed 4 of R ∷ [])
     ∷ []
 
--- after the layout: a count of q and those, a second count of q and those; nothing but defaults follows
-abbrev tail : List Place
-tail = one Count ∷ N of Q any ∷ one Count ∷ N of Q any ∷ one Rest ∷ []
-
--- all places, row after row
-abbrev flat : List Row → List Place
-flat [] = []
-flat (r ∷ rs) = (r .places ++ tail) ++ flat rs
-
--- all of them
-unfoldable pub table : List Place
-table = flat paper
-
--- where the places of each row start
-abbrev pub starts : ℕ → List Row → List ℕ
-starts n [] = []
-starts n (r ∷ rs) = n ∷ starts (n + length (r .places ++ tail)) rs
-
--- where those of a bit start
-unfoldable pub startOf : ℕ → ℕ
-startOf bit = getD (starts 0 paper) bit 0
-
--- the place at i; past the table all is rest
-unfoldable pub placeAt : ℕ → Place
-placeAt i = getD table i (one Rest)
+-- after the layout: a count of q and those, then a second count of q and those
+abbrev pub groups : List Place
+groups = one Count ∷ N of Q any ∷ one Count ∷ N of Q any ∷ []
 
 -- only 402 and 406 look at the form
 abbrev accepts : Form → ℕ → Bool

@@ -1,9 +1,14 @@
 pub mod Named
 pub mod Layout
 pub mod Known
-pub mod Coded
-pub mod Machine
+pub mod Tests
+pub mod Entity
+pub mod Fits
 pub mod Entities
-pub mod Stepping
 pub mod Larger
 pub mod Examples
+pub mod Spelled
+pub mod Table
+pub mod Coded
+pub mod Machine
+pub mod Walk

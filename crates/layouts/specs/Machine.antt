@@ -1,7 +1,7 @@
--- The layouts as one machine: where it stands, what one value does, what the end says.
+-- The code's form: the layouts as one machine, where it stands, what one value does, what the end says.
 use mathlib.Core.Bool.{Bool, true, false, cond, not, _&&_, _||_}
 use Prim.Native.Nat.{ℕ, zero, suc, _+_, _-_, _*_}
-use lib.Dec.{eqb, leb, ltb}
+use lib.Dec.{eqb, ltb}
 use Rattle.layouts.specs.declared.Kind.{Kind}
 use Rattle.layouts.specs.declared.Kind.the-variants.{R, Given, Weight, S, I, Flag, Count, Outer, Upper1, Upper2, Degree1, Degree2, P, Q, Bound, Rest}
 use Rattle.layouts.specs.declared.Times.{Times}
@@ -17,44 +17,9 @@ use Rattle.layouts.specs.declared.Stepped.the-variants.{Go, Bad}
 use Rattle.layouts.specs.declared.Verdict.{Verdict}
 use Rattle.layouts.specs.declared.Verdict.the-variants.{Good, Layout, LayoutReference}
 use Rattle.references.specs.References.{noEntry, fits}
-use Rattle.layouts.specs.Layout.{mostInteger, mostUpper, placeAt, startOf, bitOf}
-
--- ---- values
-
--- a real
-abbrev pub real : Value → Bool
-real Default = false
-real (Whole neg n) = false
-real (Real neg m eneg e double) = true
-real (Text start count) = false
-
--- a real above zero
-abbrev pub above : Value → Bool
-above Default = false
-above (Whole neg n) = false
-above (Real neg m eneg e double) = not neg && ltb 0 m
-above (Text start count) = false
-
--- a string
-abbrev pub text : Value → Bool
-text Default = false
-text (Whole neg n) = false
-text (Real neg m eneg e double) = false
-text (Text start count) = true
-
--- an integer from low to high; a default is 0, where it need not be given
-abbrev pub within : Bool → ℕ → ℕ → Value → Bool
-within given low high Default = not given && eqb low 0
-within given low high (Whole neg n) = not neg && (leb low n && leb n high)
-within given low high (Real neg m eneg e double) = false
-within given low high (Text start count) = false
-
--- the number that it counts for
-abbrev pub size : Value → ℕ
-size Default = 0
-size (Whole neg n) = n
-size (Real neg m eneg e double) = 0
-size (Text start count) = 0
+pub use Rattle.layouts.specs.Tests.{real, above, text, within, size}
+use Rattle.layouts.specs.Layout.{mostInteger, mostUpper, bitOf}
+use Rattle.layouts.specs.Table.{placeAt, startOf}
 
 -- ---- the state
 
@@ -112,7 +77,7 @@ abbrev pub ifEmpty : Bool → State → State → State
 ifEmpty true t s = t
 ifEmpty false t s = s
 
--- past a place of which there is none: no two such stand side by side
+-- past a place of which there is none: no two such stand side by side (proofs/Empties.settled)
 unfoldable pub settle : State → State
 settle s = ifEmpty (eqb (s .left) 0) (beyond s) s
 
@@ -246,6 +211,6 @@ unfoldable pub finish : ℕ → State → Verdict
 finish zero s = Layout
 finish (suc n) s = after (rests (kindAt s)) (takes (kindAt s) s Default noEntry) (λ t. finish n (settle (beyond t)))
 
--- no row has more than 16
+-- no row has more than 16 (proofs/Trailing.enough)
 unfoldable pub end : State → Verdict
 end s = finish 16 s

@@ -2,7 +2,7 @@
 
 ghost use mathlib.Core.Path.{_≡_};
 ghost use Prim.Native.Nat.{_+_, _≤_, _<_};
-ghost use Rattle.layouts.specs.Layout.{placeAt, startOf};
+ghost use Rattle.layouts.specs.Table.{placeAt, startOf};
 ghost use Rattle.layouts.specs.Machine.{times, follow, enter, beyond, settle, onward, step, closed, end, start, reals, refers, kindAt, stand, runsOn};
 ghost use Rattle.layouts.specs.Coded.{told};
 use layoutrows::look;

@@ -12,13 +12,15 @@ use Rattle.cards.specs.declared.Counts.{Counts}
 use Rattle.cards.specs.Cards.{firstD, firstP, entries}
 use Rattle.directory.specs.Naming.{typesAt, typeOfEntry}
 use Rattle.sheets.specs.Sheet.{last, lineOf, sheetText}
+use Rattle.sheets.specs.WellFormed.{Each, none, one}
 use Rattle.model.specs.Model.{Carried, typesOf, sheetOf}
 use Rattle.model.specs.Read.{GlobalRead, Listed, startsIn, globalText, two, entityIn, entriesIn, firstEntry, listedType, lastPass, modelWith}
 use Rattle.model.proofs.Types.{types-listed}
+use Rattle.entities.proofs.Entries.{entity-keeps}
 use Rattle.printing.specs.Bytes.{startBytes, globalBytes}
 use Rattle.printing.specs.Rows.{rowsBytes}
 use Rattle.printing.specs.Whole.{fieldBytes, wholeBytes, entriesBytes}
-use Rattle.printing.proofs.Wholes.{sheet-parts}
+use Rattle.printing.proofs.Wholes.{Kept, sheet-parts}
 use Rattle.printing.proofs.Listed.{carriedAs, Roomy, rows-listed, passed}
 
 length-up : (i n : ℕ) → length (upFrom i n) ≡ n
@@ -51,6 +53,17 @@ module _ (list : ℕ) (f : List ℕ) (k : Counts) (g : GlobalRead) where
           let q : cs ≡ b .value ∷ r .value = cc in
           q ∙ ap₂ (λ (x : Carried) (l : List Carried). x ∷ l) (passed list f k g types place e (b .value) (b .first)) (others (r .value) (r .first))
 
+  -- and they keep to their layouts
+  each-kept : (types : List ℕ) (es : List Listed) (place : ℕ) (cs : List Carried) → eachAt two (entityIn list f k g types) place es ≡ accepted cs → Each (Kept list types) cs
+  unfolding eachAt
+  each-kept types [] place cs h = let z : [] ≡ cs = cc in rw (← z) none
+  each-kept types (e ∷ es) place cs h =
+      let b = then-accepted (entityIn list f k g types place e) _ cs h in
+      let r = then-accepted (eachAt two (entityIn list f k g types) (place + 2) es) _ cs (b .second) in
+      let s = r .second in
+      let z : b .value ∷ r .value ≡ cs = cc in
+      rw (← z) (one (entity-keeps list f k g types place e (b .value) (b .first)) (each-kept types es (place + 2) (r .value) (r .first)))
+
   types-kept : (es : List Listed) → typesOf (map carriedIt es) ≡ map listedType es
   types-kept [] = refl
   types-kept (e ∷ es) = ap (λ (l : List ℕ). listedType e ∷ l) (types-kept es)
@@ -65,7 +78,8 @@ module _ (list : ℕ) (f : List ℕ) (k : Counts) (g : GlobalRead) where
       let types : List ℕ = typesAt f (firstD k) n in
       let ec : cs ≡ map carriedIt es = each-passed (map listedType es) es (firstEntry k) cs hp in
       let et : map listedType es ≡ types = types-listed f k es he in
-      let ey : typesOf cs ≡ types = ap typesOf ec ∙ types-kept es ∙ et in
+      let em : typesOf cs ≡ map listedType es = ap typesOf ec ∙ types-kept es in
+      let ey : typesOf cs ≡ types = em ∙ et in
       let el : length cs ≡ n = ap length ec ∙ length-each carriedIt es ∙ sym (length-each listedType es) ∙ ap length et ∙ length-each (typeOfEntry f (firstD k)) (upFrom 0 n) ∙ length-up 0 n in
       let er : rowsBytes list f (firstD k) n (firstP k) (g .parameter) (g .record-end) 0 n ≡ entriesBytes list types 0 (map carriedIt es)
       = rows-listed list f (firstD k) n (firstP k) (g .parameter) (g .record-end) n 0 (firstEntry k) es he room in
@@ -74,4 +88,4 @@ module _ (list : ℕ) (f : List ℕ) (k : Counts) (g : GlobalRead) where
       let en : n ≡ 0 + length cs = omega arith in
       ap₂ (λ (x y : List ℕ). startBytes (startsIn f k) ++ (x ++ y)) hf
       (ap₂ (λ (x : List ℕ) (j : ℕ). x ++ (lineOf (last j) ++ (10 ∷ []))) eb en)
-      ∙ sym (sheet-parts list (modelWith f k g cs))
+      ∙ sym (sheet-parts list (modelWith f k g cs) (rw em (each-kept (map listedType es) es (firstEntry k) cs hp)))

@@ -1,5 +1,5 @@
 -- An entity's values, one line after the other. Assumes nothing.
-use mathlib.Core.Path.{_≡_, refl, sym, ap, _∙_}
+use mathlib.Core.Path.{_≡_, refl, sym, ap, ap₂, _∙_}
 use mathlib.Core.Bool.{Bool, true, false}
 use mathlib.Core.List.{List, [], _∷_, _++_, append-assoc}
 use Prim.Native.Nat.{ℕ, zero, suc, _+_, _-_, _*_, _^_, _≤_, _<_}
@@ -23,19 +23,16 @@ use Rattle.records.proofs.Items.{trimmed-first}
 use Rattle.records.proofs.Steps.{last-is, more-is, none-wrong}
 use Rattle.layouts.specs.declared.State.{State}
 use Rattle.layouts.specs.declared.Stepped.{Stepped}
-use Rattle.layouts.specs.declared.Stepped.the-variants.{Go, Bad}
-use Rattle.layouts.specs.Stepping.{stepped}
-use Rattle.layouts.specs.Entities.{feed, run, mark, marksFrom, marks}
+use Rattle.layouts.specs.declared.Stepped.the-variants.{Go}
+use Rattle.layouts.specs.Walk.{stepped, feed, run, mark, marksFrom}
 use Rattle.layouts.specs.Named.{named}
 use Rattle.layouts.specs.Machine.{refers, kindAt, stand, runsOn}
 use Rattle.layouts.proofs.Steps.{step-runs}
-use Rattle.layouts.proofs.Runs.{feed-read}
+use Rattle.layouts.proofs.Runs.{feed-stepped}
 use Rattle.model.specs.Model.{marked}
 use Rattle.sheets.specs.Sheet.{Line, value, lineOf, valueLines, textOf as sheetBytes}
 use Rattle.sheets.proofs.Spellings.{missing}
-use Rattle.entities.specs.Taking.{entityWith}
 use Rattle.entities.specs.Marks.{carriedIn, marksBegun, markedFrom}
-use Rattle.entities.proofs.Marking.{marked-begin}
 use Rattle.printing.specs.declared.Met.{Met}
 use Rattle.printing.specs.Bytes.{valueBytes}
 use Rattle.printing.specs.Taking.{Unrefused, metOf, owedBefore}
@@ -52,10 +49,6 @@ value-lines (v ∷ vs) rest =
 -- ---- the lines of the defaults owed before a value, and its own
 
 module _ (types : List ℕ) where
-  feed-stepped : (t : List ℕ) (g : Stepped) (v : Value) → feed types g (itemOf t v) ≡ stepped types g v
-  feed-stepped t Bad v = refl
-  feed-stepped t (Go s) v = feed-read types t s v
-
   -- one value more
   line-more : (g : Stepped) (v : Item) (vs : List Item)
       → valueBytes (markedFrom types g (v ∷ vs)) ≡ (lineOf (value (mark g) v) ++ (10 ∷ [])) ++ valueBytes (markedFrom types (feed types g v) vs)
@@ -91,7 +84,7 @@ module _ (types : List ℕ) where
         → Wrote o₁ r₁ (lineOf (value b (itemOf t Default)) ++ (10 ∷ [])) o₂ r₂ → Owes o at bs o₂ r₂ (valueBytes (markedFrom types u (owedBefore (left - 1) (itemOf t v))))
     owed-more {b = b} {u = u} h eb eu w =
         let vs : List Item = owedBefore (left - 1) (itemOf t v) in
-        let eg : feed types s default ≡ u = feed-stepped t s Default ∙ sym eu in
+        let eg : feed types s default ≡ u = feed-stepped types t s Default ∙ sym eu in
         let e : valueBytes (markedFrom types s (owedBefore left (itemOf t v))) ≡ (lineOf (value b default) ++ (10 ∷ [])) ++ valueBytes (markedFrom types u vs)
         = ap (λ (l : List Item). valueBytes (markedFrom types s l)) (owed-first left (itemOf t v) h) ∙ line-more s default vs
         ∙ ap (λ (m : Bool). (lineOf (value m default) ++ (10 ∷ [])) ++ valueBytes (markedFrom types (feed types s default) vs)) (sym eb)
@@ -112,11 +105,11 @@ module _ (types : List ℕ) where
     unfolding run
     owed-steps {u} h eu =
         let vs : List Item = owedBefore (left - 1) (itemOf t v) in
-        ap (λ (g : Stepped). run types g vs) (eu ∙ sym (feed-stepped t s Default)) ∙ sym (ap (run types s) (owed-first left (itemOf t v) h)) ∙ p
+        ap (λ (g : Stepped). run types g vs) (eu ∙ sym (feed-stepped types t s Default)) ∙ sym (ap (run types s) (owed-first left (itemOf t v) h)) ∙ p
 
     pub owed-stepped : {u : Stepped} → left ≤ 0 → u ≡ stepped types s v → u ≡ z
     unfolding run
-    owed-stepped {u} h eu = eu ∙ sym (feed-stepped t s v) ∙ sym (ap (run types s) (owed-none left (itemOf t v) h)) ∙ p
+    owed-stepped {u} h eu = eu ∙ sym (feed-stepped types t s v) ∙ sym (ap (run types s) (owed-none left (itemOf t v) h)) ∙ p
 
 pub ruleset owed = (owes-all, owed-more, owed-last, owed-steps, owed-stepped, wrote-length)
 
@@ -192,14 +185,13 @@ module _ (file : List ℕ) (base lines : ℕ) (st : Stands file base 64 lines) (
   module _ (types : List ℕ) where
     -- behind the type all of it is owed
     pub values-all : (list typ form : ℕ) (o : List ℕ) (at : ℕ) {g : Stepped} {x : Met} → g ≡ marksBegun list typ form → Unrefused (valuesAt 64 c d t 0) → x ≡ metOf (valueAt 64 c d t 0)
-        → Owing types t c d o at (valueBytes (marked (marks list types (entityWith typ form (carriedIn (valuesAt 64 c d t 0)))) (carriedIn (valuesAt 64 c d t 0)))) o at g 0 (x .next) (x .last)
+        → Owing types t c d o at (valueBytes (markedFrom types (marksBegun list typ form) (carriedIn (valuesAt 64 c d t 0)))) o at g 0 (x .next) (x .last)
     values-all list typ form o at {g} {x} eg u ex =
         let f : First c d t (u .items) x = first-met 0 (omega arith) ex (u .items) (u .end) (u .is) in
         let vs : List Item = carriedIn (valuesAt 64 c d t 0) in
         let ev : vs ≡ trimmed (f .left) = ap carriedIn (u .is) ∙ ap (λ (l : List Item). trimmed (drop 1 l)) (f .whole) in
-        let e : marked (marks list types (entityWith typ form vs)) vs ≡ markedFrom types g (trimmed (f .left))
-        = marked-begin types list typ form vs ∙ ap (λ (z : Stepped). markedFrom types z vs) (sym eg) ∙ ap (markedFrom types g) ev in
-        record { left = f .left; is = f .is; owes = owes-same (owes-all o at (valueBytes (marked (marks list types (entityWith typ form vs)) vs))) (ap valueBytes e) }
+        let e : markedFrom types (marksBegun list typ form) vs ≡ markedFrom types g (trimmed (f .left)) = ap₂ (markedFrom types) (sym eg) ev in
+        record { left = f .left; is = f .is; owes = owes-same (owes-all o at (valueBytes (markedFrom types (marksBegun list typ form) vs))) (ap valueBytes e) }
 
     module _ {o bs o₁ : List ℕ} {at r₁ : ℕ} (g : Stepped) (owed q : ℕ) {last : Bool} (p : Owing types t c d o at bs o₁ r₁ g owed q last) where
       -- nothing is left

@@ -10,15 +10,19 @@ use Rattle.columns.specs.Columns.{textOf}
 use Rattle.columns.specs.First.{upFrom}
 use Rattle.columns.specs.Laid.{Wrote}
 use Rattle.columns.proofs.Writes.{then, wrote-none, wrote-length}
+use Rattle.values.specs.Value.{Item}
 use Rattle.records.specs.Record.{valuesAt}
 use Rattle.records.specs.Reading.{Stands}
 use Rattle.records.specs.Global.{firstField}
 use Rattle.sheets.specs.Plain.{sized}
-use Rattle.sheets.specs.Sheet.{entry, last, lineOf, rowLines, linesOf, sheetText, textOf as sheetBytes}
+use Rattle.sheets.specs.Sheet.{entry, last, lineOf, valueLines, rowLines, linesOf, sheetText, textOf as sheetBytes}
+use Rattle.sheets.specs.WellFormed.{Each, none, one}
 use Rattle.layouts.specs.Known.{known}
-use Rattle.layouts.specs.Entities.{marks}
-use Rattle.model.specs.Model.{Carried, Model, typeOf, entityOf, typesOf, marked, rowOf, sheetOf}
+use Rattle.layouts.specs.Fits.{Keeps}
+use Rattle.model.specs.Model.{Carried, Model, typeOf, entityOf, typesOf, rowOf, sheetOf}
 use Rattle.model.specs.Read.{startText, given}
+use Rattle.entities.specs.Marks.{marksBegun, markedFrom}
+use Rattle.entities.proofs.Marking.{marked-begin}
 use Rattle.printing.specs.Bytes.{startBytes, globalBytes, valueBytes, valuesIn, entityBytes}
 use Rattle.printing.specs.Rows.{rowsBytes}
 use Rattle.printing.specs.Whole.{fieldBytes, wholeBytes, entriesBytes}
@@ -58,26 +62,31 @@ pub ruleset wholes = (whole-bound, fields-none, fields-some, stands-global, whol
 
 -- ---- a model's sheet
 
+-- each of its entities keeps to its layout, if the list knows it
+abbrev pub Kept : ℕ → List ℕ → Carried → Type 0
+Kept list types e = known list (typeOf (e .fields)) (e .fields .form .size) ≡ true → Keeps types (entityOf (e .fields) (e .values))
+
 -- the lines of its entries
-pub row-lines : (list : ℕ) (types : List ℕ) (k : ℕ) (es : List Carried)
-    → sheetBytes (rowLines k (map (rowOf list types) es)) ≡ entriesBytes list types k es ++ (lineOf (last (k + length es)) ++ (10 ∷ []))
+row-lines : (list : ℕ) (types : List ℕ) (k : ℕ) {es : List Carried} → Each (Kept list types) es
+    → sheetBytes (rowLines k (map (rowOf list) es)) ≡ entriesBytes list types k es ++ (lineOf (last (k + length es)) ++ (10 ∷ []))
 unfolding sheetBytes rowLines entriesBytes entityBytes rowOf
-row-lines list types k [] = rw add-zero
-row-lines list types k (e ∷ es) =
+row-lines list types k none = rw add-zero
+row-lines list types k (one {x = e} {xs = es} h hs) =
     let l : List ℕ = lineOf (entry (known list (typeOf (e .fields)) (e .fields .form .size)) (sized false (2 * k + 1)) (e .fields) (e .label)) in
-    let vs : List ℕ = valueBytes (marked (marks list types (entityOf (e .fields) (e .values))) (e .values)) in
+    let ws : List (Bool × Item) = markedFrom types (marksBegun list (typeOf (e .fields)) (e .fields .form .size)) (e .values) in
     let z : List ℕ = lineOf (last (k + length (e ∷ es))) ++ (10 ∷ []) in
     let en : k + 1 + length es ≡ k + length (e ∷ es) = omega arith in
-    ap (λ (x : List ℕ). l ++ (10 ∷ x)) (value-lines (marked (marks list types (entityOf (e .fields) (e .values))) (e .values)) (rowLines (k + 1) (map (rowOf list types) es)))
-    ∙ ap (λ (x : List ℕ). l ++ (10 ∷ (vs ++ x))) (row-lines list types (k + 1) es ∙ ap (λ (j : ℕ). entriesBytes list types (k + 1) es ++ (lineOf (last j) ++ (10 ∷ []))) en)
-    ∙ sym (append-assoc l (10 ∷ []) (vs ++ (entriesBytes list types (k + 1) es ++ z)))
-    ∙ sym (append-assoc (l ++ (10 ∷ [])) vs (entriesBytes list types (k + 1) es ++ z))
-    ∙ sym (append-assoc ((l ++ (10 ∷ [])) ++ vs) (entriesBytes list types (k + 1) es) z)
+    ap (λ (vs : List (Bool × Item)). l ++ (10 ∷ sheetBytes (valueLines vs (rowLines (k + 1) (map (rowOf list) es))))) (marked-begin types list (typeOf (e .fields)) (e .fields .form .size) (e .values) h)
+    ∙ ap (λ (x : List ℕ). l ++ (10 ∷ x)) (value-lines ws (rowLines (k + 1) (map (rowOf list) es)))
+    ∙ ap (λ (x : List ℕ). l ++ (10 ∷ (valueBytes ws ++ x))) (row-lines list types (k + 1) hs ∙ ap (λ (j : ℕ). entriesBytes list types (k + 1) es ++ (lineOf (last j) ++ (10 ∷ []))) en)
+    ∙ sym (append-assoc l (10 ∷ []) (valueBytes ws ++ (entriesBytes list types (k + 1) es ++ z)))
+    ∙ sym (append-assoc (l ++ (10 ∷ [])) (valueBytes ws) (entriesBytes list types (k + 1) es ++ z))
+    ∙ sym (append-assoc ((l ++ (10 ∷ [])) ++ valueBytes ws) (entriesBytes list types (k + 1) es) z)
 
 -- all of it
-pub sheet-parts : (list : ℕ) (m : Model)
+pub sheet-parts : (list : ℕ) (m : Model) → Each (Kept list (typesOf (m .entries))) (m .entries)
     → sheetText (sheetOf list m) ≡ startBytes (m .starts) ++ (globalBytes (m .globals) ++ (entriesBytes list (typesOf (m .entries)) 0 (m .entries) ++ (lineOf (last (0 + length (m .entries))) ++ (10 ∷ []))))
 unfolding sheetText linesOf sheetOf
-sheet-parts list m =
+sheet-parts list m h =
     start-lines (m .starts) _
-    ∙ ap (λ (x : List ℕ). startBytes (m .starts) ++ x) (global-lines (m .globals) _ ∙ ap (λ (x : List ℕ). globalBytes (m .globals) ++ x) (row-lines list (typesOf (m .entries)) 0 (m .entries)))
+    ∙ ap (λ (x : List ℕ). startBytes (m .starts) ++ x) (global-lines (m .globals) _ ∙ ap (λ (x : List ℕ). globalBytes (m .globals) ++ x) (row-lines list (typesOf (m .entries)) 0 h))

@@ -1,4 +1,4 @@
--- The bytes of the parts of a sheet, each line with its LF.
+-- The code's form: the bytes of the parts of a sheet, each line with its LF.
 use mathlib.Core.Bool.{Bool, false, cond}
 use mathlib.Core.List.{List, [], _∷_, _++_}
 use Prim.Native.Nat.{ℕ}
@@ -6,10 +6,10 @@ use Rattle.values.specs.Value.{Item, isDefault}
 use Rattle.records.specs.Record.{Values, values, wrong}
 use Rattle.directory.specs.declared.Fields.{Fields}
 use Rattle.layouts.specs.Known.{known}
-use Rattle.layouts.specs.Entities.{marks}
-use Rattle.model.specs.Model.{typeOf, entityOf, marked}
+use Rattle.model.specs.Model.{typeOf}
 use Rattle.sheets.specs.Plain.{sized}
 use Rattle.sheets.specs.Sheet.{start, global, entry, value, lineOf}
+use Rattle.entities.specs.Marks.{marksBegun, markedFrom}
 
 -- the start texts
 unfoldable pub startBytes : List (List ℕ) → List ℕ
@@ -26,10 +26,10 @@ unfoldable pub valueBytes : List (Bool × Item) → List ℕ
 valueBytes [] = []
 valueBytes (v ∷ vs) = (lineOf (value (v .0) (v .1)) ++ (10 ∷ [])) ++ valueBytes vs
 
--- an entry with its directory number and its label, and its values under the type list
+-- an entry with its directory number and its label, and its values, marked under the type list as the walk over them says
 unfoldable pub entityBytes : ℕ → List ℕ → ℕ → Fields → List ℕ → List Item → List ℕ
 entityBytes list types number x label vs =
-    (lineOf (entry (known list (typeOf x) (x .form .size)) (sized false number) x label) ++ (10 ∷ [])) ++ valueBytes (marked (marks list types (entityOf x vs)) vs)
+    (lineOf (entry (known list (typeOf x) (x .form .size)) (sized false number) x label) ++ (10 ∷ [])) ++ valueBytes (markedFrom types (marksBegun list (typeOf x) (x .form .size)) vs)
 
 -- field n alone: a default has no line
 unfoldable pub givenBytes : ℕ → Item → List ℕ

@@ -1,5 +1,6 @@
--- The bytes of the entries as the code goes about them: entry i has its first D line at line first + 2 * i, and P line 1 is line parameters.
--- An entry that is misspelt, or whose P lines do not stand in the file, has none: a file that was accepted has no such entry.
+-- The code's form: the bytes of the entries as the code goes about them: entry i has its first D line at line first + 2 * i, and P line 1
+-- is line parameters. An entry that is misspelt, or whose P lines do not stand in the file, has none: a file that was accepted has no such
+-- entry.
 use mathlib.Core.Bool.{cond}
 use mathlib.Core.List.{List, [], _++_}
 use Prim.Native.Nat.{ℕ, zero, suc, _+_, _-_, _*_, _≤_, _<_}

@@ -1,4 +1,4 @@
--- How printing goes through a record's values: what it meets, and what it owes before a value that is given.
+-- The code's form: how printing goes through a record's values: what it meets, and what it owes before a value that is given.
 use mathlib.Core.Path.{_≡_}
 use mathlib.Core.Bool.{true}
 use mathlib.Core.List.{List, [], _∷_, _++_}

@@ -1,4 +1,4 @@
--- The bytes of a whole sheet as the code goes about them: the S lines, the G lines, the entries, the Z line.
+-- The code's form: the bytes of a whole sheet as the code goes about them: the S lines, the G lines, the entries, the Z line.
 use mathlib.Core.Bool.{Bool, cond}
 use mathlib.Core.List.{List, [], _∷_, _++_, map}
 use Prim.Native.Nat.{ℕ, _+_, _*_}

@@ -22,7 +22,7 @@ ghost use Rattle.records.specs.Record.{valuesAt};
 ghost use Rattle.records.specs.Reading.{Stands};
 ghost use Rattle.records.specs.Written.{copied};
 ghost use Rattle.directory.specs.Naming.{typesAt};
-ghost use Rattle.layouts.specs.Entities.{run};
+ghost use Rattle.layouts.specs.Walk.{run};
 ghost use Rattle.entities.specs.Walking.{stateAfter, owedAfter, lengthAfter, walkedFrom, Light};
 
 // The mark, the tab and the LF of a value line.

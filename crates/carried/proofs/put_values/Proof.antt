@@ -6,10 +6,7 @@ use lib.ListN.{length}
 use Rattle.columns.specs.Columns.{textOf}
 use Rattle.records.specs.Record.{valuesAt}
 use Rattle.directory.specs.Naming.{typesAt}
-use Rattle.layouts.specs.Entities.{marks}
-use Rattle.model.specs.Model.{marked}
-use Rattle.entities.specs.Taking.{entityWith}
-use Rattle.entities.specs.Marks.{carriedIn}
+use Rattle.entities.specs.Marks.{carriedIn, marksBegun, markedFrom}
 use Rattle.printing.specs.Bytes.{valueBytes}
 use borrow.Author.Needs.{needs}
 use native.Mathlib.Omega.{arith}
@@ -25,7 +22,7 @@ abbrev Inv-loop : tie.InvT-loop
 Inv-loop out₀ at list file base lines c d typ form first n g₀ q₀ last₀ owed₀ next₀ out g q last owed next =
     (q ≤ lines * 64) × (next + 1100 * owed ≤ at + 1100 * q) × (length out ≡ length out₀)
     × Owing (typesAt file first n) (textOf file base 64 lines) c d out₀ at
-    (valueBytes (marked (marks list (typesAt file first n) (entityWith typ form (carriedIn (valuesAt 64 c d (textOf file base 64 lines) 0)))) (carriedIn (valuesAt 64 c d (textOf file base 64 lines) 0)))) out next g owed q last
+    (valueBytes (markedFrom (typesAt file first n) (marksBegun list typ form) (carriedIn (valuesAt 64 c d (textOf file base 64 lines) 0)))) out next g owed q last
 
 abbrev μ-loop : tie.MeasureT-loop
 μ-loop out₀ at list file base lines c d typ form first n g₀ q₀ last₀ owed₀ next₀ out g q last owed next = lines * 64 - q

@@ -1,6 +1,7 @@
 -- The table in the code is where the rows start: both are fourteen numbers.
 use borrow.Author.Needs.{needs}
-use Rattle.layouts.specs.Layout.{paper, startOf}
+use Rattle.layouts.specs.Layout.{paper}
+use Rattle.layouts.specs.Table.{startOf}
 use Rattle.layouts.proofs.Steps.{start-past}
 use Rattle.machine.proofs.start_of.Statement.{statement}
 use Rattle.machine.proofs.start_of.Tie as tie

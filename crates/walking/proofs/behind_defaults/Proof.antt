@@ -3,7 +3,7 @@ use mathlib.Core.Path.{_≡_}
 use lib.ListN.{replicate}
 use Rattle.values.specs.Value.{default}
 use Rattle.directory.specs.Naming.{typesAt}
-use Rattle.layouts.specs.Entities.{run}
+use Rattle.layouts.specs.Walk.{run}
 use borrow.Author.Needs.{needs}
 use Rattle.entities.proofs.Walks.{defaults}
 use Rattle.walking.proofs.behind_defaults.Statement.{statement}

@@ -1,0 +1,48 @@
+-- What is told of a value by itself.
+use mathlib.Core.Bool.{Bool, true, false, not, _&&_}
+use Prim.Native.Nat.{ℕ}
+use lib.Dec.{eqb, leb, ltb}
+use Rattle.values.specs.declared.Value.{Value}
+use Rattle.values.specs.declared.Value.the-variants.{Default, Whole, Real, Text}
+
+-- a real
+abbrev pub real : Value → Bool
+real Default = false
+real (Whole neg n) = false
+real (Real neg m eneg e double) = true
+real (Text start count) = false
+
+-- a real above zero
+abbrev pub above : Value → Bool
+above Default = false
+above (Whole neg n) = false
+above (Real neg m eneg e double) = not neg && ltb 0 m
+above (Text start count) = false
+
+-- a string
+abbrev pub text : Value → Bool
+text Default = false
+text (Whole neg n) = false
+text (Real neg m eneg e double) = false
+text (Text start count) = true
+
+-- an integer from low to high; a default is 0, where it need not be given
+abbrev pub within : Bool → ℕ → ℕ → Value → Bool
+within given low high Default = not given && eqb low 0
+within given low high (Whole neg n) = not neg && (leb low n && leb n high)
+within given low high (Real neg m eneg e double) = false
+within given low high (Text start count) = false
+
+-- the number that it counts for
+abbrev pub size : Value → ℕ
+size Default = 0
+size (Whole neg n) = n
+size (Real neg m eneg e double) = 0
+size (Text start count) = 0
+
+-- an integer
+abbrev pub integer : Value → Bool
+integer Default = false
+integer (Whole neg n) = true
+integer (Real neg m eneg e double) = false
+integer (Text start count) = false
