@@ -1,12 +1,19 @@
-// The plain numbers of a sheet, read strictly; past 2,147,483,647 a number says that it is misspelt.
+// The plain numbers of a sheet, read strictly in one pass over their bytes.
 use columns::Signed;
 ghost use mathlib.Core.Path.{_≡_};
 ghost use mathlib.Core.Bool.{true, false};
 ghost use Prim.Native.Nat.{_+_, _-_, _≤_, _<_};
 ghost use lib.ListN.{length};
 ghost use Rattle.columns.specs.Columns.{columns};
-ghost use Rattle.sheets.specs.Plain.{digitAfter, sizeFrom, minusOf, signedPlain, statusFrom};
-ghost use Rattle.sheets.specs.Line.{run, numOf};
+ghost use Rattle.sheets.specs.Line.{run};
+ghost use Rattle.sheets.specs.Folds.{unread, digitAfter, sizeFrom, minusOf, signedFold, statusFrom, entryFold};
+
+// The largest number. Past it one number says that the text is misspelt, and one that nothing was read yet.
+pub const MOST: u64 = 2147483647;
+
+const MISSPELT: u64 = 2147483648;
+
+pub const UNREAD: u64 = 2147483649;
 
 // A number of an entry line, and where the tab behind it stands: at the line's end, if there is none.
 pub struct Tabbed {
@@ -28,34 +35,34 @@ fn wide(b: u8) -> u64
 
 // One more byte of a number.
 fn add_digit(n: u64, b: u8) -> u64
-    requires { ⌜ n ≤ 2147483649 ⌝ }
+    requires { ⌜ n ≤ unread ⌝ }
     ensures { λ r. ⌜ r ≡ digitAfter n b ⌝ }
-    ensures { λ r. ⌜ r ≤ 2147483649 ⌝ }
+    ensures { λ r. ⌜ r ≤ unread ⌝ }
 {
     if b < 48 {
-        return 2147483648;
+        return MISSPELT;
     }
     if 57 < b {
-        return 2147483648;
+        return MISSPELT;
     }
-    if n == 2147483649 {
+    if n == UNREAD {
         return wide(b - 48);
     }
     if n == 0 {
-        return 2147483648;
+        return MISSPELT;
     }
     let m = n * 10 + wide(b - 48);
-    if 2147483647 < m {
-        return 2147483648;
+    if MOST < m {
+        return MISSPELT;
     }
     m
 }
 
 // The number that the bytes from `at` up to `end` make of n.
 pub fn size_at(s: &[u8], n: u64, at: usize, end: usize) -> u64
-    requires { ⌜ (n ≤ 2147483649) × (at ≤ end) × (end ≤ length (now s)) ⌝ }
+    requires { ⌜ (n ≤ unread) × (at ≤ end) × (end ≤ length (now s)) ⌝ }
     ensures { λ r. ⌜ r ≡ sizeFrom n (columns (now (s .entry)) at end) ⌝ }
-    ensures { λ r. ⌜ r ≤ 2147483649 ⌝ }
+    ensures { λ r. ⌜ r ≤ unread ⌝ }
 {
     let mut v = n;
     let mut i = at;
@@ -68,7 +75,7 @@ pub fn size_at(s: &[u8], n: u64, at: usize, end: usize) -> u64
 
 // Minus n; minus nought is misspelt.
 fn minus_of(n: u64) -> Signed
-    requires { ⌜ n ≤ 2147483649 ⌝ }
+    requires { ⌜ n ≤ unread ⌝ }
     ensures { λ r. ⌜ r ≡ minusOf n ⌝ }
 {
     if 0 < n {
@@ -79,26 +86,26 @@ fn minus_of(n: u64) -> Signed
     }
     Signed {
         neg: true,
-        size: 2147483648,
+        size: MISSPELT as u32,
     }
 }
 
 // The number, with a minus or without, that stands from `at` up to `end`.
 fn signed_at(s: &[u8], at: usize, end: usize) -> Signed
     requires { ⌜ (at ≤ end) × (end ≤ length (now s)) ⌝ }
-    ensures { λ r. ⌜ r ≡ signedPlain (columns (now (s .entry)) at end) ⌝ }
+    ensures { λ r. ⌜ r ≡ signedFold (columns (now (s .entry)) at end) ⌝ }
 {
     if end <= at {
         return Signed {
             neg: false,
-            size: 2147483649,
+            size: UNREAD as u32,
         };
     }
     if s[at] == 45 {
-        let n = size_at(s, 2147483649, at + 1, end);
+        let n = size_at(s, UNREAD, at + 1, end);
         return minus_of(n);
     }
-    let n = size_at(s, 2147483649, at, end);
+    let n = size_at(s, UNREAD, at, end);
     Signed {
         neg: false,
         size: n as u32,
@@ -112,7 +119,7 @@ fn status_of(n: u64) -> Signed
     if n < 100000000 {
         return Signed {
             neg: false,
-            size: 2147483648,
+            size: MISSPELT as u32,
         };
     }
     if n < 200000000 {
@@ -123,14 +130,14 @@ fn status_of(n: u64) -> Signed
     }
     Signed {
         neg: false,
-        size: 2147483648,
+        size: MISSPELT as u32,
     }
 }
 
 // A number of an entry line that `left` others follow.
 pub fn num_at(s: &[u8], left: usize, at: usize, end: usize) -> Signed
     requires { ⌜ (at ≤ end) × (end ≤ length (now s)) ⌝ }
-    ensures { λ r. ⌜ r ≡ numOf left (columns (now (s .entry)) at end) ⌝ }
+    ensures { λ r. ⌜ r ≡ entryFold left (columns (now (s .entry)) at end) ⌝ }
 {
     if left == 3 {
         let n = size_at(s, 1, at, end);
@@ -184,7 +191,7 @@ pub fn find(s: &[u8], c: u8, at: usize, end: usize) -> usize
 fn tabbed_by(s: &[u8], left: usize, at: usize, end: usize) -> Tabbed
     requires { ⌜ (at ≤ end) × (end ≤ length (now s)) ⌝ }
     ensures { λ r. ⌜ r .end ≡ at + run 9 (columns (now (s .entry)) at end) ⌝ }
-    ensures { λ r. ⌜ r .number ≡ numOf left (columns (now (s .entry)) at (r .end)) ⌝ }
+    ensures { λ r. ⌜ r .number ≡ entryFold left (columns (now (s .entry)) at (r .end)) ⌝ }
     ensures { λ r. ⌜ (at ≤ r .end) × (r .end ≤ end) ⌝ }
 {
     let tab = find(s, 9, at, end);
@@ -196,7 +203,7 @@ fn tabbed_by(s: &[u8], left: usize, at: usize, end: usize) -> Tabbed
 pub fn tabbed_at(s: &[u8], left: usize, at: usize, end: usize) -> Tabbed
     requires { ⌜ (at ≤ end) × (end ≤ length (now s)) ⌝ }
     ensures { λ r. ⌜ r .end ≡ at + run 9 (columns (now (s .entry)) at end) ⌝ }
-    ensures { λ r. ⌜ r .number ≡ numOf left (columns (now (s .entry)) at (r .end)) ⌝ }
+    ensures { λ r. ⌜ r .number ≡ entryFold left (columns (now (s .entry)) at (r .end)) ⌝ }
     ensures { λ r. ⌜ (at ≤ r .end) × (r .end ≤ end) ⌝ }
 {
     if end - at < 2 {

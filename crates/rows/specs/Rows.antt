@@ -1,4 +1,4 @@
--- A sheet's lines taken as its entries: the values behind an entry line, and the types of all entries.
+-- The code's form: a sheet's lines taken as its entries: the values behind an entry line, and the types of all entries.
 use mathlib.Core.Bool.{Bool}
 use mathlib.Core.List.{List, [], _∷_}
 use Prim.Native.Nat.{ℕ}

@@ -7,15 +7,18 @@ use native.Mathlib.Numerals.{add-one}
 use native.Mathlib.Omega.{arith}
 use lib.ListN.{length, getD, take, set, List·getD-eq-default}
 use lib.Seq.{take-suc-set, take-all}
-use borrow.Author.Tests.{le-leb, lt-leb, lt-ltb, le-ltb, ne-eqb}
+use borrow.Author.Tests.{lt-ltb, le-ltb, ne-eqb}
 use Rattle.columns.specs.declared.Signed.{Signed}
 use Rattle.columns.specs.Columns.{columns, printable}
 use Rattle.columns.proofs.Columns.{column, length-columns}
 use Rattle.directory.specs.Fields.{nought}
 use Rattle.sheets.specs.declared.EntryLine.{EntryLine}
 use Rattle.sheets.specs.declared.EntryLine.the-variants.{Got, Wrong}
-use Rattle.sheets.specs.Line.{numOf, run, isLabel, entryFrom, numbersOf, entryOf}
+use Rattle.sheets.specs.Plain.{most}
+use Rattle.sheets.specs.Line.{run, isLabel, entryNumber, entryFrom, numbersOf, entryOf}
+use Rattle.sheets.specs.Folds.{entryFold}
 use Rattle.sheets.proofs.Plains.{first-byte, columns-take, columns-drop}
+use Rattle.sheets.proofs.Folds.{tells-good, tells-bad, entry-fold}
 
 -- ---- the numbers of a line: f is the answer
 -- the numbers by their places
@@ -48,16 +51,21 @@ module _ (f : EntryLine) (s : List ℕ) (known : Bool) (xs : List Signed) (left 
     unfolding numbersOf
     numbers-short h = simp (numbersOf, at-run, length-columns s i end (omega arith) le, le-ltb (e - i) (end - i) (omega arith)) at (rw more at inv)
 
-    pub numbers-bad : (x : Signed) → (e ≡ end → ⊥) → x ≡ numOf (left - 1) (columns s i e) → 2147483647 < x .size → Wrong ≡ f
+    -- the number is told by the code's form of it
+    pub numbers-bad : (x : Signed) → (e ≡ end → ⊥) → x ≡ entryFold (left - 1) (columns s i e) → most < x .size → Wrong ≡ f
     unfolding numbersOf
-    numbers-bad x h p q = simp (numbersOf, at-run, length-columns s i end (omega arith) le, lt-ltb (e - i) (end - i) (omega arith), columns-take s i e end lo hi, ← p, lt-leb _ _ q) at (rw more at inv)
+    numbers-bad x h p q =
+        let g = tells-bad (entry-fold (left - 1) (columns s i e)) (rw p at q) in
+        simp (numbersOf, at-run, length-columns s i end (omega arith) le, lt-ltb (e - i) (end - i) (omega arith), columns-take s i e end lo hi, g) at (rw more at inv)
 
-    pub numbers-more : (x : Signed) → (e ≡ end → ⊥) → x ≡ numOf (left - 1) (columns s i e) → x .size ≤ 2147483647 → k + left ≡ 13 → length xs ≡ 13
+    pub numbers-more : (x : Signed) → (e ≡ end → ⊥) → x ≡ entryFold (left - 1) (columns s i e) → x .size ≤ most → k + left ≡ 13 → length xs ≡ 13
         → numbersOf known (left - 1) (take (k + 1) (set xs k x)) (columns s (e + 1) end) ≡ f
     unfolding numbersOf
     numbers-more x h p q c l =
         let a : i + suc (e - i) ≡ e + 1 = omega arith in
-        rw (add-one k, take-suc-set xs k x (omega arith)) (simp (numbersOf, at-run, length-columns s i end (omega arith) le, lt-ltb (e - i) (end - i) (omega arith), columns-take s i e end lo hi, ← p, le-leb _ _ q, columns-drop s i (suc (e - i)) end, a) at (rw more at inv))
+        let g = tells-good (entry-fold (left - 1) (columns s i e)) (rw p at q) in
+        let y : x ≡ entryNumber (left - 1) (columns s i e) = p ∙ g .1 in
+        rw (add-one k, take-suc-set xs k x (omega arith)) (simp (numbersOf, at-run, length-columns s i end (omega arith) le, lt-ltb (e - i) (end - i) (omega arith), columns-take s i e end lo hi, g .0, ← y, columns-drop s i (suc (e - i)) end, a) at (rw more at inv))
 
   module _ (none : left ≤ 0) (lo : i ≤ end) (le : end ≤ length s) where
     nil : left ≡ 0

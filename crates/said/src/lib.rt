@@ -70,7 +70,7 @@ fn numbers(s: &[u8], at: usize, end: usize, known: bool) -> EntryLine
             return EntryLine::Wrong;
         }
         let x = f.number;
-        if 2147483647 < x.size {
+        if x.size > plain::MOST as u32 {
             return EntryLine::Wrong;
         }
         xs[k] = x;
@@ -177,7 +177,7 @@ fn global_line(s: &[u8], at: usize, end: usize) -> Said
     if e == end {
         return Said::Nothing(false);
     }
-    let n = plain::size_at(s, 2147483649, at, e);
+    let n = plain::size_at(s, plain::UNREAD, at, e);
     if n < 3 {
         return Said::Nothing(false);
     }
@@ -214,8 +214,8 @@ fn last_line(s: &[u8], at: usize, end: usize) -> Said
     requires { ⌜ (at ≤ end) × (end ≤ length (now s)) ⌝ }
     ensures { λ r. ⌜ r ≡ lastLine (columns (now (s .entry)) at end) ⌝ }
 {
-    let n = plain::size_at(s, 2147483649, at, end);
-    if 2147483647 < n {
+    let n = plain::size_at(s, plain::UNREAD, at, end);
+    if plain::MOST < n {
         return Said::Nothing(false);
     }
     Said::Last(n as usize)

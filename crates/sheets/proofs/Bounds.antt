@@ -2,13 +2,13 @@
 use mathlib.Core.Path.{_≡_, refl, _∙_}
 use mathlib.Core.Bool.{Bool, true, false, cond, not, _&&_, _||_}
 use mathlib.Core.List.{List, [], _∷_}
-use Prim.Native.Nat.{ℕ, suc, _+_, _-_, _≤_, _<_}
+use Prim.Native.Nat.{ℕ, suc, _+_, _-_, _≤_}
 use native.Mathlib.Omega.{arith}
 use lib.ListN.{length, getD, take, drop, length-drop}
-use lib.Dec.{ltb, leb, eqb}
-use borrow.Author.Tests.{eqb-true, ltb-true, leb-true}
+use lib.Dec.{eqb}
+use borrow.Author.Tests.{eqb-true}
 use Rattle.columns.specs.Columns.{columns, printable}
-use Rattle.columns.proofs.Tests.{cond-cases, both, both-left, both-right}
+use Rattle.columns.proofs.Tests.{cond-cases, both-left}
 use Rattle.columns.proofs.Columns.{length-columns}
 use Rattle.values.specs.declared.Value.the-variants.{Text}
 use Rattle.values.specs.declared.Head.{Head}
@@ -24,11 +24,11 @@ use Rattle.sheets.specs.declared.EntryLine.{EntryLine}
 use Rattle.sheets.specs.declared.EntryLine.the-variants.{Got, Wrong as WrongEntry}
 use Rattle.sheets.specs.declared.Said.{Said}
 use Rattle.sheets.specs.declared.Said.the-variants.{Start, Global, Last, Nothing}
-use Rattle.sheets.specs.Plain.{sizeFrom}
+use Rattle.sheets.specs.Plain.{plainOf, isPlain}
 use Rattle.sheets.specs.Line.{run, isLabel, entryOf, labelOf}
-use Rattle.sheets.specs.Sheet.{isMark, isStart, startLine, globalOf, globalLine, entryLineOf, valueOf, lastLine, byMark, saysOf}
+use Rattle.sheets.specs.Sheet.{isMark, isStart, startLine, globalOf, isNumbered, globalLine, entryLineOf, valueOf, lastLine, byMark, saysOf}
 use Rattle.sheets.specs.Reading.{Within}
-use Rattle.sheets.proofs.Machine.{numbered}
+use Rattle.sheets.proofs.Machine.{HasNumber, has-number}
 use Rattle.sheets.proofs.Round.{entry-back}
 
 -- ---- a line
@@ -86,19 +86,18 @@ module _ (l : List ℕ) (two : 2 ≤ length l) where
       t : List ℕ
       t = drop 2 l
 
-      pick : (x : Strict) → Placed (length (drop (suc (run 9 t)) t)) x → Within (length l) (globalOf (numbered t) (sizeFrom 2147483649 (take (run 9 t) t)) (2 + suc (run 9 t)) x)
-      pick (Is v) h =
-          cond-cases (Within (length l)) (numbered t && not (isMissing v)) (Global (sizeFrom 2147483649 (take (run 9 t) t)) (2 + suc (run 9 t)) v) (Nothing false)
-          (λ e. inside (both (ltb (run 9 t) (length t)) (leb 3 n && leb n 24) (both-left (numbered t) (not (isMissing v)) e))) (λ e. tt)
-        where
-          n : ℕ
-          n = sizeFrom 2147483649 (take (run 9 t) t)
+      n : ℕ
+      n = plainOf (take (run 9 t) t)
 
-          inside : (ltb (run 9 t) (length t) ≡ true) × (leb 3 n && leb n 24 ≡ true) → (3 ≤ n) × (n ≤ 24) × (2 + suc (run 9 t) ≤ length l) × Inside (length l - (2 + suc (run 9 t))) v
-          inside e =
-              let k : run 9 t < length t = ltb-true (run 9 t) (length t) (e .0) in
+      pick : (x : Strict) → Placed (length (drop (suc (run 9 t)) t)) x → Within (length l) (globalOf (isNumbered t) n (2 + suc (run 9 t)) x)
+      pick (Is v) h =
+          cond-cases (Within (length l)) (isNumbered t && not (isMissing v)) (Global n (2 + suc (run 9 t)) v) (Nothing false)
+          (λ e. inside (has-number t (both-left (isNumbered t) (not (isMissing v)) e))) (λ e. tt)
+        where
+          inside : HasNumber t → (3 ≤ n) × (n ≤ 24) × (2 + suc (run 9 t) ≤ length l) × Inside (length l - (2 + suc (run 9 t))) v
+          inside k =
               let a : length (drop (suc (run 9 t)) t) ≡ length l - (2 + suc (run 9 t)) = length-drop (suc (run 9 t)) t ∙ omega (arith, rest) in
-              (leb-true 3 n (both-left (leb 3 n) (leb n 24) (e .1)), leb-true n 24 (both-right (leb 3 n) (leb n 24) (e .1)), omega (arith, rest), rw a at h)
+              (k .low, k .high, omega (arith, rest, k .tab), rw a at h)
       pick Not h = tt
 
   mark-within : (b : ℕ) → Within (length l) (byMark b l (drop 2 l))
@@ -110,7 +109,7 @@ module _ (l : List ℕ) (two : 2 ≤ length l) where
       (λ _. cond-cases W (eqb b 82) (valueOf true (strictOf (drop 2 l))) _ (λ _. value-within true)
       (λ _. cond-cases W (eqb b 86) (valueOf false (strictOf (drop 2 l))) _ (λ _. value-within false)
       (λ _. cond-cases W (eqb b 90) (lastLine (drop 2 l)) (Nothing false)
-      (λ _. cond-cases W (leb (sizeFrom 2147483649 (drop 2 l)) 2147483647) (Last (sizeFrom 2147483649 (drop 2 l))) (Nothing false) (λ _. tt) (λ _. tt)) (λ _. tt))))))
+      (λ _. cond-cases W (isPlain (drop 2 l)) (Last (plainOf (drop 2 l))) (Nothing false) (λ _. tt) (λ _. tt)) (λ _. tt))))))
     where
       W : Said → Type 0
       W = Within (length l)

@@ -2,6 +2,7 @@ pub mod Plains
 pub mod Steps
 pub mod Machine
 pub mod Digits
+pub mod Folds
 pub mod Round
 pub mod Spellings
 pub mod Says

@@ -6,9 +6,11 @@ use Prim.Native.Nat.{ℕ, suc, _+_, _-_, _≤_, _<_}
 use native.Mathlib.Omega.{arith}
 use lib.ListN.{length, getD, take, drop, List·getD-eq-default}
 use lib.Dec.{ltb, leb, eqb}
-use borrow.Author.Tests.{le-leb, lt-leb, lt-ltb, le-ltb, eq-eqb, ne-eqb}
+use borrow.Author.Tests.{le-leb, lt-leb, lt-ltb, le-ltb, eq-eqb, ne-eqb, ltb-true, leb-true}
 use Rattle.columns.specs.declared.Signed.{Signed}
 use Rattle.columns.specs.Columns.{columns, printable}
+use Rattle.columns.specs.Decimal.{dec}
+use Rattle.columns.proofs.Tests.{both}
 use Rattle.columns.proofs.Columns.{columns-none, columns-rest, length-columns, byte-of}
 use Rattle.values.specs.declared.Value.{Value}
 use Rattle.values.specs.declared.Strict.{Strict}
@@ -20,10 +22,13 @@ use Rattle.sheets.specs.declared.EntryLine.{EntryLine}
 use Rattle.sheets.specs.declared.EntryLine.the-variants.{Got, Wrong}
 use Rattle.sheets.specs.declared.Said.{Said}
 use Rattle.sheets.specs.declared.Said.the-variants.{Start, Global, Entry, Value as Given, Last, Nothing}
-use Rattle.sheets.specs.Plain.{sizeFrom}
+use Rattle.sheets.specs.Plain.{most, plainOf, isPlain}
 use Rattle.sheets.specs.Line.{run, entryOf}
-use Rattle.sheets.specs.Sheet.{isMark, isStart, startLine, globalOf, globalLine, entryLineOf, valueOf, lastLine, byMark, saysOf}
+use Rattle.sheets.specs.Folds.{plainFold}
+use Rattle.sheets.specs.Sheet.{isMark, isStart, startLine, globalOf, isFieldNumber, isNumbered, globalLine, entryLineOf, valueOf, lastLine, byMark, saysOf}
 use Rattle.sheets.proofs.Plains.{first-byte, columns-take, columns-drop}
+use Rattle.sheets.proofs.Digits.{plain-back}
+use Rattle.sheets.proofs.Folds.{tells-good, tells-bad, plain-fold}
 
 pub mark-r : (b : ℕ) → b ≡ 82 → true ≡ isMark b
 unfolding isMark
@@ -92,19 +97,47 @@ module _ (x : Strict) (n at : ℕ) where
     pub global-given : m ≡ false → Global n at v ≡ globalOf true n at x
     global-given q = rw (e, ← p, q)
 
--- a number from 3 to 24 and a tab
-abbrev pub numbered : List ℕ → Bool
-numbered t = ltb (run 9 t) (length t) && (leb 3 (sizeFrom 2147483649 (take (run 9 t) t)) && leb (sizeFrom 2147483649 (take (run 9 t) t)) 24)
+-- the number is told by the code's form of it
+field-in : (f : List ℕ) (n : ℕ) → n ≡ plainFold f → 3 ≤ n → n ≤ 24 → (isFieldNumber f ≡ true) × (n ≡ plainOf f)
+unfolding isFieldNumber
+field-in f n m l k =
+    let g = tells-good (plain-fold f) (omega arith) in
+    let e : n ≡ plainOf f = m ∙ g .1 in
+    (simp (g .0, ← e, le-leb _ _ l, le-leb _ _ k), e)
 
-global-wrong : (t : List ℕ) → numbered t ≡ false → Nothing false ≡ globalLine t
+field-out : (f : List ℕ) (n : ℕ) → n ≡ plainFold f → leb 3 n && leb n 24 ≡ false → isFieldNumber f ≡ false
+unfolding isFieldNumber
+field-out f n m e = pick (isPlain f) refl
+  where
+    pick : (b : Bool) → isPlain f ≡ b → b && (leb 3 (plainOf f) && leb (plainOf f) 24) ≡ false
+    pick true g = rw (← plain-fold f .same g, ← m) e
+    pick false g = refl
+
+-- what is known where it is good
+pub record HasNumber (t : List ℕ) : Type 0 where
+  pub tab : run 9 t < length t
+  pub spelt : dec (plainOf (take (run 9 t) t)) ≡ take (run 9 t) t
+  pub low : 3 ≤ plainOf (take (run 9 t) t)
+  pub high : plainOf (take (run 9 t) t) ≤ 24
+
+pub has-number : (t : List ℕ) → isNumbered t ≡ true → HasNumber t
+unfolding isNumbered isFieldNumber
+has-number t e =
+    let f = take (run 9 t) t in
+    let a = both (ltb (run 9 t) (length t)) (isPlain f && (leb 3 (plainOf f) && leb (plainOf f) 24)) e in
+    let b = both (isPlain f) (leb 3 (plainOf f) && leb (plainOf f) 24) (a .1) in
+    let c = both (leb 3 (plainOf f)) (leb (plainOf f) 24) (b .1) in
+    record { tab = ltb-true _ _ (a .0); spelt = plain-back f (b .0) .0; low = leb-true _ _ (c .0); high = leb-true _ _ (c .1) }
+
+global-wrong : (t : List ℕ) → isNumbered t ≡ false → Nothing false ≡ globalLine t
 unfolding globalLine
 global-wrong t e = rw e (none (strictOf (drop (suc (run 9 t)) t)))
   where
-    none : (x : Strict) → Nothing false ≡ globalOf false (sizeFrom 2147483649 (take (run 9 t) t)) (2 + suc (run 9 t)) x
+    none : (x : Strict) → Nothing false ≡ globalOf false (plainOf (take (run 9 t) t)) (2 + suc (run 9 t)) x
     none (Is v) = refl
     none Not = refl
 
-pub global-right : (t : List ℕ) → numbered t ≡ true → globalOf true (sizeFrom 2147483649 (take (run 9 t) t)) (2 + suc (run 9 t)) (strictOf (drop (suc (run 9 t)) t)) ≡ globalLine t
+pub global-right : (t : List ℕ) → isNumbered t ≡ true → globalOf true (plainOf (take (run 9 t) t)) (2 + suc (run 9 t)) (strictOf (drop (suc (run 9 t)) t)) ≡ globalLine t
 unfolding globalLine
 global-right t e = rw e
 
@@ -113,42 +146,45 @@ module _ (s : List ℕ) (at e end : ℕ) (lo : at ≤ e) (hi : e ≤ end) (le : 
   at-run = omega arith
 
   pub global-short : e ≡ end → Nothing false ≡ globalLine (columns s at end)
+  unfolding isNumbered
   global-short h = global-wrong (columns s at end) (simp (at-run, length-columns s at end (omega arith) le, le-ltb (e - at) (end - at) (omega arith)))
 
-  module _ (n : ℕ) (h : e ≡ end → ⊥) (m : n ≡ sizeFrom 2147483649 (columns s at e)) where
+  module _ (n : ℕ) (h : e ≡ end → ⊥) (m : n ≡ plainFold (columns s at e)) where
+    tabbed : isNumbered (columns s at end) ≡ isFieldNumber (columns s at e)
+    unfolding isNumbered
+    tabbed = simp (at-run, length-columns s at end (omega arith) le, lt-ltb (e - at) (end - at) (omega arith), columns-take s at e end lo hi)
+
     pub global-small : n < 3 → Nothing false ≡ globalLine (columns s at end)
-    global-small l =
-        global-wrong (columns s at end)
-        (simp (at-run, length-columns s at end (omega arith) le, lt-ltb (e - at) (end - at) (omega arith), columns-take s at e end lo hi, ← m, lt-leb _ _ l))
+    global-small l = global-wrong (columns s at end) (tabbed ∙ field-out (columns s at e) n m (simp (lt-leb _ _ l)))
 
     pub global-large : 3 ≤ n → 24 < n → Nothing false ≡ globalLine (columns s at end)
-    global-large l k =
-        global-wrong (columns s at end)
-        (simp (at-run, length-columns s at end (omega arith) le, lt-ltb (e - at) (end - at) (omega arith), columns-take s at e end lo hi, ← m, le-leb _ _ l, lt-leb _ _ k))
+    global-large l k = global-wrong (columns s at end) (tabbed ∙ field-out (columns s at e) n m (simp (le-leb _ _ l, lt-leb _ _ k)))
 
     pub global-yes : (r : Said) (v : Strict) → 3 ≤ n → n ≤ 24 → v ≡ strictOf (columns s (e + 1) end) → r ≡ globalOf true n (2 + (e + 1 - at)) v → r ≡ globalLine (columns s at end)
-    global-yes r v l k p q = q ∙ named ∙ global-right (columns s at end) good
+    global-yes r v l k p q =
+        let g = field-in (columns s at e) n m l k in
+        q ∙ named (g .1) ∙ global-right (columns s at end) (tabbed ∙ g .0)
       where
-        good : numbered (columns s at end) ≡ true
-        good = simp (at-run, length-columns s at end (omega arith) le, lt-ltb (e - at) (end - at) (omega arith), columns-take s at e end lo hi, ← m, le-leb _ _ l, le-leb _ _ k)
-
-        named : globalOf true n (2 + (e + 1 - at)) v
-            ≡ globalOf true (sizeFrom 2147483649 (take (run 9 (columns s at end)) (columns s at end))) (2 + suc (run 9 (columns s at end))) (strictOf (drop (suc (run 9 (columns s at end))) (columns s at end)))
-        named =
+        named : n ≡ plainOf (columns s at e) → globalOf true n (2 + (e + 1 - at)) v
+            ≡ globalOf true (plainOf (take (run 9 (columns s at end)) (columns s at end))) (2 + suc (run 9 (columns s at end))) (strictOf (drop (suc (run 9 (columns s at end))) (columns s at end)))
+        named g =
             let next : at + suc (e - at) ≡ e + 1 = omega arith in
             let from : 2 + (e + 1 - at) ≡ 2 + suc (e - at) = omega arith in
-            rw (at-run, columns-take s at e end lo hi, columns-drop s at (suc (e - at)) end, next, ← p, ← m, from)
+            rw (at-run, columns-take s at e end lo hi, columns-drop s at (suc (e - at)) end, next, ← p, ← g, from)
 
 pub ruleset globals = (global-not, global-default, global-given, global-short, global-small, global-large, global-yes)
 
 -- ---- the others
-pub last-yes : (t : List ℕ) (n : ℕ) → n ≡ sizeFrom 2147483649 t → n ≤ 2147483647 → Last n ≡ lastLine t
-unfolding lastLine
-last-yes t n p h = simp (← p, le-leb _ _ h)
+module _ (t : List ℕ) (n : ℕ) (m : n ≡ plainFold t) where
+  pub last-yes : n ≤ most → Last n ≡ lastLine t
+  unfolding lastLine
+  last-yes h =
+      let g = tells-good (plain-fold t) (omega arith) in
+      rw (g .0, ← g .1, m)
 
-pub last-no : (t : List ℕ) (n : ℕ) → n ≡ sizeFrom 2147483649 t → 2147483647 < n → Nothing false ≡ lastLine t
-unfolding lastLine
-last-no t n p h = simp (← p, lt-leb _ _ h)
+  pub last-no : most < n → Nothing false ≡ lastLine t
+  unfolding lastLine
+  last-no h = rw (tells-bad (plain-fold t) (omega arith))
 
 pub entry-yes : (x : EntryLine) (known : Bool) (n : Signed) (d : Fields) → x ≡ Got known n d → Entry known n d ≡ entryLineOf x
 entry-yes x known n d p = rw p

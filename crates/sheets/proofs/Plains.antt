@@ -10,8 +10,9 @@ use borrow.Author.Tests.{le-leb, lt-leb, lt-ltb, le-ltb, eq-eqb, ne-eqb}
 use Rattle.columns.specs.declared.Signed.{Signed}
 use Rattle.columns.specs.Columns.{columns}
 use Rattle.columns.proofs.Columns.{column, columns-none, drop-take}
-use Rattle.sheets.specs.Plain.{sized, digitAfter, sizeFrom, minusOf, signedPlain, statusFrom, statusPlain}
-use Rattle.sheets.specs.Line.{numOf, run}
+use Rattle.sheets.specs.Plain.{most, sized}
+use Rattle.sheets.specs.Line.{run}
+use Rattle.sheets.specs.Folds.{misspelt, unread, digitAfter, sizeFrom, plainFold, minusOf, signedFold, statusFrom, statusFold, entryFold}
 
 -- columns of columns
 pub columns-take : (s : List ℕ) (i e end : ℕ) → i ≤ e → e ≤ end → take (e - i) (columns s i end) ≡ columns s i e
@@ -26,30 +27,30 @@ columns-drop s i k end =
 
 -- ---- one more byte of a number
 module _ (n b : ℕ) where
-  pub step-low : b < 48 → 2147483648 ≡ digitAfter n b
+  pub step-low : b < 48 → misspelt ≡ digitAfter n b
   unfolding digitAfter
   step-low h = simp (lt-leb _ _ h)
 
   module _ (lo : 48 ≤ b) where
-    pub step-high : 57 < b → 2147483648 ≡ digitAfter n b
+    pub step-high : 57 < b → misspelt ≡ digitAfter n b
     unfolding digitAfter
     step-high h = simp (le-leb _ _ lo, lt-leb _ _ h)
 
     module _ (hi : b ≤ 57) where
-      pub step-first : (r : ℕ) → r ≡ b - 48 → n ≡ 2147483649 → r ≡ digitAfter n b
+      pub step-first : (r : ℕ) → r ≡ b - 48 → n ≡ unread → r ≡ digitAfter n b
       unfolding digitAfter
       step-first r e h = rw e (simp (le-leb _ _ lo, le-leb _ _ hi, eq-eqb _ _ h))
 
-      pub step-nought : n ≡ 0 → 2147483648 ≡ digitAfter n b
+      pub step-nought : n ≡ 0 → misspelt ≡ digitAfter n b
       unfolding digitAfter
       step-nought h = rw h (simp (le-leb _ _ lo, le-leb _ _ hi))
 
-      module _ (d : ℕ) (e : d ≡ b - 48) (some : n ≡ 2147483649 → ⊥) (pos : n ≡ 0 → ⊥) where
-        pub step-big : 2147483647 < n * 10 + d → 2147483648 ≡ digitAfter n b
+      module _ (d : ℕ) (e : d ≡ b - 48) (some : n ≡ unread → ⊥) (pos : n ≡ 0 → ⊥) where
+        pub step-big : most < n * 10 + d → misspelt ≡ digitAfter n b
         unfolding digitAfter
         step-big h = simp (le-leb _ _ lo, le-leb _ _ hi, ne-eqb _ _ some, lt-ltb 0 n (omega arith), ← e, lt-leb _ _ h)
 
-        pub step-more : n * 10 + d ≤ 2147483647 → n * 10 + d ≡ digitAfter n b
+        pub step-more : n * 10 + d ≤ most → n * 10 + d ≡ digitAfter n b
         unfolding digitAfter
         step-more h = simp (le-leb _ _ lo, le-leb _ _ hi, ne-eqb _ _ some, lt-ltb 0 n (omega arith), ← e, le-leb _ _ h)
 
@@ -67,7 +68,7 @@ module _ (f : ℕ) (s : List ℕ) (i end n : ℕ) (inv : sizeFrom n (columns s i
       let e : i ≡ end = omega arith in
       rw (e, columns-none) at inv
 
-pub minus-nought : (n : ℕ) → n ≡ 0 → sized true 2147483648 ≡ minusOf n
+pub minus-nought : (n : ℕ) → n ≡ 0 → sized true misspelt ≡ minusOf n
 unfolding minusOf
 minus-nought n h = rw h
 
@@ -75,7 +76,7 @@ pub minus-some : (n : ℕ) → (n ≡ 0 → ⊥) → sized true n ≡ minusOf n
 unfolding minusOf
 minus-some n h = simp (ne-eqb _ _ h)
 
-pub minus-low : (n : ℕ) → n ≤ 0 → sized true 2147483648 ≡ minusOf n
+pub minus-low : (n : ℕ) → n ≤ 0 → sized true misspelt ≡ minusOf n
 minus-low n h = minus-nought n (omega arith)
 
 pub minus-high : (n : ℕ) → 0 < n → sized true n ≡ minusOf n
@@ -86,22 +87,22 @@ minus-high n h =
 pub first-byte : (s : List ℕ) (i end : ℕ) → i < end → end ≤ length s → getD (columns s i end) 0 0 ≡ getD s i 0
 first-byte s i end lt le = rw (column s i end lt le)
 
-pub signed-minus : (s : List ℕ) (i end n : ℕ) (r : Signed) → i < end → end ≤ length s → getD s i 0 ≡ 45 → n ≡ sizeFrom 2147483649 (columns s (i + 1) end) → r ≡ minusOf n
-    → r ≡ signedPlain (columns s i end)
-unfolding signedPlain
+pub signed-minus : (s : List ℕ) (i end n : ℕ) (r : Signed) → i < end → end ≤ length s → getD s i 0 ≡ 45 → n ≡ plainFold (columns s (i + 1) end) → r ≡ minusOf n
+    → r ≡ signedFold (columns s i end)
+unfolding signedFold
 signed-minus s i end n r lt le h e p = p ∙ rw (e, column s i end lt le, h)
 
-pub signed-plain : (s : List ℕ) (i end n : ℕ) → i < end → end ≤ length s → (getD s i 0 ≡ 45 → ⊥) → n ≡ sizeFrom 2147483649 (columns s i end) → sized false n ≡ signedPlain (columns s i end)
-unfolding signedPlain
+pub signed-plain : (s : List ℕ) (i end n : ℕ) → i < end → end ≤ length s → (getD s i 0 ≡ 45 → ⊥) → n ≡ plainFold (columns s i end) → sized false n ≡ signedFold (columns s i end)
+unfolding signedFold
 signed-plain s i end n lt le h e = rw (e, first-byte s i end lt le) (simp (ne-eqb _ _ h))
 
-pub signed-none : (s : List ℕ) (i end : ℕ) → i ≤ end → end ≤ i → sized false 2147483649 ≡ signedPlain (columns s i end)
-unfolding signedPlain sizeFrom
+pub signed-none : (s : List ℕ) (i end : ℕ) → i ≤ end → end ≤ i → sized false unread ≡ signedFold (columns s i end)
+unfolding signedFold sizeFrom
 signed-none s i end le ge =
     let e : i ≡ end = omega arith in
     rw (e, columns-none)
 
-pub status-low : (n : ℕ) → n < 100000000 → sized false 2147483648 ≡ statusFrom n
+pub status-low : (n : ℕ) → n < 100000000 → sized false misspelt ≡ statusFrom n
 unfolding statusFrom
 status-low n h = simp (lt-ltb _ _ h)
 
@@ -109,16 +110,16 @@ pub status-some : (n : ℕ) → 100000000 ≤ n → n < 200000000 → sized fals
 unfolding statusFrom
 status-some n l h = simp (le-ltb _ _ l, lt-ltb _ _ h)
 
-pub status-high : (n : ℕ) → 100000000 ≤ n → 200000000 ≤ n → sized false 2147483648 ≡ statusFrom n
+pub status-high : (n : ℕ) → 100000000 ≤ n → 200000000 ≤ n → sized false misspelt ≡ statusFrom n
 unfolding statusFrom
 status-high n l h = simp (le-ltb _ _ l, le-ltb _ _ h)
 
-pub num-status : (left n : ℕ) (f : List ℕ) (r : Signed) → left ≡ 3 → n ≡ sizeFrom 1 f → r ≡ statusFrom n → r ≡ numOf left f
-unfolding numOf statusPlain
+pub num-status : (left n : ℕ) (f : List ℕ) (r : Signed) → left ≡ 3 → n ≡ sizeFrom 1 f → r ≡ statusFrom n → r ≡ entryFold left f
+unfolding entryFold statusFold
 num-status left n f r h e p = p ∙ rw (e, h)
 
-pub num-signed : (left : ℕ) (f : List ℕ) (r : Signed) → (left ≡ 3 → ⊥) → r ≡ signedPlain f → r ≡ numOf left f
-unfolding numOf
+pub num-signed : (left : ℕ) (f : List ℕ) (r : Signed) → (left ≡ 3 → ⊥) → r ≡ signedFold f → r ≡ entryFold left f
+unfolding entryFold
 num-signed left f r h e = simp (ne-eqb _ _ h) e
 
 pub ruleset numbers = (size-more, size-end, minus-low, minus-high, signed-minus, signed-plain, signed-none, status-low, status-some, status-high, num-status, num-signed)
@@ -186,9 +187,9 @@ module _ (f c : ℕ) (s : List ℕ) (i end : ℕ) (inv : i + run c (columns s i 
 pub ruleset fields = (end-here, end-on, end-none)
 
 -- ---- one digit and a tab
-digit-size : (s : List ℕ) (at d : ℕ) → at + 1 ≤ length s → 48 ≤ getD s at 0 → getD s at 0 ≤ 57 → d ≡ getD s at 0 - 48 → d ≡ sizeFrom 2147483649 (columns s at (at + 1))
+digit-size : (s : List ℕ) (at d : ℕ) → at + 1 ≤ length s → 48 ≤ getD s at 0 → getD s at 0 ≤ 57 → d ≡ getD s at 0 - 48 → d ≡ plainFold (columns s at (at + 1))
 unfolding sizeFrom
-digit-size s at d le lo hi e = rw (column s at (at + 1) (omega arith) le, columns-none s (at + 1)) (step-first 2147483649 (getD s at 0) lo hi d e refl)
+digit-size s at d le lo hi e = rw (column s at (at + 1) (omega arith) le, columns-none s (at + 1)) (step-first unread (getD s at 0) lo hi d e refl)
 
 module _ (s : List ℕ) (at end : ℕ) (two : 2 ≤ end - at) (le : end ≤ length s) (t : getD s (at + 1) 0 ≡ 9) (lo : 48 ≤ getD s at 0) where
   pub digit-end : at + 1 ≡ at + run 9 (columns s at end)
@@ -196,7 +197,7 @@ module _ (s : List ℕ) (at end : ℕ) (two : 2 ≤ end - at) (le : end ≤ leng
       let n : getD s at 0 ≡ 9 → ⊥ = omega arith in
       rw (column s at end (omega arith) le, run-on 9 (getD s at 0) _ n, column s (at + 1) end (omega arith) le, run-here 9 (getD s (at + 1) 0) _ t)
 
-  pub digit-number : (left d : ℕ) → (left ≡ 3 → ⊥) → getD s at 0 ≤ 57 → d ≡ getD s at 0 - 48 → sized false d ≡ numOf left (columns s at (at + 1))
+  pub digit-number : (left d : ℕ) → (left ≡ 3 → ⊥) → getD s at 0 ≤ 57 → d ≡ getD s at 0 - 48 → sized false d ≡ entryFold left (columns s at (at + 1))
   digit-number left d n hi e =
       let m : getD s at 0 ≡ 45 → ⊥ = omega arith in
       num-signed left (columns s at (at + 1)) (sized false d) n (signed-plain s at (at + 1) d (omega arith) (omega arith) m (digit-size s at d (omega arith) lo hi e))

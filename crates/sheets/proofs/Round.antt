@@ -2,72 +2,63 @@
 use mathlib.Core.Path.{_≡_, refl, sym, ap, _∙_}
 use mathlib.Core.Bool.{Bool, true, false, cond, _&&_}
 use mathlib.Core.List.{List, [], _∷_, _++_, append-assoc, append-nil}
-use Prim.Native.Nat.{ℕ, zero, suc, _+_, _-_, _%_, _≤_, _<_}
+use Prim.Native.Nat.{ℕ, zero, suc, _+_, _-_, _≤_, _<_}
 use native.Mathlib.Numerals.{add-one}
 use native.Mathlib.Omega.{arith}
 use native.Mathlib.Decide.{ℕ-discrete}
-use lib.ListN.{length, getD, take, drop, length-append, drop-of-length-le, replicate}
+use lib.ListN.{length, getD, take, drop, length-append, drop-of-length-le}
 use lib.Seq.{take-append-seam, drop-append-add, drop-cons, drop-at}
 use lib.Dec.{ltb, leb, eqb}
-use borrow.Author.Tests.{le-leb, lt-ltb, ne-eqb, eqb-true, ltb-true, leb-true}
-use Rattle.columns.specs.Decimal.{dec, minus, signedDec, toRight, zeroFilled}
+use borrow.Author.Tests.{lt-ltb, ne-eqb, eqb-true, ltb-true, leb-true}
+use Rattle.columns.specs.Decimal.{dec, minus, signedDec, zeroFilled}
 use Rattle.columns.specs.Columns.{printable}
-use Rattle.columns.proofs.Decimals.{dec-small, dec-big, by-digits}
+use Rattle.values.specs.Number.{value}
+use Rattle.columns.proofs.Decimals.{dec-digits, print-digits, print-signed, print-right}
 use Rattle.columns.specs.declared.Signed.{Signed}
 use Rattle.directory.specs.declared.Fields.{Fields}
 use Rattle.sheets.specs.declared.EntryLine.{EntryLine}
 use Rattle.sheets.specs.declared.EntryLine.the-variants.{Got, Wrong}
 use Rattle.directory.specs.Fields.{nought, inOrder, fieldsOf}
-use Rattle.sheets.specs.Plain.{sized, signedPlain, statusPlain}
-use Rattle.sheets.specs.Line.{numOf, spell, spells, run, isLabel, entryFrom, numbersOf, entryOf, labelOf, entryLine}
+use Rattle.sheets.specs.Plain.{sized, isSigned, signedNumber, statusNumber}
+use Rattle.sheets.specs.Line.{isEntryNumber, entryNumber, spell, spells, run, isLabel, entryFrom, numbersOf, entryOf, labelOf, entryLine}
 use Rattle.sheets.specs.WellFormed.{Proper}
 use Rattle.columns.proofs.Tests.{both, both-right}
 use Rattle.sheets.proofs.Plains.{run-here, run-on}
-use Rattle.sheets.proofs.Digits.{signed-round, signed-back, status-round, status-back}
+use Rattle.sheets.proofs.Digits.{signed-round, signed-back, behind-one, status-round, status-back}
 
 -- ---- one number, with so many behind it
 pub data Fits : ℕ → Signed → Type 0 where
   eight : (n : ℕ) → n < 100000000 → Fits 3 (sized false n)
   plain : {left : ℕ} {x : Signed} → (left ≡ 3 → ⊥) → Proper x → Fits left x
 
-num-status : (f : List ℕ) → numOf 3 f ≡ statusPlain f
-unfolding numOf
-num-status f = refl
+module _ (left : ℕ) (h : left ≡ 3 → ⊥) where
+  other : (f : List ℕ) → (isEntryNumber left f ≡ isSigned f) × (entryNumber left f ≡ signedNumber f)
+  unfolding isEntryNumber entryNumber
+  other f = rw (ne-eqb _ _ h) (refl, refl)
 
-num-signed : (left : ℕ) (f : List ℕ) → (left ≡ 3 → ⊥) → numOf left f ≡ signedPlain f
-unfolding numOf
-num-signed left f h = simp (ne-eqb _ _ h)
+  spell-other : (x : Signed) → spell left x ≡ signedDec x
+  unfolding spell
+  spell-other x = simp (ne-eqb _ _ h)
 
-spell-status : (x : Signed) → spell 3 x ≡ zeroFilled 8 (x .size)
-unfolding spell
-spell-status x = refl
+num-round : {left : ℕ} {x : Signed} → Fits left x → (isEntryNumber left (spell left x) ≡ true) × (entryNumber left (spell left x) ≡ x)
+unfolding isEntryNumber entryNumber statusNumber spell
+num-round (eight n h) =
+    let r = status-round n h in
+    (r .0, ap (sized false) (r .1))
+num-round (plain {left} {x} h p) = rw (spell-other left h x, other left h (signedDec x) .0, other left h (signedDec x) .1) (signed-round (x .neg) (x .size) (p .small) (p .minus))
 
-spell-plain : (left : ℕ) (x : Signed) → (left ≡ 3 → ⊥) → spell left x ≡ signedDec x
-unfolding spell
-spell-plain left x h = simp (ne-eqb _ _ h)
+status-number : (f : List ℕ) → isEntryNumber 3 f ≡ true → (spell 3 (entryNumber 3 f) ≡ f) × Fits 3 (entryNumber 3 f)
+unfolding isEntryNumber entryNumber statusNumber spell
+status-number f h = (status-back f h, eight (value 0 f) (behind-one f h .1))
 
-num-round : {left : ℕ} {x : Signed} → Fits left x → numOf left (spell left x) ≡ x
-num-round (eight n h) = rw (spell-status (sized false n), num-status (zeroFilled 8 n)) (status-round n h)
-num-round (plain {left} {x} h p) = rw (spell-plain left x h, num-signed left (signedDec x) h) (signed-round (x .neg) (x .size) (p .small) (p .minus))
-
-fits-small : {left : ℕ} {x : Signed} → Fits left x → x .size ≤ 2147483647
-fits-small (eight n h) = omega arith
-fits-small (plain h p) = p .small
-
-num-back : (left : ℕ) (f : List ℕ) → numOf left f .size ≤ 2147483647 → (spell left (numOf left f) ≡ f) × Fits left (numOf left f)
-num-back left f h = pick (ℕ-discrete left 3)
+num-back : (left : ℕ) (f : List ℕ) → isEntryNumber left f ≡ true → (spell left (entryNumber left f) ≡ f) × Fits left (entryNumber left f)
+num-back left f h = elim (ℕ-discrete left 3) [ yes e ↦ rw e (status-number f (rw e at h)) | no e ↦ number e ]
   where
-    status : (k : ℕ) → k ≡ 3 → numOf 3 f .size ≤ 2147483647 → (spell 3 (numOf 3 f) ≡ f) × Fits 3 (numOf 3 f)
-    status k e l =
-        let b = status-back f (rw (num-status f) at l) in
-        (spell-status (numOf 3 f) ∙ rw (num-status f) (b .0), rw (num-status f, b .1 .2) (eight (b .1 .0) (b .1 .1)))
-
-    pick : Dec (left ≡ 3) → (spell left (numOf left f) ≡ f) × Fits left (numOf left f)
-    pick (yes e) = rw e (status left e (rw e at h))
-    pick (no e) =
-        let g : numOf left f ≡ signedPlain f = num-signed left f e in
-        let b = signed-back f (rw g at h) in
-        rw g (spell-plain left (signedPlain f) e ∙ b .0, plain e (b .1))
+    number : (left ≡ 3 → ⊥) → (spell left (entryNumber left f) ≡ f) × Fits left (entryNumber left f)
+    number e =
+        let o = other left e f in
+        let b = signed-back f (sym (o .0) ∙ h) in
+        rw (o .1) (spell-other left e (signedNumber f) ∙ b .0, plain e (b .1))
 
 -- ---- no tab in a number; no LF either
 pub data No (c : ℕ) : List ℕ → Type 0 where
@@ -79,11 +70,6 @@ module _ (c : ℕ) (low : c < 32) where
   no-append none e = e
   no-append (one h d) e = one h (no-append d e)
 
-  pub no-byte : (b : ℕ) → 32 ≤ b → No c (b ∷ [])
-  no-byte b l =
-      let h : b ≡ c → ⊥ = omega arith in
-      one h none
-
   pub no-plain : (t : List ℕ) → printable t ≡ true → No c t
   unfolding printable
   no-plain [] e = none
@@ -94,26 +80,12 @@ module _ (c : ℕ) (low : c < 32) where
       one h (no-plain bs (both-right (leb b 126) (printable bs) (p .1)))
 
   pub no-dec : (v : ℕ) → No c (dec v)
-  no-dec = by-digits (λ (v : ℕ). No c (dec v)) (λ v h. rw (dec-small v h) (no-byte (48 + v) (omega arith))) (λ v h p. rw (dec-big v h) (no-append p (no-byte (48 + v % 10) (omega arith))))
-
-  no-zeros : (n : ℕ) → No c (replicate n 48)
-  no-zeros zero = none
-  no-zeros (suc n) =
-      let h : _≡_ {A = ℕ} 48 c → ⊥ = omega arith in
-      one h (no-zeros n)
-
-  no-filled : (k n : ℕ) → No c (zeroFilled k n)
-  unfolding toRight
-  no-filled k n = no-append (no-zeros (k - length (dec n))) (no-dec n)
-
-  no-signed : (b : Bool) (n : ℕ) → No c (signedDec (sized b n))
-  unfolding signedDec
-  no-signed true n = no-append (no-byte 45 (omega arith)) (no-dec n)
-  no-signed false n = no-dec n
+  no-dec v = no-plain (dec v) (print-digits (dec-digits v))
 
   pub no-spell : {left : ℕ} {x : Signed} → Fits left x → No c (spell left x)
-  no-spell (eight n h) = rw (spell-status (sized false n)) (no-filled 8 n)
-  no-spell (plain {left} {x} h p) = rw (spell-plain left x h) (no-signed (x .neg) (x .size))
+  unfolding spell
+  no-spell (eight n h) = no-plain (zeroFilled 8 n) (print-right 48 8 (dec n) (omega arith) (omega arith) (print-digits (dec-digits n)))
+  no-spell (plain {left} {x} h p) = rw (spell-other left h x) (no-plain (signedDec x) (print-signed x))
 
 pub run-field : {f : List ℕ} → No 9 f → (rest : List ℕ) → run 9 (f ++ (9 ∷ rest)) ≡ length f
 run-field none rest = run-here 9 9 rest refl
@@ -138,19 +110,19 @@ numbers-zero : (known : Bool) (x : List Signed) (t : List ℕ) → isLabel t ≡
 unfolding numbersOf
 numbers-zero known x t h = rw (numbersOf, h)
 
-numbers-suc : (known : Bool) (left : ℕ) (acc : List Signed) (f rest : List ℕ) (x : Signed) → run 9 (f ++ (9 ∷ rest)) ≡ length f → numOf left f ≡ x → x .size ≤ 2147483647
+numbers-suc : (known : Bool) (left : ℕ) (acc : List Signed) (f rest : List ℕ) (x : Signed) → run 9 (f ++ (9 ∷ rest)) ≡ length f → (isEntryNumber left f ≡ true) × (entryNumber left f ≡ x)
     → numbersOf known (suc left) acc (f ++ (9 ∷ rest)) ≡ numbersOf known left (acc ++ (x ∷ [])) rest
 unfolding numbersOf
-numbers-suc known left acc f rest x r e h =
+numbers-suc known left acc f rest x r e =
     let d : drop (suc (length f)) (f ++ (9 ∷ rest)) ≡ rest = rw (← add-one (length f)) (drop-append-add f (9 ∷ rest) 1) in
-    simp (numbersOf, r, take-append-seam f (9 ∷ rest), e, lt-ltb (length f) (length (f ++ (9 ∷ rest))) (simp length-append (omega arith)), le-leb _ _ h, d)
+    simp (numbersOf, r, take-append-seam f (9 ∷ rest), e .0, e .1, lt-ltb (length f) (length (f ++ (9 ∷ rest))) (simp length-append (omega arith)), d)
 
 numbers-round : (known : Bool) (label : List ℕ) → isLabel label ≡ true → {left : ℕ} {xs : List Signed} → AllFit left xs → (acc : List Signed)
     → numbersOf known left acc (spells left xs ++ label) ≡ entryFrom known (acc ++ xs)
 unfolding spells
 numbers-round known label l nil acc = rw append-nil (numbers-zero known acc label l)
 numbers-round known label l (cons {left} {x} {xs} f a) acc =
-    rw append-assoc (numbers-suc known left acc (spell left x) (spells left xs ++ label) x (run-field (no-spell 9 (omega arith) f) _) (num-round f) (fits-small f)
+    rw append-assoc (numbers-suc known left acc (spell left x) (spells left xs ++ label) x (run-field (no-spell 9 (omega arith) f) _) (num-round f)
     ∙ numbers-round known label l a (acc ++ (x ∷ [])) ∙ rw append-assoc)
 
 -- what is known of a text that was read
@@ -169,18 +141,18 @@ numbers-back known zero acc t r n e = pick (isLabel t) refl e
     pick : (b : Bool) → isLabel t ≡ b → elim b [ true ↦ entryFrom known acc | false ↦ Wrong ] ≡ r → Back known 0 acc t r
     pick true l e = record { xs = []; label = t; fit = nil; good = l; text = refl; entry = rw append-nil (sym e) }
     pick false l e = absurd (n (sym e))
-numbers-back known (suc left) acc t r n e = pick (ltb (run 9 t) (length t)) refl (leb (numOf left (take (run 9 t) t) .size) 2147483647) refl e (numbers-back known left (acc ++ (numOf left (take (run 9 t) t) ∷ [])) (drop (suc (run 9 t)) t) r n)
+numbers-back known (suc left) acc t r n e = pick (ltb (run 9 t) (length t)) refl (isEntryNumber left (take (run 9 t) t)) refl e (numbers-back known left (acc ++ (entryNumber left (take (run 9 t) t) ∷ [])) (drop (suc (run 9 t)) t) r n)
   where
     x : Signed
-    x = numOf left (take (run 9 t) t)
+    x = entryNumber left (take (run 9 t) t)
 
-    pick : (b : Bool) → ltb (run 9 t) (length t) ≡ b → (c : Bool) → leb (x .size) 2147483647 ≡ c
+    pick : (b : Bool) → ltb (run 9 t) (length t) ≡ b → (c : Bool) → isEntryNumber left (take (run 9 t) t) ≡ c
         → elim (b && c) [ true ↦ numbersOf known left (acc ++ (x ∷ [])) (drop (suc (run 9 t)) t) | false ↦ Wrong ] ≡ r
         → (numbersOf known left (acc ++ (x ∷ [])) (drop (suc (run 9 t)) t) ≡ r → Back known left (acc ++ (x ∷ [])) (drop (suc (run 9 t)) t) r)
         → Back known (suc left) acc t r
     pick true eb true ec e ih =
         let b = ih e in
-        let w = num-back left (take (run 9 t) t) (leb-true (x .size) 2147483647 ec) in
+        let w = num-back left (take (run 9 t) t) ec in
         record {
           xs = x ∷ b .xs;
           label = b .label;

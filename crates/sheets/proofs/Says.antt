@@ -8,17 +8,18 @@ use native.Mathlib.Omega.{arith}
 use native.Mathlib.Decide.{ℕ-discrete}
 use lib.ListN.{length, getD, take, drop, length-append}
 use lib.Seq.{take-append-seam, drop-append-add}
-use lib.Dec.{ltb, leb, eqb}
-use borrow.Author.Tests.{le-leb, lt-ltb, eq-eqb, ne-eqb, ltb-true, leb-true}
+use lib.Dec.{leb, eqb}
+use borrow.Author.Tests.{le-leb, lt-ltb, eq-eqb, ne-eqb}
 use Rattle.columns.specs.declared.Signed.{Signed}
 use Rattle.columns.specs.Columns.{printable}
 use Rattle.columns.specs.Decimal.{dec}
-use Rattle.columns.proofs.Tests.{both, both-left, both-right}
+use Rattle.columns.proofs.Tests.{both, both-right}
 use Rattle.values.specs.declared.Value.{Value}
 use Rattle.values.specs.declared.Strict.{Strict}
 use Rattle.values.specs.declared.Strict.the-variants.{Is, Not}
 use Rattle.values.specs.Value.{Item, itemOf, spelled, isMissing}
 use Rattle.values.specs.Strict.{strictOf}
+use Rattle.values.proofs.Digits.{dec-value}
 use Rattle.values.proofs.OneSpelling.{placed, placed-item, sound, complete}
 use Rattle.directory.specs.declared.Fields.{Fields}
 use Rattle.directory.specs.Fields.{inOrder}
@@ -26,13 +27,13 @@ use Rattle.sheets.specs.declared.EntryLine.{EntryLine}
 use Rattle.sheets.specs.declared.EntryLine.the-variants.{Got, Wrong}
 use Rattle.sheets.specs.declared.Said.{Said}
 use Rattle.sheets.specs.declared.Said.the-variants.{Start, Global, Last, Nothing}
-use Rattle.sheets.specs.Plain.{sizeFrom, sized}
+use Rattle.sheets.specs.Plain.{plainOf, isPlain, sized}
 use Rattle.sheets.specs.Line.{run, isLabel, spells, entryOf, labelOf, entryLine}
-use Rattle.sheets.specs.Sheet.{Line, start, global, entry, value, last, none, lineFrom, into, piecesOf, isMark, isStart, startLine, globalOf, globalLine, entryLineOf, valueOf, lastLine, byMark, saysOf, saidBy, lastPiece, saidByAll, lineOf, textOf}
+use Rattle.sheets.specs.Sheet.{Line, start, global, entry, value, last, none, lineFrom, into, piecesOf, isMark, isStart, startLine, globalOf, isFieldNumber, isNumbered, globalLine, entryLineOf, valueOf, lastLine, byMark, saysOf, saidBy, lastPiece, saidByAll, lineOf, textOf}
 use Rattle.sheets.specs.WellFormed.{Held, Filled}
 use Rattle.sheets.proofs.Spellings.{print-spelled, missing, missing-placed}
-use Rattle.sheets.proofs.Machine.{numbered, global-right}
-use Rattle.sheets.proofs.Digits.{size-own, size-all}
+use Rattle.sheets.proofs.Machine.{has-number, global-right}
+use Rattle.sheets.proofs.Digits.{plain-round, plain-back}
 use Rattle.sheets.proofs.Round.{No, one, no-append, no-plain, no-dec, no-spell, run-field, run-cut, AllFit, nil, cons, entry-round, label-round, entry-back, Spelt}
 
 -- ---- a text and its pieces
@@ -137,8 +138,21 @@ skip k a b t =
     let e : 2 + k ≡ suc (suc k) = omega arith in
     ap (λ (j : ℕ). drop j (a ∷ (b ∷ t))) e
 
+numbered-round : (n : ℕ) (rest : List ℕ) → 3 ≤ n → n ≤ 24 → isNumbered (dec n ++ (9 ∷ rest)) ≡ true
+unfolding isNumbered isFieldNumber
+numbered-round n rest low high =
+    simp (
+      run-field (no-dec 9 (omega arith) n) rest,
+      lt-ltb (length (dec n)) (length (dec n ++ (9 ∷ rest))) (simp length-append (omega arith)),
+      take-append-seam (dec n) (9 ∷ rest),
+      plain-round n (omega arith),
+      dec-value n,
+      le-leb 3 n low,
+      le-leb n 24 high,
+    )
+
 global-round : (n : ℕ) (v : Item) → Filled (n, v) → lineFrom (71 ∷ (9 ∷ (dec n ++ (9 ∷ spelled v)))) (globalLine (dec n ++ (9 ∷ spelled v))) ≡ global n v
-global-round n v f = ap (lineFrom (71 ∷ (9 ∷ t))) (sym (global-right t good) ∙ named) ∙ told
+global-round n v f = ap (lineFrom (71 ∷ (9 ∷ t))) (sym (global-right t (numbered-round n (spelled v) (f .low) (f .high))) ∙ named) ∙ told
   where
     t : List ℕ
     t = dec n ++ (9 ∷ spelled v)
@@ -149,14 +163,11 @@ global-round n v f = ap (lineFrom (71 ∷ (9 ∷ t))) (sym (global-right t good)
     d : drop (suc (length (dec n))) t ≡ spelled v
     d = rw (← add-one (length (dec n))) (drop-append-add (dec n) (9 ∷ spelled v) 1)
 
-    s : sizeFrom 2147483649 (take (length (dec n)) t) ≡ n
-    s = rw (take-append-seam (dec n) (9 ∷ spelled v)) (size-own n (omega (arith, f .high)))
+    k : take (length (dec n)) t ≡ dec n
+    k = take-append-seam (dec n) (9 ∷ spelled v)
 
-    good : numbered t ≡ true
-    good = simp (r, s, lt-ltb (length (dec n)) (length (dec n ++ (9 ∷ spelled v))) (simp length-append (omega arith)), le-leb 3 n (f .low), le-leb n 24 (f .high))
-
-    named : globalOf true (sizeFrom 2147483649 (take (run 9 t) t)) (2 + suc (run 9 t)) (strictOf (drop (suc (run 9 t)) t)) ≡ Global n (2 + suc (length (dec n))) (placed v)
-    named = rw (r, s, d, complete (f .held .fine) (f .held .printed), missing-placed v, f .given)
+    named : globalOf true (plainOf (take (run 9 t) t)) (2 + suc (run 9 t)) (strictOf (drop (suc (run 9 t)) t)) ≡ Global n (2 + suc (length (dec n))) (placed v)
+    named = rw (r, k, dec-value n, d, complete (f .held .fine) (f .held .printed), missing-placed v, f .given)
 
     told : global n (itemOf (drop (2 + suc (length (dec n))) (71 ∷ (9 ∷ t))) (placed v)) ≡ global n v
     told = rw (skip (suc (length (dec n))) 71 9 t, d, placed-item v)
@@ -168,7 +179,7 @@ line-round (w-global {n} {v} f) = rw (says-global (dec n ++ (9 ∷ spelled v))) 
 line-round (w-entry {known} {n} {e} {label} z a l) =
     rw (says-entry-line known (n .size) e label, entry-round known (n .size) e label (rw (own n z) a) l, label-round known (n .size) e label l) (ap (λ (x : Signed). entry known x e label) (own n z))
 line-round (w-value {reference} {v} p) = rw (says-value reference (spelled v), complete (p .fine) (p .printed), placed-item v)
-line-round (w-last {n} h) = rw (says-last (dec n), size-own n h) (simp (le-leb _ _ h))
+line-round (w-last {n} h) = rw (says-last (dec n), plain-round n h, dec-value n)
 
 -- no LF in a line
 no-spells : {left : ℕ} {xs : List Signed} → AllFit left xs → No 10 (spells left xs)
@@ -269,34 +280,33 @@ unfolding globalLine lineOf
 global-told t = pick (strictOf v) refl
   where
     n : ℕ
-    n = sizeFrom 2147483649 (take (run 9 t) t)
+    n = plainOf (take (run 9 t) t)
 
     v : List ℕ
     v = drop (suc (run 9 t)) t
 
-    good : (w : Value) → strictOf v ≡ Is w → numbered t && not (isMissing w) ≡ true → Well (global n (itemOf v w)) × (71 ∷ (9 ∷ (dec n ++ (9 ∷ spelled (itemOf v w)))) ≡ 71 ∷ (9 ∷ t))
+    good : (w : Value) → strictOf v ≡ Is w → isNumbered t && not (isMissing w) ≡ true → Well (global n (itemOf v w)) × (71 ∷ (9 ∷ (dec n ++ (9 ∷ spelled (itemOf v w)))) ≡ 71 ∷ (9 ∷ t))
     good w e g =
         let z = sound v e in
-        let a = both (ltb (run 9 t) (length t)) (leb 3 n && leb n 24) (both-left (numbered t) (not (isMissing w)) g) in
-        let h : n ≤ 24 = leb-true n 24 (both-right (leb 3 n) (leb n 24) (a .1)) in
-        let d : dec n ≡ take (run 9 t) t = size-all (take (run 9 t) t) (omega arith) in (
+        let a = both (isNumbered t) (not (isMissing w)) g in
+        let k = has-number t (a .0) in (
           w-global (record {
-            low = leb-true 3 n (both-left (leb 3 n) (leb n 24) (a .1));
-            high = h;
-            given = missing v w ∙ given (isMissing w) (both-right (numbered t) (not (isMissing w)) g);
+            low = k .low;
+            high = k .high;
+            given = missing v w ∙ given (isMissing w) (a .1);
             held = record { fine = z .fine; printed = z .printed };
           }),
-          rw (d, z .text) (ap (λ (x : List ℕ). 71 ∷ (9 ∷ x)) (run-cut 9 t (ltb-true (run 9 t) (length t) (a .0)))),
+          rw (k .spelt, z .text) (ap (λ (x : List ℕ). 71 ∷ (9 ∷ x)) (run-cut 9 t (k .tab))),
         )
       where
         given : (b : Bool) → not b ≡ true → b ≡ false
         given true e = sym e
         given false e = refl
 
-    pick : (x : Strict) → strictOf v ≡ x → Told (71 ∷ (9 ∷ t)) (lineFrom (71 ∷ (9 ∷ t)) (globalOf (numbered t) n (2 + suc (run 9 t)) x))
+    pick : (x : Strict) → strictOf v ≡ x → Told (71 ∷ (9 ∷ t)) (lineFrom (71 ∷ (9 ∷ t)) (globalOf (isNumbered t) n (2 + suc (run 9 t)) x))
     pick Not e = untold (71 ∷ (9 ∷ t)) false
     pick (Is w) e =
-        told-if (numbered t && not (isMissing w)) (71 ∷ (9 ∷ t)) (Global n (2 + suc (run 9 t)) w) false
+        told-if (isNumbered t && not (isMissing w)) (71 ∷ (9 ∷ t)) (Global n (2 + suc (run 9 t)) w) false
         (λ g. rw (skip (suc (run 9 t)) 71 9 t) (good w e g))
 
 entry-spelt : {l : List ℕ} {known : Bool} {n : Signed} {e : Fields} → Spelt l known n e → Told l (entry known n e (labelOf l))
@@ -323,8 +333,8 @@ value-told reference m t c = pick (strictOf t) refl
 last-told : (t : List ℕ) → Told (90 ∷ (9 ∷ t)) (lineFrom (90 ∷ (9 ∷ t)) (lastLine t))
 unfolding lastLine lineOf
 last-told t =
-    told-if (leb (sizeFrom 2147483649 t) 2147483647) (90 ∷ (9 ∷ t)) (Last (sizeFrom 2147483649 t)) false
-    (λ e. (w-last (leb-true _ _ e), ap (λ (x : List ℕ). 90 ∷ (9 ∷ x)) (size-all t (leb-true _ _ e))))
+    told-if (isPlain t) (90 ∷ (9 ∷ t)) (Last (plainOf t)) false
+    (λ e. (w-last (plain-back t e .1), ap (λ (x : List ℕ). 90 ∷ (9 ∷ x)) (plain-back t e .0)))
 
 says-other : (b : ℕ) (t : List ℕ) → (b ≡ 83 → ⊥) → (b ≡ 71 → ⊥) → (b ≡ 69 → ⊥) → (b ≡ 85 → ⊥) → (b ≡ 82 → ⊥) → (b ≡ 86 → ⊥) → (b ≡ 90 → ⊥) → saysOf (b ∷ (9 ∷ t)) ≡ Nothing false
 unfolding saysOf byMark

@@ -16,28 +16,28 @@ use Rattle.sheets.specs.Order.{sheetLine, next, closed, startStep, globa
 use Rattle.sheets.specs.Reading.{stepSaid}
 
 -- values that end with a default are wrong before anything else
-module _ (st : State) (some : st .run ≡ 0 → ⊥) where
-  pub start-run : Off (sheetLine (st .run)) ≡ startStep st
+module _ (st : State) (some : st .run .0 ≡ 0 → ⊥) where
+  pub start-run : Off (st .run) ≡ startStep st
   unfolding startStep closed
   start-run = simp (ne-eqb _ _ some)
 
-  pub global-run : (n : ℕ) → Off (sheetLine (st .run)) ≡ globalStep st n
+  pub global-run : (n : ℕ) → Off (st .run) ≡ globalStep st n
   unfolding globalStep closed
   global-run n = simp (ne-eqb _ _ some)
 
-  pub entry-run : (x : Signed) → Off (sheetLine (st .run)) ≡ entryStep st x
+  pub entry-run : (x : Signed) → Off (st .run) ≡ entryStep st x
   unfolding entryStep closed
   entry-run x = simp (ne-eqb _ _ some)
 
-  pub last-run : (n : ℕ) → Off (sheetLine (st .run)) ≡ lastStep st n
+  pub last-run : (n : ℕ) → Off (st .run) ≡ lastStep st n
   unfolding lastStep closed
   last-run n = simp (ne-eqb _ _ some)
 
-  pub none-run : (b : Bool) → b ≡ false → Off (sheetLine (st .run)) ≡ noneStep st b
+  pub none-run : (b : Bool) → b ≡ false → Off (st .run) ≡ noneStep st b
   unfolding noneStep closed
   none-run b e = rw e (simp (ne-eqb _ _ some))
 
-module _ (st : State) (no : st .run ≡ 0) where
+module _ (st : State) (no : st .run .0 ≡ 0) where
   pub start-late : 1 < st .section → Off (sheetLine (st .line + 1)) ≡ startStep st
   unfolding startStep closed
   start-late h = simp (eq-eqb _ _ no, lt-leb _ _ h)
@@ -113,11 +113,11 @@ module _ (st : State) where
   value-out b h = simp (ne-eqb _ _ h)
 
   module _ (b : Bool) (h : st .section ≡ 3) where
-    pub value-first : b ≡ true → st .run ≡ 0 → On (next st 3 (st .field) (st .entries) (st .line + 1)) ≡ valueStep st b
+    pub value-first : b ≡ true → st .run .0 ≡ 0 → On (next st 3 (st .field) (st .entries) (st .line + 1)) ≡ valueStep st b
     unfolding valueStep
     value-first e r = simp (eq-eqb _ _ h, e, eq-eqb _ _ r)
 
-    pub value-again : b ≡ true → (st .run ≡ 0 → ⊥) → On (next st 3 (st .field) (st .entries) (st .run)) ≡ valueStep st b
+    pub value-again : b ≡ true → (st .run .0 ≡ 0 → ⊥) → On (next st 3 (st .field) (st .entries) (st .run .0)) ≡ valueStep st b
     unfolding valueStep
     value-again e r = simp (eq-eqb _ _ h, e, ne-eqb _ _ r)
 

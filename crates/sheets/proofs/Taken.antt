@@ -22,7 +22,7 @@ unfolding goLines
 go-on st st′ i is e = rw (goLines, e)
 
 abbrev at : ℕ → ℕ → ℕ → ℕ → ℕ → State
-at section g k run line = record { section = section; field = g; entries = k; run = run; line = line }
+at section g k run line = record { section = section; field = g; entries = k; run = record { 0 = run }; line = line }
 
 go-end : (g k line : ℕ) → goLines (at 4 g k 0 line) [] ≡ Good k
 unfolding goLines finish

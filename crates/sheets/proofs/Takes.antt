@@ -29,12 +29,12 @@ never-on e = absurd (let z : _≡_ {A = ℕ} 0 1 = cc in omega arith)
 never-good : {A : Type 0} {n : SheetLine} {k : ℕ} → Wrong n ≡ Good k → A
 never-good e = absurd (let z : _≡_ {A = ℕ} 0 1 = cc in omega arith)
 
-closed-inv : (st st′ : State) (x : Step) → closed st x ≡ On st′ → (st .run ≡ 0) × (x ≡ On st′)
+closed-inv : (st st′ : State) (x : Step) → closed st x ≡ On st′ → (st .run .0 ≡ 0) × (x ≡ On st′)
 unfolding closed
-closed-inv st st′ x h = pick (eqb (st .run) 0) refl h
+closed-inv st st′ x h = pick (eqb (st .run .0) 0) refl h
   where
-    pick : (b : Bool) → eqb (st .run) 0 ≡ b → cond b x (Off (sheetLine (st .run))) ≡ On st′ → (st .run ≡ 0) × (x ≡ On st′)
-    pick true e h = (eqb-true (st .run) 0 e, h)
+    pick : (b : Bool) → eqb (st .run .0) 0 ≡ b → cond b x (Off (st .run)) ≡ On st′ → (st .run .0 ≡ 0) × (x ≡ On st′)
+    pick true e h = (eqb-true (st .run .0) 0 e, h)
     pick false e h = never-on h
 
 cond-inv : (c : Bool) (a st′ : State) (n : SheetLine) → cond c (On a) (Off n) ≡ On st′ → (c ≡ true) × (st′ ≡ a)
@@ -42,14 +42,14 @@ cond-inv true a st′ n h = (refl, cc)
 cond-inv false a st′ n h = never-on h
 
 module _ (st st′ : State) where
-  pub start-inv : startStep st ≡ On st′ → (st .run ≡ 0) × (st .section ≤ 1) × (st′ ≡ next st 1 (st .field) (st .entries) 0)
+  pub start-inv : startStep st ≡ On st′ → (st .run .0 ≡ 0) × (st .section ≤ 1) × (st′ ≡ next st 1 (st .field) (st .entries) 0)
   unfolding startStep
   start-inv h =
       let c = closed-inv st st′ _ h in
       let d = cond-inv (leb (st .section) 1) _ st′ _ (c .1) in
       (c .0, leb-true _ _ (d .0), d .1)
 
-  pub global-inv : (n : ℕ) → globalStep st n ≡ On st′ → (st .run ≡ 0) × (1 ≤ st .section) × (st .section ≤ 2) × (st .field < n) × (st′ ≡ next st 2 n (st .entries) 0)
+  pub global-inv : (n : ℕ) → globalStep st n ≡ On st′ → (st .run .0 ≡ 0) × (1 ≤ st .section) × (st .section ≤ 2) × (st .field < n) × (st′ ≡ next st 2 n (st .entries) 0)
   unfolding globalStep
   global-inv n h =
       let c = closed-inv st st′ _ h in
@@ -57,7 +57,7 @@ module _ (st st′ : State) where
       let e = both-right (leb 1 (st .section)) (leb (st .section) 2 && ltb (st .field) n) (d .0) in
       (c .0, leb-true _ _ (both-left (leb 1 (st .section)) (leb (st .section) 2 && ltb (st .field) n) (d .0)), leb-true _ _ (both-left (leb (st .section) 2) (ltb (st .field) n) e), ltb-true _ _ (both-right (leb (st .section) 2) (ltb (st .field) n) e), d .1)
 
-  pub entry-inv : (x : Signed) → entryStep st x ≡ On st′ → (st .run ≡ 0) × (1 ≤ st .section) × (st .section ≤ 3) × (x ≡ sized false (2 * st .entries + 1)) × (st′ ≡ next st 3 (st .field) (st .entries + 1) 0)
+  pub entry-inv : (x : Signed) → entryStep st x ≡ On st′ → (st .run .0 ≡ 0) × (1 ≤ st .section) × (st .section ≤ 3) × (x ≡ sized false (2 * st .entries + 1)) × (st′ ≡ next st 3 (st .field) (st .entries + 1) 0)
   unfolding entryStep
   entry-inv x h =
       let c = closed-inv st st′ _ h in
@@ -70,13 +70,13 @@ module _ (st st′ : State) where
       number true m e = absurd (let z : _≡_ {A = ℕ} 0 1 = cc in omega arith)
       number false m e = ap (sized false) (eqb-true m (2 * st .entries + 1) e)
 
-  pub value-inv : (b : Bool) → valueStep st b ≡ On st′ → (st .section ≡ 3) × (st′ ≡ next st 3 (st .field) (st .entries) (cond b (cond (eqb (st .run) 0) (st .line + 1) (st .run)) 0))
+  pub value-inv : (b : Bool) → valueStep st b ≡ On st′ → (st .section ≡ 3) × (st′ ≡ next st 3 (st .field) (st .entries) (cond b (cond (eqb (st .run .0) 0) (st .line + 1) (st .run .0)) 0))
   unfolding valueStep
   value-inv b h =
       let d = cond-inv (eqb (st .section) 3) _ st′ _ h in
       (eqb-true _ _ (d .0), d .1)
 
-  pub last-inv : (n : ℕ) → lastStep st n ≡ On st′ → (st .run ≡ 0) × (1 ≤ st .section) × (st .section ≤ 3) × (n ≡ st .entries) × (st′ ≡ next st 4 (st .field) (st .entries) 0)
+  pub last-inv : (n : ℕ) → lastStep st n ≡ On st′ → (st .run .0 ≡ 0) × (1 ≤ st .section) × (st .section ≤ 3) × (n ≡ st .entries) × (st′ ≡ next st 4 (st .field) (st .entries) 0)
   unfolding lastStep
   last-inv n h =
       let c = closed-inv st st′ _ h in
@@ -99,9 +99,9 @@ go-inv st i is n h = pick (stepLine st i) refl h
 
 end-inv : (st : State) (n : ℕ) → goLines st [] ≡ Good n → (st .section ≡ 4) × (n ≡ st .entries)
 unfolding goLines finish closed
-end-inv st n h = pick (eqb (st .section) 4) refl (eqb (st .run) 0) h
+end-inv st n h = pick (eqb (st .section) 4) refl (eqb (st .run .0) 0) h
   where
-    pick : (a : Bool) → eqb (st .section) 4 ≡ a → (b : Bool) → cond a (Good (st .entries)) (verdict (cond b (Off (sheetLine (st .line + 1))) (Off (sheetLine (st .run))))) ≡ Good n → (st .section ≡ 4) × (n ≡ st .entries)
+    pick : (a : Bool) → eqb (st .section) 4 ≡ a → (b : Bool) → cond a (Good (st .entries)) (verdict (cond b (Off (sheetLine (st .line + 1))) (Off (st .run)))) ≡ Good n → (st .section ≡ 4) × (n ≡ st .entries)
     pick true e b h = (eqb-true _ _ e, cc)
     pick false e true h = never-good h
     pick false e false h = never-good h
@@ -141,7 +141,7 @@ abbrev linesAt : ℕ → Parts → List Line
 linesAt k p = startLines (p .starts) (globalLines (p .globals) (valueLines (p .values) (rowLines k (p .rows))))
 
 abbrev pending : State → Bool
-pending st = cond (eqb (st .run) 0) false true
+pending st = cond (eqb (st .run .0) 0) false true
 
 record Whole (st : State) (is : List Line) (n : ℕ) (p : Parts) : Type 0 where
   text : linesAt (st .entries) p ≡ is
@@ -154,7 +154,7 @@ record Whole (st : State) (is : List Line) (n : ℕ) (p : Parts) : Type 0 where
   ends : endsDefault (pending st) (p .values) ≡ false
   rows : Closed (p .rows)
 
-pending-none : (st : State) → st .run ≡ 0 → pending st ≡ false
+pending-none : (st : State) → st .run .0 ≡ 0 → pending st ≡ false
 pending-none st h = simp (eq-eqb _ _ h)
 
 pending-value : (b : Bool) (run line : ℕ) → cond (eqb (cond b (cond (eqb run 0) (line + 1) run) 0) 0) false true ≡ b
@@ -166,7 +166,7 @@ pending-value true run line = pick (eqb run 0) refl
     pick false e = rw e
 
 module _ (st : State) (is : List Line) (n : ℕ) (p : Parts) where
-  start-whole : (t : List ℕ) → st .run ≡ 0 → st .section ≤ 1 → Whole (next st 1 (st .field) (st .entries) 0) is n p → Whole st (start t ∷ is) n (with (start t) p)
+  start-whole : (t : List ℕ) → st .run .0 ≡ 0 → st .section ≤ 1 → Whole (next st 1 (st .field) (st .entries) 0) is n p → Whole st (start t ∷ is) n (with (start t) p)
   unfolding startLines
   start-whole t r s w = record {
     text = ap (λ (x : List Line). start t ∷ x) (w .text);
@@ -180,7 +180,7 @@ module _ (st : State) (is : List Line) (n : ℕ) (p : Parts) where
     rows = w .rows;
   }
 
-  global-whole : (m : ℕ) (v : Item) → st .run ≡ 0 → 1 ≤ st .section → st .section ≤ 2 → st .field < m → Whole (next st 2 m (st .entries) 0) is n p → Whole st (global m v ∷ is) n (with (global m v) p)
+  global-whole : (m : ℕ) (v : Item) → st .run .0 ≡ 0 → 1 ≤ st .section → st .section ≤ 2 → st .field < m → Whole (next st 2 m (st .entries) 0) is n p → Whole st (global m v ∷ is) n (with (global m v) p)
   unfolding startLines globalLines
   global-whole m v r s u g w =
       let ss : p .starts ≡ [] = w .starts (omega arith) in
@@ -196,7 +196,7 @@ module _ (st : State) (is : List Line) (n : ℕ) (p : Parts) where
         rows = w .rows;
       }
 
-  entry-whole : (known : Bool) (x : Signed) (e : Fields) (label : List ℕ) → st .run ≡ 0 → 1 ≤ st .section → st .section ≤ 3 → x ≡ sized false (2 * st .entries + 1)
+  entry-whole : (known : Bool) (x : Signed) (e : Fields) (label : List ℕ) → st .run .0 ≡ 0 → 1 ≤ st .section → st .section ≤ 3 → x ≡ sized false (2 * st .entries + 1)
       → Whole (next st 3 (st .field) (st .entries + 1) 0) is n p → Whole st (entry known x e label ∷ is) n (with (entry known x e label) p)
   unfolding startLines globalLines valueLines rowLines endsDefault
   entry-whole known x e label r s u d w =
@@ -214,7 +214,7 @@ module _ (st : State) (is : List Line) (n : ℕ) (p : Parts) where
         rows = a-row (w .ends) (w .rows);
       }
 
-  value-whole : (b : Bool) (v : Item) → st .section ≡ 3 → Whole (next st 3 (st .field) (st .entries) (cond (isDefault v) (cond (eqb (st .run) 0) (st .line + 1) (st .run)) 0)) is n p
+  value-whole : (b : Bool) (v : Item) → st .section ≡ 3 → Whole (next st 3 (st .field) (st .entries) (cond (isDefault v) (cond (eqb (st .run .0) 0) (st .line + 1) (st .run .0)) 0)) is n p
       → Whole st (value b v ∷ is) n (with (value b v) p)
   unfolding startLines globalLines valueLines endsDefault
   value-whole b v s w =
@@ -228,11 +228,11 @@ module _ (st : State) (is : List Line) (n : ℕ) (p : Parts) where
         values = λ h. absurd (omega arith);
         some = λ h. absurd (omega arith);
         rising = w .rising;
-        ends = rw (pending-value (isDefault v) (st .run) (st .line)) at (w .ends);
+        ends = rw (pending-value (isDefault v) (st .run .0) (st .line)) at (w .ends);
         rows = w .rows;
       }
 
-last-whole : (st : State) (n m : ℕ) → st .run ≡ 0 → 1 ≤ st .section → m ≡ st .entries → n ≡ st .entries → Whole st (last m ∷ []) n (parts [] [] [] [])
+last-whole : (st : State) (n m : ℕ) → st .run .0 ≡ 0 → 1 ≤ st .section → m ≡ st .entries → n ≡ st .entries → Whole st (last m ∷ []) n (parts [] [] [] [])
 unfolding startLines globalLines valueLines rowLines endsDefault
 last-whole st n m r s e d = record {
   text = rw e;

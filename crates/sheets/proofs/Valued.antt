@@ -6,7 +6,7 @@ use Prim.Native.Nat.{ℕ, suc, _+_, _-_, _≤_, _<_}
 use native.Mathlib.Omega.{arith}
 use native.Mathlib.Decide.{ℕ-discrete, decLe}
 use lib.ListN.{length, getD, take, drop, List·getD-eq-default}
-use lib.Dec.{ltb, leb, eqb}
+use lib.Dec.{eqb}
 use borrow.Author.Tests.{eqb-true, ne-eqb}
 use Rattle.columns.specs.Columns.{columns}
 use Rattle.columns.proofs.Columns.{byte-of, length-columns}
@@ -16,13 +16,12 @@ use Rattle.values.specs.declared.Strict.{Strict}
 use Rattle.values.specs.declared.Strict.the-variants.{Is, Not}
 use Rattle.values.specs.Strict.{strictOf}
 use Rattle.values.specs.Value.{isMissing}
-use Rattle.records.specs.Global.{firstField, lastField}
 use Rattle.sheets.specs.declared.EntryLine.{EntryLine}
 use Rattle.sheets.specs.declared.EntryLine.the-variants.{Got, Wrong}
 use Rattle.sheets.specs.declared.Said.the-variants.{Start, Global, Value as Given, Last, Nothing}
-use Rattle.sheets.specs.Plain.{most, plainOf}
+use Rattle.sheets.specs.Plain.{plainOf, isPlain}
 use Rattle.sheets.specs.Line.{run, entryOf}
-use Rattle.sheets.specs.Sheet.{isMark, isValue, isStart, startLine, globalOf, globalLine, entryLineOf, valueOf, lastLine, byMark, saysOf}
+use Rattle.sheets.specs.Sheet.{isMark, isValue, isStart, startLine, globalOf, isNumbered, globalLine, entryLineOf, valueOf, lastLine, byMark, saysOf}
 use Rattle.sheets.specs.Reading.{NoValue}
 use Rattle.sheets.proofs.Plains.{columns-drop}
 
@@ -81,9 +80,7 @@ no-global good n at Not = tt
 
 no-globals : (t : List ℕ) → NoValue (globalLine t)
 unfolding globalLine
-no-globals t =
-    let n : ℕ = plainOf (take (run 9 t) t) in
-    no-global (ltb (run 9 t) (length t) && (leb firstField n && leb n lastField)) n (2 + suc (run 9 t)) (strictOf (drop (suc (run 9 t)) t))
+no-globals t = no-global (isNumbered t) (plainOf (take (run 9 t) t)) (2 + suc (run 9 t)) (strictOf (drop (suc (run 9 t)) t))
 
 no-entry : (x : EntryLine) → NoValue (entryLineOf x)
 no-entry (Got known n x) = tt
@@ -95,12 +92,12 @@ no-mark b l t h = by (eqb b 82) (eqb b 86) h
   where
     by : (x y : Bool) → x || y ≡ false
         → NoValue (cond (eqb b 83) (cond (isStart t) Start (Nothing false))
-        (cond (eqb b 71) (globalLine t) (cond (eqb b 69 || eqb b 85) (entryLineOf (entryOf l)) (cond x (valueOf true (strictOf t)) (cond y (valueOf false (strictOf t)) (cond (eqb b 90) (cond (leb (plainOf t) most) (Last (plainOf t)) (Nothing false)) (Nothing false)))))))
+        (cond (eqb b 71) (globalLine t) (cond (eqb b 69 || eqb b 85) (entryLineOf (entryOf l)) (cond x (valueOf true (strictOf t)) (cond y (valueOf false (strictOf t)) (cond (eqb b 90) (cond (isPlain t) (Last (plainOf t)) (Nothing false)) (Nothing false)))))))
     by false false e =
         cond-cases NoValue (eqb b 83) _ _ (λ _. cond-cases NoValue (isStart t) Start (Nothing false) (λ _. tt) (λ _. tt))
         (λ _. cond-cases NoValue (eqb b 71) _ _ (λ _. no-globals t)
         (λ _. cond-cases NoValue (eqb b 69 || eqb b 85) _ _ (λ _. no-entry (entryOf l))
-        (λ _. cond-cases NoValue (eqb b 90) _ _ (λ _. cond-cases NoValue (leb (plainOf t) most) (Last (plainOf t)) (Nothing false) (λ _. tt) (λ _. tt)) (λ _. tt))))
+        (λ _. cond-cases NoValue (eqb b 90) _ _ (λ _. cond-cases NoValue (isPlain t) (Last (plainOf t)) (Nothing false) (λ _. tt) (λ _. tt)) (λ _. tt))))
     by true y e = let k : _≡_ {A = ℕ} 0 1 = cc in absurd (omega arith)
     by false true e = let k : _≡_ {A = ℕ} 0 1 = cc in absurd (omega arith)
 

@@ -34,11 +34,11 @@ module _ (st : State) where
   finish-good h = simp (eq-eqb _ _ h)
 
   module _ (h : st .section ≡ 4 → ⊥) where
-    pub finish-run : (st .run ≡ 0 → ⊥) → Wrong (sheetLine (st .run)) ≡ finish st
+    pub finish-run : (st .run .0 ≡ 0 → ⊥) → Wrong (st .run) ≡ finish st
     unfolding finish closed
     finish-run k = simp (ne-eqb _ _ h, ne-eqb _ _ k)
 
-    pub finish-soon : st .run ≡ 0 → Wrong (sheetLine (st .line + 1)) ≡ finish st
+    pub finish-soon : st .run .0 ≡ 0 → Wrong (sheetLine (st .line + 1)) ≡ finish st
     unfolding finish closed
     finish-soon k = simp (ne-eqb _ _ h, eq-eqb _ _ k)
 
@@ -73,11 +73,11 @@ pieces-whole (b ∷ bs) h = pick (ℕ-discrete b 10) (pieces-whole bs)
 pub none-off : (st : State) (b : Bool) → (w : SheetLine) × (noneStep st b ≡ Off w)
 unfolding noneStep closed
 none-off st true = (sheetLine (st .line + 1), refl)
-none-off st false = pick (eqb (st .run) 0)
+none-off st false = pick (eqb (st .run .0) 0)
   where
-    pick : (c : Bool) → (w : SheetLine) × (cond c (Off (sheetLine (st .line + 1))) (Off (sheetLine (st .run))) ≡ Off w)
+    pick : (c : Bool) → (w : SheetLine) × (cond c (Off (sheetLine (st .line + 1))) (Off (st .run)) ≡ Off w)
     pick true = (sheetLine (st .line + 1), refl)
-    pick false = (sheetLine (st .run), refl)
+    pick false = (st .run, refl)
 
 -- the step of a line by what was read of it
 pub step-said : (st : State) (x : Said) (l : List ℕ) → stepSaid st x ≡ stepLine st (lineFrom l x)

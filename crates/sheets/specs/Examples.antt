@@ -1,4 +1,4 @@
--- Worked sheets: in their texts > is a tab and | is LF.
+-- Worked examples: sheets, in whose texts > is a tab and | is LF.
 use mathlib.Core.Path.{_≡_, refl}
 use mathlib.Core.Bool.{true, false, cond}
 use mathlib.Core.List.{List, [], _∷_, map}
@@ -16,9 +16,9 @@ use Rattle.values.specs.Strict.{strictOf}
 use Rattle.directory.specs.Fields.{nought, fieldsOf}
 use Rattle.sheets.specs.declared.Verdict.{Verdict}
 use Rattle.sheets.specs.declared.Verdict.the-variants.{Good, Wrong}
-use Rattle.sheets.specs.Plain.{digitAfter, sizeFrom, sized, minusOf, signedPlain, statusFrom, statusPlain}
-use Rattle.sheets.specs.Line.{run, isLabel, numOf, numbersOf, entryOf, labelOf, spell, spells, entryLine}
-use Rattle.sheets.specs.Sheet.{row, Sheet, startLines, globalLines, valueLines, rowLines, linesOf, lineOf, textOf, sheetText, isMark, isStart, startLine, globalLine, lastLine, byMark, saysOf, saidBy, into, piecesOf, lastPiece, saidByAll, linesIn, partsOf, sheetOf}
+use Rattle.sheets.specs.Plain.{sized, isPlain, isSigned, signedNumber, allDigits, isStatus, statusNumber}
+use Rattle.sheets.specs.Line.{run, isLabel, isEntryNumber, entryNumber, numbersOf, entryOf, labelOf, spell, spells, entryLine}
+use Rattle.sheets.specs.Sheet.{row, Sheet, startLines, globalLines, valueLines, rowLines, linesOf, lineOf, textOf, sheetText, isMark, isStart, startLine, isFieldNumber, isNumbered, globalLine, lastLine, byMark, saysOf, saidBy, into, piecesOf, lastPiece, saidByAll, linesIn, partsOf, sheetOf}
 use Rattle.sheets.specs.Order.{sheetLine, closed, startStep, globalStep, entryStep, valueStep, lastStep, noneStep, finish, goLines, verdictOf, readSheet}
 
 abbrev byte : ℕ → ℕ
@@ -75,6 +75,9 @@ table =
     ∷ ("S>A|U>1>2147483647>0>0>0>0>0>0>0>00000000>0>0>0>        |Z>1|", Good 1)
     ∷ ("S>A|U>1>2147483648>0>0>0>0>0>0>0>00000000>0>0>0>        |Z>1|", wrong 2)
     ∷ ("S>A|U>1>116>0>0>0>0>0>0>0>0000000>0>0>0>        |Z>1|", wrong 2)
+    ∷ ("S>A|U>1>116>0>0>0>0>0>0>0>000000000>0>0>0>        |Z>1|", wrong 2)
+    ∷ ("S>A|U>1>116>0>0>0>0>0>0>0>0000000A>0>0>0>        |Z>1|", wrong 2)
+    ∷ ("S>A|U>1>>0>0>0>0>0>0>0>00000000>0>0>0>        |Z>1|", wrong 2)
     -- eight bytes of label, fifteen fields, directory numbers 1, 3, 5 on
     ∷ ("S>A|U>1>116>0>0>0>0>0>0>0>00000000>0>0>0>       |Z>1|", wrong 2)
     ∷ ("S>A|U>1>116>0>0>0>0>0>0>0>00000000>0>0>0>        >|Z>1|", wrong 2)
@@ -89,7 +92,7 @@ table =
     ∷ []
 
 pub examples : map (λ (e : String × Verdict). verdictOf (bytes (e .0))) table ≡ map (λ (e : String × Verdict). e .1) table
-unfolding printable sameBytes lastDigits dec power powerAt numberOf headOf spelled strictOf digitAfter sizeFrom minusOf signedPlain statusFrom statusPlain run isLabel numOf numbersOf entryOf labelOf isMark isStart startLine globalLine lastLine byMark saysOf saidBy into piecesOf lastPiece saidByAll linesIn closed startStep globalStep entryStep valueStep lastStep noneStep finish goLines verdictOf
+unfolding printable sameBytes lastDigits dec power powerAt numberOf headOf spelled strictOf isPlain isSigned signedNumber allDigits isStatus statusNumber run isLabel isEntryNumber entryNumber numbersOf entryOf labelOf isMark isStart startLine isFieldNumber isNumbered globalLine lastLine byMark saysOf saidBy into piecesOf lastPiece saidByAll linesIn closed startStep globalStep entryStep valueStep lastStep noneStep finish goLines verdictOf
 examples = refl
 
 -- the chair's sheet: one entry of type 116
@@ -108,5 +111,5 @@ unfolding chair lastDigits dec signedDec toRight spelled spell spells entryLine 
 chair-text = refl
 
 pub chair-read : readSheet (bytes chairText) ≡ accepted chair
-unfolding chair printable sameBytes lastDigits dec power powerAt numberOf headOf spelled strictOf digitAfter sizeFrom minusOf signedPlain statusFrom statusPlain run isLabel numOf numbersOf entryOf labelOf isMark isStart startLine globalLine lastLine byMark saysOf saidBy into piecesOf lastPiece saidByAll linesIn partsOf sheetOf closed startStep globalStep entryStep valueStep lastStep noneStep finish goLines verdictOf readSheet
+unfolding chair printable sameBytes lastDigits dec power powerAt numberOf headOf spelled strictOf isPlain isSigned signedNumber allDigits isStatus statusNumber run isLabel isEntryNumber entryNumber numbersOf entryOf labelOf isMark isStart startLine isFieldNumber isNumbered globalLine lastLine byMark saysOf saidBy into piecesOf lastPiece saidByAll linesIn partsOf sheetOf closed startStep globalStep entryStep valueStep lastStep noneStep finish goLines verdictOf readSheet
 chair-read = refl

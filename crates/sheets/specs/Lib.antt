@@ -1,5 +1,6 @@
 pub mod Plain
 pub mod Line
+pub mod Folds
 pub mod Sheet
 pub mod Order
 pub mod Reading

@@ -3,7 +3,7 @@ use mathlib.Core.Bool.{Bool, true, false, cond, _&&_}
 use mathlib.Core.List.{List, [], _∷_, _++_}
 use Prim.Native.Nat.{ℕ, zero, suc, _+_, _-_}
 use lib.ListN.{length, getD, take, drop}
-use lib.Dec.{ltb, leb, eqb}
+use lib.Dec.{ltb, eqb}
 use Rattle.columns.specs.declared.Signed.{Signed}
 use Rattle.columns.specs.Columns.{printable}
 use Rattle.columns.specs.Decimal.{signedDec, zeroFilled}
@@ -11,7 +11,7 @@ use Rattle.directory.specs.declared.Fields.{Fields}
 use Rattle.directory.specs.Fields.{fieldCount, statusAt, inOrder, fieldsOf, nought}
 use Rattle.sheets.specs.declared.EntryLine.{EntryLine}
 use Rattle.sheets.specs.declared.EntryLine.the-variants.{Got, Wrong}
-use Rattle.sheets.specs.Plain.{most, sized, signedPlain, statusPlain}
+use Rattle.sheets.specs.Plain.{sized, isSigned, signedNumber, isStatus, statusNumber}
 
 -- how many bytes come before the first c
 unfoldable pub run : ℕ → List ℕ → ℕ
@@ -30,9 +30,12 @@ numberCount = suc fieldCount
 abbrev pub behindStatus : ℕ
 behindStatus = fieldCount - 1 - statusAt
 
--- a number of an entry line that so many others follow
-unfoldable pub numOf : ℕ → List ℕ → Signed
-numOf left t = cond (eqb left behindStatus) (statusPlain t) (signedPlain t)
+-- a number of an entry line that so many others follow: the status has eight digits, the others are plain
+unfoldable pub isEntryNumber : ℕ → List ℕ → Bool
+isEntryNumber left t = cond (eqb left behindStatus) (isStatus t) (isSigned t)
+
+unfoldable pub entryNumber : ℕ → List ℕ → Signed
+entryNumber left t = cond (eqb left behindStatus) (statusNumber t) (signedNumber t)
 
 abbrev pub entryFrom : Bool → List Signed → EntryLine
 entryFrom known ns = Got known (getD ns 0 nought) (fieldsOf (drop 1 ns))
@@ -40,15 +43,16 @@ entryFrom known ns = Got known (getD ns 0 nought) (fieldsOf (drop 1 ns))
 -- so many numbers, a tab behind each, then the label; ns are the numbers read already
 unfoldable pub numbersOf : Bool → ℕ → List Signed → List ℕ → EntryLine
 numbersOf known zero ns t = elim (isLabel t) [ true ↦ entryFrom known ns | false ↦ Wrong ]
-numbersOf known (suc left) ns t = elim (ltb (run 9 t) (length t) && leb (numOf left (take (run 9 t) t) .size) most) [
-  | true ↦ numbersOf known left (ns ++ (numOf left (take (run 9 t) t) ∷ [])) (drop (suc (run 9 t)) t)
+numbersOf known (suc left) ns t = elim (ltb (run 9 t) (length t) && isEntryNumber left (take (run 9 t) t)) [
+  | true ↦ numbersOf known left (ns ++ (entryNumber left (take (run 9 t) t) ∷ [])) (drop (suc (run 9 t)) t)
   | false ↦ Wrong
 ]
 
 -- what is read of an entry line: E (69) or U (85), a tab, the numbers and the label
 unfoldable pub entryOf : List ℕ → EntryLine
 entryOf l = cond (eqb (getD l 1 0) 9)
-    (cond (eqb (getD l 0 0) 69) (numbersOf true numberCount [] (drop 2 l)) (cond (eqb (getD l 0 0) 85) (numbersOf false numberCount [] (drop 2 l)) Wrong))
+    (cond (eqb (getD l 0 0) 69) (numbersOf true numberCount [] (drop 2 l))
+    (cond (eqb (getD l 0 0) 85) (numbersOf false numberCount [] (drop 2 l)) Wrong))
     Wrong
 
 -- a line ends with its label

@@ -1,13 +1,14 @@
 -- The order of a sheet's lines, and the first wrong line.
 use mathlib.Core.Bool.{Bool, cond, not, _&&_}
 use mathlib.Core.List.{List, [], _∷_}
-use Prim.Native.Nat.{ℕ, _+_, _*_}
+use Prim.Native.Nat.{ℕ, _+_, _-_, _*_}
 use lib.Dec.{ltb, leb, eqb}
 use Rattle.columns.specs.declared.Fault.the-variants.{SheetLine as WrongSheet}
 use Rattle.columns.specs.declared.Signed.{Signed}
 use Rattle.columns.specs.declared.SheetLine.{SheetLine}
 use Rattle.columns.specs.Refusal.{Outcome, accepted, refused}
 use Rattle.values.specs.Value.{isDefault}
+use Rattle.records.specs.Global.{firstField}
 use Rattle.sheets.specs.declared.State.{State}
 use Rattle.sheets.specs.declared.Step.{Step}
 use Rattle.sheets.specs.declared.Step.the-variants.{On, Off}
@@ -18,13 +19,40 @@ use Rattle.sheets.specs.Sheet.{Line, start, global, entry, value, last, 
 abbrev pub sheetLine : ℕ → SheetLine
 sheetLine n = record { 0 = n }
 
--- section: 0 at the start, then 1 S, 2 G, 3 entries, 4 Z; field: the last G number; entries and line: how many so far;
--- run: the line of the first of the defaults that the values end with so far, or 0
+-- ---- the state: how far the lines have come
+
+-- its section: no line yet, or that of the last line; they come in this order: S, G, the entries with their values, Z
+abbrev pub beforeStarts : ℕ
+beforeStarts = 0
+
+abbrev pub inStarts : ℕ
+inStarts = 1
+
+abbrev pub inGlobals : ℕ
+inGlobals = 2
+
+abbrev pub inEntries : ℕ
+inEntries = 3
+
+abbrev pub atEnd : ℕ
+atEnd = 4
+
+-- its field is the last G number: below all of them where there was none yet
+abbrev pub noField : ℕ
+noField = firstField - 1
+
+-- its run is the line of the first of the defaults that the values end with so far: lines count from 1, so nought says that there are none
+abbrev pub noRun : ℕ
+noRun = 0
+
+-- and there are so many entries and lines so far
 abbrev pub begin : State
-begin = record { section = 0; field = 2; entries = 0; run = 0; line = 0 }
+begin = record { section = beforeStarts; field = noField; entries = 0; run = sheetLine noRun; line = 0 }
 
 abbrev pub next : State → ℕ → ℕ → ℕ → ℕ → State
-next st section field entries run = record { section = section; field = field; entries = entries; run = run; line = st .line + 1 }
+next st section field entries run = record { section = section; field = field; entries = entries; run = sheetLine run; line = st .line + 1 }
+
+-- ---- what a line does
 
 -- this line is the first wrong one
 abbrev pub off : State → Step
@@ -32,34 +60,37 @@ off st = Off (sheetLine (st .line + 1))
 
 -- a line that is no value line ends the values before it: they may not end with a default
 unfoldable pub closed : State → Step → Step
-closed st x = cond (eqb (st .run) 0) x (Off (sheetLine (st .run)))
+closed st x = cond (eqb (st .run .0) noRun) x (Off (st .run))
 
 unfoldable pub startStep : State → Step
-startStep st = closed st (cond (leb (st .section) 1) (On (next st 1 (st .field) (st .entries) 0)) (off st))
+startStep st = closed st (cond (leb (st .section) inStarts) (On (next st inStarts (st .field) (st .entries) noRun)) (off st))
 
 -- G numbers rise
 unfoldable pub globalStep : State → ℕ → Step
 globalStep st n =
     closed st
-    (cond (leb 1 (st .section) && (leb (st .section) 2 && ltb (st .field) n)) (On (next st 2 n (st .entries) 0)) (off st))
+    (cond (leb inStarts (st .section) && (leb (st .section) inGlobals && ltb (st .field) n))
+    (On (next st inGlobals n (st .entries) noRun)) (off st))
 
 -- directory numbers are 1, 3, 5 on
 unfoldable pub entryStep : State → Signed → Step
 entryStep st x =
     closed st
-    (cond (leb 1 (st .section) && (leb (st .section) 3 && (not (x .neg) && eqb (x .size) (2 * st .entries + 1))))
-    (On (next st 3 (st .field) (st .entries + 1) 0)) (off st))
+    (cond (leb inStarts (st .section) && (leb (st .section) inEntries && (not (x .neg) && eqb (x .size) (2 * st .entries + 1))))
+    (On (next st inEntries (st .field) (st .entries + 1) noRun)) (off st))
 
 unfoldable pub valueStep : State → Bool → Step
 valueStep st default =
-    cond (eqb (st .section) 3)
-    (On (next st 3 (st .field) (st .entries) (cond default (cond (eqb (st .run) 0) (st .line + 1) (st .run)) 0))) (off st)
+    cond (eqb (st .section) inEntries)
+    (On (next st inEntries (st .field) (st .entries) (cond default (cond (eqb (st .run .0) noRun) (st .line + 1) (st .run .0)) noRun)))
+    (off st)
 
 -- the entry count
 unfoldable pub lastStep : State → ℕ → Step
 lastStep st n =
     closed st
-    (cond (leb 1 (st .section) && (leb (st .section) 3 && eqb n (st .entries))) (On (next st 4 (st .field) (st .entries) 0)) (off st))
+    (cond (leb inStarts (st .section) && (leb (st .section) inEntries && eqb n (st .entries)))
+    (On (next st atEnd (st .field) (st .entries) noRun)) (off st))
 
 unfoldable pub noneStep : State → Bool → Step
 noneStep st b = cond b (off st) (closed st (off st))
@@ -78,7 +109,7 @@ verdict (Off n) = Wrong n
 
 -- the sheet has ended: after Z it is good, else the line after the last is wrong
 unfoldable pub finish : State → Verdict
-finish st = cond (eqb (st .section) 4) (Good (st .entries)) (verdict (closed st (off st)))
+finish st = cond (eqb (st .section) atEnd) (Good (st .entries)) (verdict (closed st (off st)))
 
 -- the entry count, or the first wrong line
 unfoldable pub goLines : State → List Line → Verdict

@@ -1,48 +1,48 @@
--- A plain decimal number of a sheet, read strictly: no sign but a minus, no zero in front, at most 2,147,483,647, minus nought misspelt.
+-- The numbers of a sheet, read strictly: plain decimals, with no plus, no zero in front and no minus nought; and the status.
 use mathlib.Core.Bool.{Bool, true, false, cond, _&&_}
 use mathlib.Core.List.{List, [], _∷_}
-use Prim.Native.Nat.{ℕ, _+_, _-_, _*_}
-use lib.ListN.{getD, drop}
+use Prim.Native.Nat.{ℕ}
+use lib.ListN.{length, getD, drop}
 use lib.Dec.{ltb, leb, eqb}
 use Rattle.columns.specs.declared.Signed.{Signed}
-use Rattle.values.specs.Number.{isDigit}
+use Rattle.columns.specs.Columns.{sameBytes}
+use Rattle.columns.specs.Decimal.{dec}
+use Rattle.values.specs.Number.{isDigit, value}
 
--- the largest number; past it one number says "misspelt" and one "nothing was read yet"
+-- the largest number
 abbrev pub most : ℕ
 most = 2147483647
-
-abbrev pub misspelt : ℕ
-misspelt = 2147483648
-
-abbrev pub unread : ℕ
-unread = 2147483649
-
--- a digit may come first; after that it may come if there is no 0 in front and the number stays within the limit. A misspelt number stays so
-unfoldable pub digitAfter : ℕ → ℕ → ℕ
-digitAfter n b =
-    cond (isDigit b) (cond (eqb n unread) (b - 48) (cond (ltb 0 n && leb (n * 10 + (b - 48)) most) (n * 10 + (b - 48)) misspelt)) misspelt
-
-unfoldable pub sizeFrom : ℕ → List ℕ → ℕ
-sizeFrom n [] = n
-sizeFrom n (b ∷ bs) = sizeFrom (digitAfter n b) bs
-
--- a number without a sign; past the limit where it is misspelt
-abbrev pub plainOf : List ℕ → ℕ
-plainOf t = sizeFrom unread t
 
 abbrev pub sized : Bool → ℕ → Signed
 sized neg size = record { neg = neg; size = size }
 
--- minus nought is misspelt
-unfoldable pub minusOf : ℕ → Signed
-minusOf n = sized true (cond (eqb n 0) misspelt n)
+-- the number that digits spell
+abbrev pub plainOf : List ℕ → ℕ
+plainOf t = value 0 t
 
-unfoldable pub signedPlain : List ℕ → Signed
-signedPlain t = cond (eqb (getD t 0 0) 45) (minusOf (plainOf (drop 1 t))) (sized false (plainOf t))
+-- a plain number: the decimal spelling of a number up to the largest
+unfoldable pub isPlain : List ℕ → Bool
+isPlain t = sameBytes t (dec (plainOf t)) && leb (plainOf t) most
 
--- eight digits: with a 1 in front of them they are the number 100,000,000 and the status
-unfoldable pub statusFrom : ℕ → Signed
-statusFrom n = sized false (cond (ltb n 100000000) misspelt (cond (ltb n 200000000) (n - 100000000) misspelt))
+-- a minus (45) stands in front
+abbrev pub isMinus : List ℕ → Bool
+isMinus t = eqb (getD t 0 0) 45
 
-unfoldable pub statusPlain : List ℕ → Signed
-statusPlain t = statusFrom (sizeFrom 1 t)
+-- a plain number with a minus in front or without; nought has none
+unfoldable pub isSigned : List ℕ → Bool
+isSigned t = cond (isMinus t) (isPlain (drop 1 t) && ltb 0 (plainOf (drop 1 t))) (isPlain t)
+
+unfoldable pub signedNumber : List ℕ → Signed
+signedNumber t = cond (isMinus t) (sized true (plainOf (drop 1 t))) (sized false (plainOf t))
+
+-- digits alone
+unfoldable pub allDigits : List ℕ → Bool
+allDigits [] = true
+allDigits (b ∷ bs) = isDigit b && allDigits bs
+
+-- a status: eight digits
+unfoldable pub isStatus : List ℕ → Bool
+isStatus t = eqb (length t) 8 && allDigits t
+
+unfoldable pub statusNumber : List ℕ → Signed
+statusNumber t = sized false (plainOf t)

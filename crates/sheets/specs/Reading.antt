@@ -1,4 +1,4 @@
--- How the code goes about it: a line's step is told by what was read of it, and a piece with no LF by its first byte.
+-- The code's form: a line's step is told by what was read of it, and a piece with no LF by its first byte.
 use mathlib.Core.Bool.{Bool}
 use Prim.Native.Nat.{ℕ, _-_, _≤_}
 use Rattle.values.specs.Writing.{Inside}

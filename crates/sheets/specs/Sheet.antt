@@ -17,7 +17,7 @@ use Rattle.sheets.specs.declared.EntryLine.{EntryLine}
 use Rattle.sheets.specs.declared.EntryLine.the-variants.{Got, Wrong}
 use Rattle.sheets.specs.declared.Said.{Said}
 use Rattle.sheets.specs.declared.Said.the-variants.{Start, Global, Entry, Value as Given, Last, Nothing}
-use Rattle.sheets.specs.Plain.{most, plainOf, sized}
+use Rattle.sheets.specs.Plain.{plainOf, isPlain, sized}
 use Rattle.sheets.specs.Line.{run, entryOf, labelOf, entryLine}
 
 -- ---- what a sheet carries
@@ -117,11 +117,17 @@ abbrev pub globalOf : Bool → ℕ → ℕ → Strict → Said
 globalOf good n at Not = Nothing false
 globalOf good n at (Is v) = cond (good && not (isMissing v)) (Global n at v) (Nothing false)
 
--- a number from 3 to 24, a tab, a value
+-- a plain number from 3 to 24
+unfoldable pub isFieldNumber : List ℕ → Bool
+isFieldNumber t = isPlain t && (leb firstField (plainOf t) && leb (plainOf t) lastField)
+
+-- with a tab behind it
+unfoldable pub isNumbered : List ℕ → Bool
+isNumbered t = ltb (run 9 t) (length t) && isFieldNumber (take (run 9 t) t)
+
+-- G, tab, a field's number, tab, its value
 unfoldable pub globalLine : List ℕ → Said
-globalLine t =
-    let n = plainOf (take (run 9 t) t) in
-    globalOf (ltb (run 9 t) (length t) && (leb firstField n && leb n lastField)) n (2 + suc (run 9 t)) (strictOf (drop (suc (run 9 t)) t))
+globalLine t = globalOf (isNumbered t) (plainOf (take (run 9 t) t)) (2 + suc (run 9 t)) (strictOf (drop (suc (run 9 t)) t))
 
 -- E or U, tab, the numbers and the label
 abbrev pub entryLineOf : EntryLine → Said
@@ -135,7 +141,7 @@ valueOf reference Not = Nothing true
 
 -- Z, tab, the entry count
 unfoldable pub lastLine : List ℕ → Said
-lastLine t = cond (leb (plainOf t) most) (Last (plainOf t)) (Nothing false)
+lastLine t = cond (isPlain t) (Last (plainOf t)) (Nothing false)
 
 -- by the line's first byte, S G E U R V Z; the second is a tab, and t is what follows
 unfoldable pub byMark : ℕ → List ℕ → List ℕ → Said

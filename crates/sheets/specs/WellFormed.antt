@@ -12,6 +12,7 @@ use Rattle.directory.specs.Fields.{inOrder}
 use Rattle.sheets.specs.Plain.{most}
 use Rattle.sheets.specs.Line.{isLabel}
 use Rattle.sheets.specs.Sheet.{isStart, Row, Sheet}
+use Rattle.sheets.specs.Order.{noField}
 
 -- ---- their order
 
@@ -33,7 +34,7 @@ pub data Closed : List Row → Type 0 where
 -- at least one S line
 pub record Ordered (s : Sheet) : Type 0 where
   pub some : 0 < length (s .starts)
-  pub rising : Rising 2 (s .globals)
+  pub rising : Rising noField (s .globals)
   pub closed : Closed (s .rows)
 
 -- ---- their spelling

@@ -1,4 +1,4 @@
--- How the code goes about a line with a value: first what stands before a string's characters; and how long an entry line is.
+-- The code's form: of a line with a value first what stands before a string's characters; and how long an entry line is.
 use mathlib.Core.Bool.{Bool, false, cond}
 use mathlib.Core.List.{List, _∷_, _++_}
 use Prim.Native.Nat.{ℕ, _+_}

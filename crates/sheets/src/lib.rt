@@ -35,13 +35,30 @@ pub enum Said {
     Nothing(bool),
 }
 
-// Where in the order of lines one stands: the section reached (0 none, 1 S, 2 G, 3 entries, 4 Z), the last G number, how many entries and
-// lines there were, and the line of the first of the defaults that the values end with so far, or 0.
+// The sections of a sheet in their order: no line yet, S, G, entries with their values, Z.
+pub const BEFORE_STARTS: u8 = 0;
+
+pub const IN_STARTS: u8 = 1;
+
+pub const IN_GLOBALS: u8 = 2;
+
+pub const IN_ENTRIES: u8 = 3;
+
+pub const AT_END: u8 = 4;
+
+// No G line yet: below the number of any.
+pub const NO_FIELD: u32 = 2;
+
+// The values end with no default so far: no line, for lines count from 1.
+pub const NO_RUN: usize = 0;
+
+// Where in the order of lines one stands: the section reached, the last G number, how many entries and lines there were, and the line of
+// the first of the defaults that the values end with so far.
 pub struct State {
     pub section: u8,
     pub field: u32,
     pub entries: usize,
-    pub run: usize,
+    pub run: SheetLine,
     pub line: usize,
 }
 

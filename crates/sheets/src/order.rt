@@ -1,4 +1,9 @@
 // The order of a sheet's lines: what each line does to the state, and the verdict at the end.
+use crate::AT_END;
+use crate::IN_ENTRIES;
+use crate::IN_GLOBALS;
+use crate::IN_STARTS;
+use crate::NO_RUN;
 use crate::Said;
 use crate::State;
 use crate::Step;
@@ -16,17 +21,18 @@ fn start_step(st: State) -> Step
     requires { ⌜ st .line < 2 ^ 63 ⌝ }
     ensures { λ r. ⌜ r ≡ startStep st ⌝ }
 {
-    if st.run != 0 {
-        return Step::Off(SheetLine(st.run));
+    let run = st.run;
+    if run.0 != NO_RUN {
+        return Step::Off(run);
     }
-    if 1 < st.section {
+    if IN_STARTS < st.section {
         return Step::Off(SheetLine(st.line + 1));
     }
     Step::On(State {
-        section: 1,
+        section: IN_STARTS,
         field: st.field,
         entries: st.entries,
-        run: 0,
+        run: SheetLine(NO_RUN),
         line: st.line + 1,
     })
 }
@@ -36,23 +42,24 @@ fn global_step(st: State, n: u32) -> Step
     requires { ⌜ st .line < 2 ^ 63 ⌝ }
     ensures { λ r. ⌜ r ≡ globalStep st n ⌝ }
 {
-    if st.run != 0 {
-        return Step::Off(SheetLine(st.run));
+    let run = st.run;
+    if run.0 != NO_RUN {
+        return Step::Off(run);
     }
-    if st.section < 1 {
+    if st.section < IN_STARTS {
         return Step::Off(SheetLine(st.line + 1));
     }
-    if 2 < st.section {
+    if IN_GLOBALS < st.section {
         return Step::Off(SheetLine(st.line + 1));
     }
     if n <= st.field {
         return Step::Off(SheetLine(st.line + 1));
     }
     Step::On(State {
-        section: 2,
+        section: IN_GLOBALS,
         field: n,
         entries: st.entries,
-        run: 0,
+        run: SheetLine(NO_RUN),
         line: st.line + 1,
     })
 }
@@ -62,13 +69,14 @@ fn entry_step(st: State, x: Signed) -> Step
     requires { ⌜ (st .line < 2 ^ 63) × (st .entries ≤ st .line) ⌝ }
     ensures { λ r. ⌜ r ≡ entryStep st x ⌝ }
 {
-    if st.run != 0 {
-        return Step::Off(SheetLine(st.run));
+    let run = st.run;
+    if run.0 != NO_RUN {
+        return Step::Off(run);
     }
-    if st.section < 1 {
+    if st.section < IN_STARTS {
         return Step::Off(SheetLine(st.line + 1));
     }
-    if 3 < st.section {
+    if IN_ENTRIES < st.section {
         return Step::Off(SheetLine(st.line + 1));
     }
     if x.neg {
@@ -78,10 +86,10 @@ fn entry_step(st: State, x: Signed) -> Step
         return Step::Off(SheetLine(st.line + 1));
     }
     Step::On(State {
-        section: 3,
+        section: IN_ENTRIES,
         field: st.field,
         entries: st.entries + 1,
-        run: 0,
+        run: SheetLine(NO_RUN),
         line: st.line + 1,
     })
 }
@@ -91,33 +99,34 @@ pub fn value_step(st: State, default: bool) -> Step
     requires { ⌜ st .line < 2 ^ 63 ⌝ }
     ensures { λ r. ⌜ r ≡ valueStep st default ⌝ }
 {
+    let run = st.run;
     let line = st.line + 1;
-    if st.section != 3 {
+    if st.section != IN_ENTRIES {
         return Step::Off(SheetLine(line));
     }
     if default {
-        if st.run == 0 {
+        if run.0 == NO_RUN {
             return Step::On(State {
-                section: 3,
+                section: IN_ENTRIES,
                 field: st.field,
                 entries: st.entries,
-                run: line,
+                run: SheetLine(line),
                 line,
             });
         }
         return Step::On(State {
-            section: 3,
+            section: IN_ENTRIES,
             field: st.field,
             entries: st.entries,
-            run: st.run,
+            run,
             line,
         });
     }
     Step::On(State {
-        section: 3,
+        section: IN_ENTRIES,
         field: st.field,
         entries: st.entries,
-        run: 0,
+        run: SheetLine(NO_RUN),
         line,
     })
 }
@@ -127,23 +136,24 @@ fn last_step(st: State, n: usize) -> Step
     requires { ⌜ st .line < 2 ^ 63 ⌝ }
     ensures { λ r. ⌜ r ≡ lastStep st n ⌝ }
 {
-    if st.run != 0 {
-        return Step::Off(SheetLine(st.run));
+    let run = st.run;
+    if run.0 != NO_RUN {
+        return Step::Off(run);
     }
-    if st.section < 1 {
+    if st.section < IN_STARTS {
         return Step::Off(SheetLine(st.line + 1));
     }
-    if 3 < st.section {
+    if IN_ENTRIES < st.section {
         return Step::Off(SheetLine(st.line + 1));
     }
     if n != st.entries {
         return Step::Off(SheetLine(st.line + 1));
     }
     Step::On(State {
-        section: 4,
+        section: AT_END,
         field: st.field,
         entries: st.entries,
-        run: 0,
+        run: SheetLine(NO_RUN),
         line: st.line + 1,
     })
 }
@@ -156,8 +166,9 @@ fn none_step(st: State, b: bool) -> Step
     if b {
         return Step::Off(SheetLine(line));
     }
-    if st.run != 0 {
-        return Step::Off(SheetLine(st.run));
+    let run = st.run;
+    if run.0 != NO_RUN {
+        return Step::Off(run);
     }
     Step::Off(SheetLine(line))
 }
@@ -193,11 +204,12 @@ pub fn finish_of(st: State) -> Verdict
     requires { ⌜ st .line < 2 ^ 63 ⌝ }
     ensures { λ r. ⌜ r ≡ finish st ⌝ }
 {
-    if st.section == 4 {
+    if st.section == AT_END {
         return Verdict::Good(st.entries);
     }
-    if st.run != 0 {
-        return Verdict::Wrong(SheetLine(st.run));
+    let run = st.run;
+    if run.0 != NO_RUN {
+        return Verdict::Wrong(run);
     }
     Verdict::Wrong(SheetLine(st.line + 1))
 }

@@ -10,4 +10,5 @@ minus-of-spec =
     (tie.spec
     (λ c. search (needs, numbers))
     (λ c. search (needs, numbers))
+    (λ c. search (needs, numbers))
     (λ c. search (needs, numbers)))

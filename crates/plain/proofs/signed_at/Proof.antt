@@ -11,6 +11,7 @@ signed-at-spec =
     (λ c. search (needs, numbers))
     (λ c. search (needs, numbers))
     (λ c. search (needs, numbers))
+    (λ c. search (needs, numbers))
     (λ c κs. search (needs, numbers))
     (λ c κs. search (needs, numbers))
     (λ c. search (needs, numbers))

@@ -2,14 +2,14 @@
 use mathlib.Core.Path.{_≡_}
 use Prim.Native.Nat.{_-_, _≤_}
 use Rattle.columns.specs.Columns.{columns}
-use Rattle.sheets.specs.Plain.{sizeFrom}
+use Rattle.sheets.specs.Folds.{unread, sizeFrom}
 use borrow.Author.Needs.{needs}
 use Rattle.sheets.proofs.Plains.{numbers}
 use Rattle.plain.proofs.size_at.Statement.{statement}
 use Rattle.plain.proofs.size_at.Tie as tie
 
 abbrev Inv-loop : tie.InvT-loop
-Inv-loop s n at end v₀ i₀ v i = (v ≤ 2147483649) × (at ≤ i) × (i ≤ end) × (sizeFrom v (columns s i end) ≡ sizeFrom n (columns s at end))
+Inv-loop s n at end v₀ i₀ v i = (v ≤ unread) × (at ≤ i) × (i ≤ end) × (sizeFrom v (columns s i end) ≡ sizeFrom n (columns s at end))
 
 abbrev μ-loop : tie.MeasureT-loop
 μ-loop s n at end v₀ i₀ v i = end - i

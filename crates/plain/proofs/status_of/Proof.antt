@@ -11,4 +11,6 @@ status-of-spec =
     (λ c. search (needs, numbers))
     (λ c. search (needs, numbers))
     (λ c. search (needs, numbers))
+    (λ c. search (needs, numbers))
+    (λ c. search (needs, numbers))
     (λ c. search (needs, numbers)))

@@ -35,6 +35,7 @@ numbers-spec =
     (λ c. search (needs, rows))
     (λ c. search (needs, rows))
     (λ c. search (needs, rows))
+    (λ c. search (needs, rows))
     (λ c κs. search (needs, rows))
     (λ c κs. search (needs, rows))
     (λ c. search (needs, rows))
