@@ -59,7 +59,10 @@ entry-wrote x from count name n p1 p2 p3 p4 =
     let q2 = line-wrote (secondLine x count name) 68 (n + 1) p3 p4 in
     rw (entry-lines x from count name, append-nil (lineOf (secondLine x count name) 68 (n + 1))) (then q1 q2)
 
-pub ruleset entering = (entry-wrote, wrote-length)
+pub entry-next : (at a b c r : ℕ) → a ≤ at + 252 → b ≡ a + 9 → c ≤ b + 252 → r ≡ c + 9 → r ≤ at + 522
+entry-next at a b c r h e i f = omega arith
+
+pub ruleset entering = (entry-wrote, entry-next, wrote-length)
 
 -- ---- T
 

@@ -7,7 +7,7 @@ use native.Mathlib.Omega.{arith}
 use native.Mathlib.Decide.{ℕ-discrete}
 use lib.ListN.{length, getD, take, drop, length-take, length-drop}
 use lib.Seq.{drop-drop}
-use lib.Dec.{ltb, leb, eqb}
+use lib.Dec.{eqb}
 use Rattle.columns.specs.Columns.{columns}
 use Rattle.columns.proofs.Tests.{cond-cases}
 use Rattle.columns.proofs.Columns.{length-columns}
@@ -24,9 +24,9 @@ use Rattle.sheets.specs.declared.EntryLine.{EntryLine}
 use Rattle.sheets.specs.declared.EntryLine.the-variants.{Got, Wrong}
 use Rattle.sheets.specs.declared.Said.{Said}
 use Rattle.sheets.specs.declared.Said.the-variants.{Start, Global, Entry, Value as Given, Last, Nothing}
-use Rattle.sheets.specs.Plain.{plainOf, most}
+use Rattle.sheets.specs.Plain.{plainOf, isPlain}
 use Rattle.sheets.specs.Line.{run, entryOf}
-use Rattle.sheets.specs.Sheet.{isMark, isStart, startLine, globalOf, globalLine, entryLineOf, valueOf, lastLine, byMark, saysOf, into, piecesOf, lastPiece, saidByAll, linesIn}
+use Rattle.sheets.specs.Sheet.{isMark, isStart, startLine, globalOf, isNumbered, globalLine, entryLineOf, valueOf, lastLine, byMark, saysOf, into, piecesOf, lastPiece, saidByAll, linesIn}
 use Rattle.sheets.specs.Reading.{Within}
 use Rattle.sheets.proofs.Plains.{run-here, run-on, columns-drop}
 use Rattle.sheets.proofs.Says.{pieces-on, pieces-none}
@@ -60,12 +60,9 @@ module _ (l : List ℕ) where
       n : ℕ
       n = plainOf (take (run 9 t) t)
 
-      good : Bool
-      good = ltb (run 9 t) (length t) && (leb 3 n && leb n 24)
-
-      pick : (x : Strict) → strictOf (drop (suc (run 9 t)) t) ≡ x → Strictly l (globalOf good n (2 + suc (run 9 t)) x)
+      pick : (x : Strict) → strictOf (drop (suc (run 9 t)) t) ≡ x → Strictly l (globalOf (isNumbered t) n (2 + suc (run 9 t)) x)
       pick (Is v) e =
-          cond-cases (Strictly l) (good && not (isMissing v)) (Global n (2 + suc (run 9 t)) v) (Nothing false)
+          cond-cases (Strictly l) (isNumbered t && not (isMissing v)) (Global n (2 + suc (run 9 t)) v) (Nothing false)
           (λ _. ap strictOf (sym (drop-drop (suc (run 9 t)) 2 l)) ∙ e) (λ _. tt)
       pick Not e = tt
 
@@ -82,7 +79,7 @@ module _ (l : List ℕ) where
       (λ _. cond-cases W (eqb b 82) (valueOf true (strictOf (drop 2 l))) _ (λ _. value-strictly true)
       (λ _. cond-cases W (eqb b 86) (valueOf false (strictOf (drop 2 l))) _ (λ _. value-strictly false)
       (λ _. cond-cases W (eqb b 90) (lastLine (drop 2 l)) (Nothing false)
-      (λ _. cond-cases W (leb (plainOf (drop 2 l)) most) (Last (plainOf (drop 2 l))) (Nothing false) (λ _. tt) (λ _. tt)) (λ _. tt))))))
+      (λ _. cond-cases W (isPlain (drop 2 l)) (Last (plainOf (drop 2 l))) (Nothing false) (λ _. tt) (λ _. tt)) (λ _. tt))))))
     where
       W : Said → Type 0
       W = Strictly l

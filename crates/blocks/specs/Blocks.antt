@@ -1,4 +1,5 @@
--- What a sheet's lines give to the canonical file: an entity's values and its P lines, the Global fields, and the lines behind each.
+-- The code's form: what a sheet's lines give to the canonical file: an entity's values and its P lines, the Global fields, and the lines
+-- behind each.
 use mathlib.Core.Path.{_≡_}
 use mathlib.Core.Bool.{Bool, true, false}
 use mathlib.Core.List.{List, [], _∷_, _++_, map}

@@ -1,4 +1,4 @@
--- How the code goes about it: values with their delimiters before the record ends, the ends of lines, and what the line at a place says.
+-- The code's form: values with their delimiters before the record ends, the ends of lines, and what the line at a place says.
 use mathlib.Core.Path.{_≡_}
 use mathlib.Core.Bool.{false}
 use mathlib.Core.List.{List, [], _∷_, _++_}

@@ -5,6 +5,8 @@ use crate::PARAMETER;
 use crate::START;
 use crate::TERMINATE;
 use cards::Counts;
+use columns::DirectoryNumber;
+use columns::ParameterLine;
 use columns::wide;
 use directory::Fields;
 ghost use mathlib.Core.Path.{_≡_};
@@ -56,20 +58,22 @@ pub fn put_start_line(out: &mut [u8], at: usize, text: &[u8], n: usize) -> usize
     put_tail(out, a, START, n)
 }
 
-// D lines n and n + 1: the entry with these numbers, its first P line, how many it has, and its label.
+// The D lines of the entry with this directory number, which is also the number of the first of them: its fields, its first P line, how
+// many it has, and its label.
 pub fn put_entry_lines(
     out: &mut [u8],
     at: usize,
     x: Fields,
-    from: u32,
+    from: ParameterLine,
     count: u32,
     label: &[u8],
-    n: usize,
+    number: DirectoryNumber,
 ) -> usize
-    requires { ⌜ (at < 2 ^ 58) × (length (now label) ≤ 8) × (n + 1 ≤ 9999999) ⌝ }
-    ensures { λ r. ⌜ Wrote (now (out .entry)) at (joined (section 68 n (entryLines x from count (now (label .entry))))) (now (out .exit)) r ⌝ }
+    requires { ⌜ (at < 2 ^ 58) × (length (now label) ≤ 8) × (number .0 + 1 ≤ 9999999) ⌝ }
+    ensures { λ r. ⌜ Wrote (now (out .entry)) at (joined (section 68 (number .0) (entryLines x (from .0) count (now (label .entry))))) (now (out .exit)) r ⌝ }
     ensures { λ r. ⌜ r ≤ at + 522 ⌝ }
 {
+    let n = number.0 as usize;
     let a = dsection::put_first(out, at, x, from);
     let b = put_tail(out, a, DIRECTORY, n);
     let c = dsection::put_second(out, b, x, count, label);

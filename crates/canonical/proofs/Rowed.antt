@@ -71,9 +71,9 @@ module _ (t : List ℕ) (x : Place) (k e : ℕ) (f : Fields) (u : Turn t x k) (s
   count-is = block-count (numberOf k) t e f
 
   lines-are : length (parameterLines (numberOf k) (entriesAt t (x .at))) ≡ blockCount t e (f .entity .size) + length (parameterLines (numberOf (k + 1)) later)
-  lines-are = ap (λ (es : List Carried). length (parameterLines (numberOf k) es)) (s .entries) ∙ parameter-lines k (x .from) here later ∙ ap (λ (i : ℕ). i + length (parameterLines (numberOf (k + 1)) later)) count-is
+  lines-are = ap (λ (es : List Carried). length (parameterLines (numberOf k) es)) (s .entries) ∙ parameter-lines k (x .from .0) here later ∙ ap (λ (i : ℕ). i + length (parameterLines (numberOf (k + 1)) later)) count-is
 
-  row-few : x .from + blockCount t e (f .entity .size) ≤ 9999999
+  row-few : x .from .0 + blockCount t e (f .entity .size) ≤ 9999999
   row-few = omega (arith, u .few, lines-are)
 
   pub row-fits : EntryFits t x k e (f .entity .size)
@@ -84,7 +84,7 @@ module _ (t : List ℕ) (x : Place) (k e : ℕ) (f : Fields) (u : Turn t x k) (s
     d = omega (arith, u .apart, u .room);
     p = omega (arith, u .room);
     few = row-few;
-    room = block-room (x .from) (recordText (f .entity .size) (valuesBehind t e)) row-few;
+    room = block-room (x .from .0) (recordText (f .entity .size) (valuesBehind t e)) row-few;
     unbroken = ap firstBegins (s .behind) ∙ rows-begin (k + 1) (s .rest);
     number = omega (arith, u .numbers, ap length (s .entries));
   }
@@ -93,8 +93,8 @@ module _ (t : List ℕ) (x : Place) (k e : ℕ) (f : Fields) (u : Turn t x k) (s
     same : entriesAt t (y .at) ≡ later
     same = ap entriesIn (w .lines)
 
-    owed : Owing (bothLaid o t x k) o′ (y .d) (directoryBytes (k + 1) (x .from + blockCount t e (f .entity .size)) later) (x .p + 81 * blockCount t e (f .entity .size)) (parameterBytes (k + 1) (x .from + blockCount t e (f .entity .size)) later)
-    owed = rw (s .entries, ← count-is) (laid-first o o′ k (x .from) (x .d) (x .p) (y .d) here later (rw (s .entries) at (u .apart)) (omega (arith, row-fits .number)) (rw count-is (row-fits .few)) (rw (count-is, block-same (numberOf k) f (labelBefore t e) (valuesBehind t e)) (w .wrote)))
+    owed : Owing (bothLaid o t x k) o′ (y .d) (directoryBytes (k + 1) (x .from .0 + blockCount t e (f .entity .size)) later) (x .p + 81 * blockCount t e (f .entity .size)) (parameterBytes (k + 1) (x .from .0 + blockCount t e (f .entity .size)) later)
+    owed = rw (s .entries, ← count-is) (laid-first o o′ k (x .from .0) (x .d) (x .p) (y .d) here later (rw (s .entries) at (u .apart)) (omega (arith, row-fits .number)) (rw count-is (row-fits .few)) (rw (count-is, block-same (numberOf k) f (labelBefore t e) (valuesBehind t e)) (w .wrote)))
 
     owed-there : OwingAt (bothLaid o t x k) o′ t y (k + 1)
     owed-there = rw (same, w .from, w .p) owed
@@ -117,21 +117,29 @@ module _ (t : List ℕ) (x : Place) (k e : ℕ) (f : Fields) (u : Turn t x k) (s
 -- ---- what the functions are asked
 
 abbrev place : ℕ → ℕ → ℕ → ℕ → Place
-place at d p from = record { at = at; d = d; p = p; from = from }
+place at d p from = record { at = at; d = d; p = p; from = record { 0 = from } }
 
-pub entry-laid : {o o1 o2 : List ℕ} {next lines d : ℕ} (t : List ℕ) (x : Place) (k end : ℕ) (f : Fields)
-    → o1 ≡ laid o (x .p) (joined (section 80 (x .from) (blockLines (numberOf k) (f .entity .size) (valuesBehind t end))))
+pub entry-laid : {o o1 o2 : List ℕ} {next lines d number : ℕ} (t : List ℕ) (x : Place) (k end : ℕ) (f : Fields) → number ≡ numberOf k
+    → o1 ≡ laid o (x .p) (joined (section 80 (x .from .0) (blockLines number (f .entity .size) (valuesBehind t end))))
     → lines ≡ blockCount t end (f .entity .size)
     → linesIn (drop next t) ≡ behindValues (linesIn (drop (end + 1) t))
     → next ≤ length t
-    → Wrote o1 (x .d) (joined (section 68 (numberOf k) (entryLines f (x .from) lines (labelBefore t end)))) o2 d
-    → EntryLaid o t x k end f o2 (place next d (x .p + 81 * lines) (x .from + lines))
-entry-laid t x k end f b c l i w = record { wrote = rw (← c, ← b) w; p = rw c; from = rw c; lines = l; inside = i }
+    → Wrote o1 (x .d) (joined (section 68 number (entryLines f (x .from .0) lines (labelBefore t end)))) o2 d
+    → EntryLaid o t x k end f o2 (place next d (x .p + 81 * lines) (x .from .0 + lines))
+entry-laid t x k end f n b c l i w = record { wrote = rw (← n, ← c, ← b) w; p = rw c; from = rw c; lines = l; inside = i }
 
-pub count-few : {lines : ℕ} (t : List ℕ) (x : Place) (k end typ : ℕ) → EntryFits t x k end typ → lines ≡ blockCount t end typ → x .from + lines ≤ 9999999
+pub count-few : {lines : ℕ} (t : List ℕ) (x : Place) (k end typ : ℕ) → EntryFits t x k end typ → lines ≡ blockCount t end typ → x .from .0 + lines ≤ 9999999
 count-few t x k end typ f e = omega (arith, f .few)
 
-pub ruleset entering = (entry-laid, count-few, wrote-length, length-laid)
+-- its directory number has room in its columns, and so has the one behind it
+module _ {number : ℕ} (t : List ℕ) (x : Place) (k end typ : ℕ) (f : EntryFits t x k end typ) (e : number ≡ numberOf k) where
+  pub number-few : number ≤ 9999999
+  number-few = omega (arith, f .number)
+
+  pub number-next : number + 1 ≤ 9999999
+  number-next = omega (arith, f .number)
+
+pub ruleset entering = (entry-laid, count-few, number-few, number-next, wrote-length, length-laid)
 
 module _ (t : List ℕ) (x : Place) (k e : ℕ) (u : Turn t x k) (some : 0 < length (entriesAt t (x .at))) (en : e ≡ x .at + run 10 (drop (x .at) t)) (lo : x .at ≤ e) (hi : e ≤ length t) {y : EntryLine} (p : y ≡ entryOf (columns t (x .at) e)) where
   module _ {known : Bool} {n : Signed} {f : Fields} (g : y ≡ Got known n f) where
@@ -164,7 +172,7 @@ module _ (t : List ℕ) (x : Place) (k n : ℕ) (c : k + length (entriesAt t (x 
   pub rows-all : {o o′ : List ℕ} → OwingAt o o′ t x k → n ≤ k → o′ ≡ o
   rows-all {o} {o′} w h =
       let e : entriesAt t (x .at) ≡ [] = empty (entriesAt t (x .at)) (omega arith) in
-      owing-none (rw (e, directory-none k (x .from), parameter-none k (x .from)) at w)
+      owing-none (rw (e, directory-none k (x .from .0), parameter-none k (x .from .0)) at w)
     where
       empty : (es : List Carried) → length es ≡ 0 → es ≡ []
       empty [] q = refl

@@ -6,7 +6,7 @@ use Prim.Native.Nat.{ℕ, suc, _+_, _-_, _^_, _≤_, _<_}
 use native.Mathlib.Omega.{arith}
 use lib.ListN.{length, getD, take, drop, length-take, length-drop}
 use lib.Seq.{drop-drop}
-use lib.Dec.{ltb, leb, eqb}
+use lib.Dec.{leb, eqb}
 use borrow.Author.Tests.{leb-true}
 use Rattle.columns.proofs.Tests.{cond-cases, both-left}
 use Rattle.values.specs.declared.Value.{Value}
@@ -17,15 +17,14 @@ use Rattle.values.specs.Value.{itemOf, Normal, nought, times, over, Fine, fine-
 use Rattle.values.specs.Writing.{Inside}
 use Rattle.values.specs.Strict.{strictOf}
 use Rattle.values.proofs.OneSpelling.{sound}
-use Rattle.records.specs.Global.{firstField, lastField}
 use Rattle.records.specs.Reading.{Writable}
 use Rattle.sheets.specs.declared.EntryLine.{EntryLine}
 use Rattle.sheets.specs.declared.EntryLine.the-variants.{Got, Wrong}
 use Rattle.sheets.specs.declared.Said.{Said}
 use Rattle.sheets.specs.declared.Said.the-variants.{Start, Global, Entry, Value as Given, Last, Nothing}
-use Rattle.sheets.specs.Plain.{most, plainOf}
+use Rattle.sheets.specs.Plain.{plainOf, isPlain}
 use Rattle.sheets.specs.Line.{run, entryOf}
-use Rattle.sheets.specs.Sheet.{isMark, isStart, startLine, globalOf, globalLine, entryLineOf, valueOf, lastLine, byMark, saysOf}
+use Rattle.sheets.specs.Sheet.{isMark, isStart, startLine, globalOf, isNumbered, globalLine, entryLineOf, valueOf, lastLine, byMark, saysOf}
 use Rattle.sheets.proofs.Bounds.{strict-inside}
 
 normal-fits : {neg : Bool} {m : ℕ} {eneg : Bool} {e : ℕ} → Normal neg m eneg e → (m < 10 ^ 17) × (e ≤ 400)
@@ -71,9 +70,9 @@ module _ (l : List ℕ) where
       t = drop 2 l
 
       pick : (x : Strict) → strictOf (drop (suc (run 9 t)) t) ≡ x
-          → Can l (globalOf (ltb (run 9 t) (length t) && (leb firstField (plainOf (take (run 9 t) t)) && leb (plainOf (take (run 9 t) t)) lastField)) (plainOf (take (run 9 t) t)) (2 + suc (run 9 t)) x)
+          → Can l (globalOf (isNumbered t) (plainOf (take (run 9 t) t)) (2 + suc (run 9 t)) x)
       pick (Is v) e =
-          cond-cases (Can l) (ltb (run 9 t) (length t) && (leb firstField (plainOf (take (run 9 t) t)) && leb (plainOf (take (run 9 t) t)) lastField) && not (isMissing v)) (Global (plainOf (take (run 9 t) t)) (2 + suc (run 9 t)) v) (Nothing false)
+          cond-cases (Can l) (isNumbered t && not (isMissing v)) (Global (plainOf (take (run 9 t) t)) (2 + suc (run 9 t)) v) (Nothing false)
           (λ _. rw (drop-drop (suc (run 9 t)) 2 l) at (strict-writable (drop (suc (run 9 t)) t) v e)) (λ _. tt)
       pick Not e = tt
 
@@ -97,7 +96,7 @@ module _ (l : List ℕ) where
       (λ _. cond-cases (Can l) (eqb b 82) (valueOf true (strictOf (drop 2 l))) _ (λ _. value-can true)
       (λ _. cond-cases (Can l) (eqb b 86) (valueOf false (strictOf (drop 2 l))) _ (λ _. value-can false)
       (λ _. cond-cases (Can l) (eqb b 90) (lastLine (drop 2 l)) (Nothing false)
-      (λ _. cond-cases (Can l) (leb (plainOf (drop 2 l)) most) (Last (plainOf (drop 2 l))) (Nothing false) (λ _. tt) (λ _. tt)) (λ _. tt))))))
+      (λ _. cond-cases (Can l) (isPlain (drop 2 l)) (Last (plainOf (drop 2 l))) (Nothing false) (λ _. tt) (λ _. tt)) (λ _. tt))))))
 
 pub says-can : (l : List ℕ) → Can l (saysOf l)
 unfolding saysOf

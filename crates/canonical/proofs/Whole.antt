@@ -74,7 +74,7 @@ module _ (t : List ℕ) (n : ℕ) (c : Counts) (y : Ready (linesIn t) n c) where
     ready-count = ap length there ∙ y .count
 
     module _ {g d : ℕ} (es : s ≡ c .s) (eg : g ≡ c .g) (ed : d ≡ c .d) where
-      pub ready-turn : Turn t (record { at = at; d = 81 * (s + g); p = 81 * (s + g + d); from = 1 }) 0
+      pub ready-turn : Turn t (record { at = at; d = 81 * (s + g); p = 81 * (s + g + d); from = record { 0 = 1 } }) 0
       ready-turn =
           let h = y .few in
           record {
@@ -88,7 +88,7 @@ module _ (t : List ℕ) (n : ℕ) (c : Counts) (y : Ready (linesIn t) n c) where
           }
 
       pub ready-laid : {o2 o3 : List ℕ} {p r : ℕ} → p ≡ c .p
-          → o2 ≡ bothLaid o1 t (record { at = at; d = 81 * (s + g); p = 81 * (s + g + d); from = 1 }) 0
+          → o2 ≡ bothLaid o1 t (record { at = at; d = 81 * (s + g); p = 81 * (s + g + d); from = record { 0 = 1 } }) 0
           → Wrote o2 (81 * (s + g + d + p)) (lineOf (totalsOf c) 84 1) o3 r
           → Wrote o 0 (fileBytes (linesIn t) c) o3 r
       unfolding fileBytes

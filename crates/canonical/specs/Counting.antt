@@ -1,4 +1,5 @@
--- How many lines the canonical file of a sheet has, line by line of the sheet: where the G record and the last entry's record end tells their lines.
+-- The code's form: how many lines the canonical file of a sheet has, line by line of the sheet: where the G record and the last entry's
+-- record end tells their lines.
 use mathlib.Core.Bool.{false, cond}
 use mathlib.Core.List.{List, [], _∷_}
 use Prim.Native.Nat.{ℕ, suc, _+_, _-_, _*_, _≤_}

@@ -1,4 +1,5 @@
--- How the canonical file is laid: what a sheet's lines give from a place on, the bytes of each section, and D and P lines turn by turn.
+-- The code's form: how the canonical file is laid: what a sheet's lines give from a place on, the bytes of each section, and D and P lines
+-- turn by turn.
 use mathlib.Core.Path.{_≡_}
 use mathlib.Core.Bool.{true}
 use mathlib.Core.List.{List, [], _∷_, _++_, map}
@@ -110,20 +111,22 @@ pub record Owing (o o′ : List ℕ) (d : ℕ) (ds : List ℕ) (q : ℕ) (ps : L
 
 -- what is owed for the entries from a place on
 abbrev pub OwingAt : List ℕ → List ℕ → List ℕ → Place → ℕ → Type 0
-OwingAt o o′ t x k = Owing o o′ (x .d) (directoryBytes k (x .from) (entriesAt t (x .at))) (x .p) (parameterBytes k (x .from) (entriesAt t (x .at)))
+OwingAt o o′ t x k =
+    Owing o o′ (x .d) (directoryBytes k (x .from .0) (entriesAt t (x .at))) (x .p) (parameterBytes k (x .from .0) (entriesAt t (x .at)))
 
 -- all of it laid
 abbrev pub bothLaid : List ℕ → List ℕ → Place → ℕ → List ℕ
-bothLaid o t x k = laid (laid o (x .d) (directoryBytes k (x .from) (entriesAt t (x .at)))) (x .p) (parameterBytes k (x .from) (entriesAt t (x .at)))
+bothLaid o t x k =
+    laid (laid o (x .d) (directoryBytes k (x .from .0) (entriesAt t (x .at)))) (x .p) (parameterBytes k (x .from .0) (entriesAt t (x .at)))
 
 -- the entries from entry k on stand at a place, and their lines have room
 pub record Turn (t : List ℕ) (x : Place) (k : ℕ) : Type 0 where
   pub rows : List Row
   pub lines : linesIn (drop (x .at) t) ≡ rowLines k rows
   pub inside : x .at ≤ length t
-  pub apart : x .d + length (directoryBytes k (x .from) (entriesAt t (x .at))) ≤ x .p
+  pub apart : x .d + length (directoryBytes k (x .from .0) (entriesAt t (x .at))) ≤ x .p
   pub room : x .p + lineBytes * length (parameterLines (numberOf k) (entriesAt t (x .at))) ≤ 2 ^ 36
-  pub few : x .from + length (parameterLines (numberOf k) (entriesAt t (x .at))) ≤ 9999999
+  pub few : x .from .0 + length (parameterLines (numberOf k) (entriesAt t (x .at))) ≤ 9999999
   pub numbers : 2 * k + 2 * length (entriesAt t (x .at)) ≤ 9999998
 
 -- entry k is laid, and y is where the next one stands
@@ -152,17 +155,17 @@ pub record EntryFits (t : List ℕ) (x : Place) (k end typ : ℕ) : Type 0 where
   pub small : typ ≤ 2147483647
   pub d : x .d ≤ 2 ^ 36
   pub p : x .p ≤ 2 ^ 36
-  pub few : x .from + blockCount t end typ ≤ 9999999
+  pub few : x .from .0 + blockCount t end typ ≤ 9999999
   pub room : length (recordText typ (valuesBehind t end)) ≤ 2 ^ 36
   pub unbroken : Unbroken (linesIn (drop (end + 1) t))
   pub number : 2 * k + 2 ≤ 9999999
 
 pub record EntryLaid (o t : List ℕ) (x : Place) (k end : ℕ) (f : Fields) (o′ : List ℕ) (y : Place) : Type 0 where
   pub wrote :
-      Wrote (laid o (x .p) (joined (section 80 (x .from) (blockLines (numberOf k) (f .entity .size) (valuesBehind t end))))) (x .d)
-      (joined (section 68 (numberOf k) (entryLines f (x .from) (blockCount t end (f .entity .size)) (labelBefore t end)))) o′ (y .d)
+      Wrote (laid o (x .p) (joined (section 80 (x .from .0) (blockLines (numberOf k) (f .entity .size) (valuesBehind t end))))) (x .d)
+      (joined (section 68 (numberOf k) (entryLines f (x .from .0) (blockCount t end (f .entity .size)) (labelBefore t end)))) o′ (y .d)
   pub p : y .p ≡ x .p + lineBytes * blockCount t end (f .entity .size)
-  pub from : y .from ≡ x .from + blockCount t end (f .entity .size)
+  pub from : y .from .0 ≡ x .from .0 + blockCount t end (f .entity .size)
   pub lines : linesIn (drop (y .at) t) ≡ behindValues (linesIn (drop (end + 1) t))
   pub inside : y .at ≤ length t
 

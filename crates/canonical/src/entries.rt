@@ -2,6 +2,7 @@
 use crate::Place;
 use blocks::lines::put_entry_lines;
 use cards::LINE_BYTES;
+use columns::ParameterLine;
 use directory::Fields;
 use psection::put_block;
 use said::end_of;
@@ -21,25 +22,17 @@ fn put_entry(out: &mut [u8], t: &[u8], x: Place, k: usize, end: usize, fields: F
     ensures { λ r. ⌜ EntryLaid (now (out .entry)) (now (t .entry)) x k end fields (now (out .exit)) r ⌝ }
 {
     let entity = fields.entity;
-    let number = 2 * k + 1;
+    let number = cards::entry_number(k);
     let from = x.from;
-    let b = put_block(out, x.p, t, end + 1, entity.size, number as u32, from);
-    let lines = b.lines;
+    let b = put_block(out, x.p, t, end + 1, entity.size, number, from);
+    let lines = b.lines as u32;
     let label = end - LABEL;
-    let d = put_entry_lines(
-        out,
-        x.d,
-        fields,
-        from as u32,
-        lines as u32,
-        &t[label..end],
-        number,
-    );
+    let d = put_entry_lines(out, x.d, fields, from, lines, &t[label..end], number);
     Place {
         at: b.next,
         d,
-        p: x.p + LINE_BYTES * lines,
-        from: from + lines,
+        p: x.p + LINE_BYTES * b.lines,
+        from: ParameterLine(from.0 + lines),
     }
 }
 

@@ -5,6 +5,7 @@ use crate::starts::put_starts;
 use blocks::lines::put_last_line;
 use cards::Counts;
 use cards::LINE_BYTES;
+use columns::ParameterLine;
 use columns::wide;
 use gsection::put_globals;
 ghost use mathlib.Core.Path.{_≡_};
@@ -45,7 +46,7 @@ fn put_sections(out: &mut [u8], t: &[u8], c: Counts, n: usize) -> usize
         at,
         d: LINE_BYTES * texts,
         p: LINE_BYTES * directory,
-        from: 1,
+        from: ParameterLine(1),
     };
     put_rows(out, t, x, n);
     put_last_line(out, LINE_BYTES * end, c)

@@ -5,6 +5,7 @@ pub mod file;
 mod starts;
 
 use cards::Counts;
+use columns::ParameterLine;
 
 // What the lines of a sheet so far come to: S lines; the position behind the G record's last value, and that value's field; D lines, and the P lines
 // of the entries before the last; the position behind the last entry's last value.
@@ -28,5 +29,5 @@ pub struct Place {
     pub at: usize,
     pub d: usize,
     pub p: usize,
-    pub from: usize,
+    pub from: ParameterLine,
 }

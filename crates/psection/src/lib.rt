@@ -5,6 +5,8 @@ use blocks::PARAMETER;
 use blocks::lines;
 use blocks::text;
 use cards::LINE_BYTES;
+use columns::DirectoryNumber;
+use columns::ParameterLine;
 use values::Value;
 ghost use mathlib.Core.Path.{_≡_};
 ghost use mathlib.Core.Bool.{false};
@@ -63,25 +65,25 @@ fn put_values(out: &mut [u8], base: usize, t: &[u8], at: usize, p: usize) -> Flo
 }
 
 // Column 65 to LF of P line n of the entry with this directory number.
-fn put_owned(out: &mut [u8], at: usize, number: u32, n: usize) -> usize
-    requires { ⌜ (at < 2 ^ 59) × (number ≤ 9999999) × (n ≤ 9999999) ⌝ }
-    ensures { λ r. ⌜ Wrote (now (out .entry)) at (ownerOf number ++ tailOf 80 n) (now (out .exit)) r ⌝ }
+fn put_owned(out: &mut [u8], at: usize, number: DirectoryNumber, n: ParameterLine) -> usize
+    requires { ⌜ (at < 2 ^ 59) × (number .0 ≤ 9999999) × (n .0 ≤ 9999999) ⌝ }
+    ensures { λ r. ⌜ Wrote (now (out .entry)) at (ownerOf (number .0) ++ tailOf 80 (n .0)) (now (out .exit)) r ⌝ }
     ensures { λ r. ⌜ r ≡ at + 17 ⌝ }
 {
     let a = emit::put(out, at, 32);
-    let b = decimals::put_right(out, a, 32, NUMBER, number as u64);
-    lines::put_tail(out, b, PARAMETER, n)
+    let b = decimals::put_right(out, a, 32, NUMBER, number.0 as u64);
+    lines::put_tail(out, b, PARAMETER, n.0 as usize)
 }
 
 // The same of so many lines, column 65 of the first of which is at q.
-fn put_tails(out: &mut [u8], q: usize, number: u32, from: usize, lines: usize)
-    requires { ⌜ (q ≤ 2 ^ 41) × (number ≤ 9999999) × (from + lines ≤ 9999999) ⌝ }
-    ensures { λ _. ⌜ now (out .exit) ≡ tailed (now (out .entry)) q (ownerOf number) 80 from lines ⌝ }
+fn put_tails(out: &mut [u8], q: usize, number: DirectoryNumber, from: ParameterLine, lines: usize)
+    requires { ⌜ (q ≤ 2 ^ 41) × (number .0 ≤ 9999999) × (from .0 + lines ≤ 9999999) ⌝ }
+    ensures { λ _. ⌜ now (out .exit) ≡ tailed (now (out .entry)) q (ownerOf (number .0)) 80 (from .0) lines ⌝ }
 {
     let mut at = q;
     let mut i = 0;
     while i < lines {
-        put_owned(out, at, number, from + i);
+        put_owned(out, at, number, ParameterLine(from.0 + i as u32));
         at += LINE_BYTES;
         i += 1;
     }
@@ -94,13 +96,13 @@ pub fn put_block(
     t: &[u8],
     at: usize,
     typ: u32,
-    number: u32,
-    from: usize,
+    number: DirectoryNumber,
+    from: ParameterLine,
 ) -> Block
     requires { ⌜ (at ≤ length (now t)) × (base ≤ 2 ^ 36) × (typ ≤ 2147483647) × (length (recordText typ (itemsFirst (linesIn (drop at (now t))))) ≤ 2 ^ 36) ⌝ }
-    requires { ⌜ (number ≤ 9999999) × (from + lineCount 64 (length (recordText typ (itemsFirst (linesIn (drop at (now t)))))) ≤ 9999999) ⌝ }
+    requires { ⌜ (number .0 ≤ 9999999) × (from .0 + lineCount 64 (length (recordText typ (itemsFirst (linesIn (drop at (now t)))))) ≤ 9999999) ⌝ }
     requires { ⌜ Unbroken (linesIn (drop at (now t))) ⌝ }
-    ensures { λ r. ⌜ now (out .exit) ≡ laid (now (out .entry)) base (joined (section 80 from (blockLines number typ (itemsFirst (linesIn (drop at (now (t .entry)))))))) ⌝ }
+    ensures { λ r. ⌜ now (out .exit) ≡ laid (now (out .entry)) base (joined (section 80 (from .0) (blockLines (number .0) typ (itemsFirst (linesIn (drop at (now (t .entry)))))))) ⌝ }
     ensures { λ r. ⌜ r .lines ≡ lineCount 64 (length (recordText typ (itemsFirst (linesIn (drop at (now (t .entry))))))) ⌝ }
     ensures { λ r. ⌜ linesIn (drop (r .next) (now (t .entry))) ≡ behindValues (linesIn (drop at (now (t .entry)))) ⌝ }
     ensures { λ r. ⌜ (at ≤ r .next) × (r .next ≤ length (now (t .entry))) ⌝ }

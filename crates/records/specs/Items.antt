@@ -1,4 +1,4 @@
--- The first values of a record, one after the other from a position: what a walk over them meets.
+-- The code's form: the first values of a record, one after the other from a position: what a walk over them meets.
 use mathlib.Core.List.{List, [], _∷_}
 use Prim.Native.Nat.{ℕ, zero, suc}
 use Rattle.values.specs.Value.{Item, default, itemOf}

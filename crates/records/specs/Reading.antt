@@ -1,4 +1,5 @@
--- What the code knows besides: where a record stands in its file, the bounds of what is read, and a record's check as the code counts it.
+-- The code's form: what the code knows besides: where a record stands in its file, the bounds of what is read, and a record's check as the
+-- code counts it.
 use mathlib.Core.Path.{_≡_}
 use mathlib.Core.Bool.{Bool, not, _&&_}
 use mathlib.Core.List.{List, [], _∷_}

@@ -1,5 +1,5 @@
--- Text laid into a file: position p of the text whose first line begins at base stands in the file at base + p / w * 81 + p % w. A store past the
--- file's end changes nothing.
+-- The code's form: text laid into a file: position p of the text whose first line begins at base stands in the file at base + p / w * 81 +
+-- p % w. A store past the file's end changes nothing.
 use mathlib.Core.Path.{_≡_}
 use mathlib.Core.List.{List, [], _∷_}
 use Prim.Native.Nat.{ℕ, suc, _+_, _*_, _/_, _%_, _^_, _≤_}

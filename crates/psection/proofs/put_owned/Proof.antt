@@ -9,7 +9,9 @@ put-owned-spec =
     tie.close
     (tie.spec
     (λ c κs. search (needs, owning))
+    (λ c. search (needs, owning))
     (λ c κs. search (needs, owning))
+    (λ c. search (needs, owning))
     (λ c κs. search (needs, owning))
     (λ c. search (needs, owning))
     (λ c. search (needs, owning)))

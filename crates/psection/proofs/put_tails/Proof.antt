@@ -9,7 +9,7 @@ use Rattle.psection.proofs.put_tails.Statement.{statement}
 use Rattle.psection.proofs.put_tails.Tie as tie
 
 abbrev Inv-loop : tie.InvT-loop
-Inv-loop out₀ q number from lines at₀ i₀ out at i = (i ≤ lines) × (at ≡ q + 81 * i) × (length out ≡ length out₀) × (tailed out at (ownerOf number) 80 (from + i) (lines - i) ≡ tailed out₀ q (ownerOf number) 80 from lines)
+Inv-loop out₀ q number from lines at₀ i₀ out at i = (i ≤ lines) × (at ≡ q + 81 * i) × (length out ≡ length out₀) × (tailed out at (ownerOf (number .0)) 80 (from .0 + i) (lines - i) ≡ tailed out₀ q (ownerOf (number .0)) 80 (from .0) lines)
 
 abbrev μ-loop : tie.MeasureT-loop
 μ-loop out₀ q number from lines at₀ i₀ out at i = lines - i
@@ -20,6 +20,7 @@ put-tails-spec =
     (tie.spec
     Inv-loop
     μ-loop
+    (λ c. search (needs, tailing))
     (λ c. search (needs, tailing))
     (λ c. search (needs, tailing))
     (λ c κs. search (needs, tailing))

@@ -8,6 +8,7 @@ pub put-entry-lines-spec : {M : Type 1} → statement M
 put-entry-lines-spec =
     tie.close
     (tie.spec
+    (λ c. search (needs, entering))
     (λ c κs. search (needs, entering))
     (λ c κs. search (needs, entering))
     (λ c κs. search (needs, entering))

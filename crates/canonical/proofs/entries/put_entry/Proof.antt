@@ -8,12 +8,9 @@ pub put-entry-spec : {M : Type 1} → statement M
 put-entry-spec =
     tie.close
     (tie.spec
-    (λ c. search (needs, entering))
-    (λ c. search (needs, entering))
-    (λ c. search (needs, entering))
+    (λ c κs. search (needs, entering))
     (λ c. search (needs, entering))
     (λ c κs. (search (needs, entering), (search (needs, entering), search needs)))
-    (λ c. search (needs, entering))
     (λ c. search (needs, entering))
     (λ c. search (needs, entering))
     (λ c. search (needs, entering))
