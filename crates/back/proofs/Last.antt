@@ -1,6 +1,5 @@
 -- The last pass over a canonical file gives back the entries with their values. Assumes nothing.
 use mathlib.Core.Path.{_≡_, refl, ap, _∙_}
-use mathlib.Core.Bool.{Bool, true, false, cond}
 use mathlib.Core.List.{List, [], _++_}
 use Prim.Native.Nat.{ℕ, _+_, _-_, _*_, _≤_, _<_}
 use native.Mathlib.Omega.{arith}
@@ -16,8 +15,7 @@ use Rattle.cards.specs.declared.Counts.{Counts}
 use Rattle.cards.specs.Cards.{mostLines, total}
 use Rattle.cards.specs.Written.{Bodies, countsOf, fileOf}
 use Rattle.cards.proofs.Text.{p-text}
-use Rattle.layouts.specs.Known.{known}
-use Rattle.layouts.specs.Entities.{verdict, fault, entityCheck}
+use Rattle.layouts.proofs.Fits.{keeps-accepts}
 use Rattle.sheets.specs.WellFormed.{Each, none, one}
 use Rattle.model.specs.Model.{Carried, typeOf, typesOf, entityOf}
 use Rattle.model.specs.Canonical.{parameterText}
@@ -38,20 +36,10 @@ record-read : (list : ℕ) (types : List ℕ) (e : Carried) → EntryFits list t
 unfolding parameterText
 record-read list types e h r = round 64 (omega arith) (fines (values-held list types e h) (omega arith)) r
 
--- its layout is kept
-layout-passes : (list : ℕ) (types : List ℕ) (e : Carried) → EntryFits list types e → (place : ℕ) → entityCheck list types (entityOf (e .fields) (e .values)) place ≡ accepted tt
-unfolding entityCheck
-layout-passes list types e h place = pick (known list (typeOf (e .fields)) (e .fields .form .size)) refl
-  where
-    pick : (b : Bool) → known list (typeOf (e .fields)) (e .fields .form .size) ≡ b
-        → cond b (fault (verdict types (entityOf (e .fields) (e .values))) place) (accepted tt) ≡ accepted tt
-    pick true k = rw (h .layout k)
-    pick false k = refl
-
 -- what is made of its values
 values-taken : (list : ℕ) (types : List ℕ) (e : Carried) → EntryFits list types e → (from place end : ℕ)
     → byParameters list types place (listed from e) (values (valuesOf e) end) ≡ accepted e
-values-taken list types e h from place end = rw (eq-eqb (typeOf (e .fields)) (typeOf (e .fields)) refl, h .last-given, layout-passes list types e h place)
+values-taken list types e h from place end = rw (eq-eqb (typeOf (e .fields)) (typeOf (e .fields)) refl, h .last-given, keeps-accepts types (entityOf (e .fields) (e .values)) list place (h .layout))
 
 -- ---- in the file
 

@@ -9,12 +9,12 @@ use Rattle.records.specs.Record.{trimmed}
 use Rattle.records.specs.Global.{globalFits}
 use Rattle.directory.specs.Fields.{entryOf}
 use Rattle.directory.specs.Rules.{rangesOk, references, allFit}
-use Rattle.layouts.specs.declared.Verdict.the-variants.{Good}
 use Rattle.layouts.specs.Known.{mostList, known}
-use Rattle.layouts.specs.Entities.{verdict}
+use Rattle.layouts.specs.Fits.{Keeps}
 use Rattle.sheets.specs.Plain.{most}
 use Rattle.sheets.specs.Line.{isLabel}
 use Rattle.sheets.specs.Sheet.{isStart}
+use Rattle.sheets.specs.Order.{noField}
 use Rattle.sheets.specs.WellFormed.{Rising, Each, Numbered, Held, Filled}
 use Rattle.model.specs.Model.{Carried, Model, typeOf, typesOf, entityOf}
 
@@ -38,14 +38,14 @@ pub record EntryFits (list : ℕ) (types : List ℕ) (e : Carried) : Type 0 wher
   -- its values can be spelt, the last of them is given, and a known entity keeps to its layout
   pub values : Each Held (e .values)
   pub last-given : trimmed (e .values) ≡ e .values
-  pub layout : known list (typeOf (e .fields)) (e .fields .form .size) ≡ true → verdict types (entityOf (e .fields) (e .values)) ≡ Good
+  pub layout : known list (typeOf (e .fields)) (e .fields .form .size) ≡ true → Keeps types (entityOf (e .fields) (e .values))
 
 -- a model under a list
 pub record Fits (list : ℕ) (m : Model) : Type 0 where
   pub list-ok : list ≤ mostList
   pub some : 0 < length (m .starts)
   pub starts : Each Start (m .starts)
-  pub rising : Rising 2 (m .globals)
+  pub rising : Rising noField (m .globals)
   pub globals : Each Filled (m .globals)
   pub in-kind : Each InKind (m .globals)
   pub entries : Each (EntryFits list (typesOf (m .entries))) (m .entries)

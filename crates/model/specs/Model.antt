@@ -45,14 +45,14 @@ marked (b ∷ bs) [] = []
 marked (b ∷ bs) (v ∷ vs) = (b, v) ∷ marked bs vs
 
 -- E if the list knows the entity; R where it reads a reference
-unfoldable pub rowOf : ℕ → List ℕ → Carried → Row
-rowOf list types e =
+unfoldable pub rowOf : ℕ → Carried → Row
+rowOf list e =
     row (known list (typeOf (e .fields)) (e .fields .form .size)) (e .fields) (e .label)
-    (marked (marks list types (entityOf (e .fields) (e .values))) (e .values))
+    (marked (marks list (entityOf (e .fields) (e .values))) (e .values))
 
 -- what the sheet of a model carries
 unfoldable pub sheetOf : ℕ → Model → Sheet
-sheetOf list m = record { starts = m .starts; globals = m .globals; rows = map (rowOf list (typesOf (m .entries))) (m .entries) }
+sheetOf list m = record { starts = m .starts; globals = m .globals; rows = map (rowOf list) (m .entries) }
 
 -- ---- the model of a sheet: the marks are left out
 

@@ -66,13 +66,13 @@ allEqual (a ∷ xs) [] = false
 allEqual (a ∷ xs) (b ∷ bs) = equal a b && allEqual xs bs
 
 -- E if the list knows the entity, R where it reads a reference
-abbrev pub marksRight : ℕ → List ℕ → Row → Bool
-marksRight list types r =
-    equal (r .known) (known list (rowEntity r .typ) (rowEntity r .form)) && allEqual (map markIn (r .values)) (marks list types (rowEntity r))
+abbrev pub marksRight : ℕ → Row → Bool
+marksRight list r =
+    equal (r .known) (known list (rowEntity r .typ) (rowEntity r .form)) && allEqual (map markIn (r .values)) (marks list (rowEntity r))
 
 -- 14, 15, then 18
 abbrev pub rowEntityRules : ℕ → List ℕ → ℕ → Row → Outcome (Unit {0})
-rowEntityRules list types place r = entityCheck list types (rowEntity r) place then λ _. demand (marksRight list types r) Mark place
+rowEntityRules list types place r = entityCheck list types (rowEntity r) place then λ _. demand (marksRight list r) Mark place
 
 -- the types of all entries
 abbrev pub rowTypes : Sheet → List ℕ
