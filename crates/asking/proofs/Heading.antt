@@ -5,7 +5,7 @@ use mathlib.Core.List.{List}
 use Prim.Native.Nat.{ℕ, _+_, _-_, _≤_}
 use native.Mathlib.Omega.{arith}
 use lib.ListN.{getD, drop}
-use lib.Dec.{eqb, leb}
+use lib.Dec.{eqb}
 use borrow.Author.Tests.{ne-eqb}
 use Rattle.columns.specs.declared.Fault.the-variants.{Global as GlobalFault}
 use Rattle.columns.specs.Columns.{columns}
@@ -23,7 +23,7 @@ use Rattle.records.specs.declared.GlobalKind.the-variants.{String, Real as Real
 use Rattle.records.specs.Global.{kindOf, isKind, globalFits}
 use Rattle.sheets.specs.declared.Said.{Said}
 use Rattle.sheets.specs.declared.Said.the-variants.{Start, Global, Entry, Value as Given, Last, Nothing}
-use Rattle.sheets.specs.Plain.{most, plainOf}
+use Rattle.sheets.specs.Plain.{plainOf, isPlain}
 use Rattle.sheets.specs.Line.{entryOf}
 use Rattle.sheets.specs.Sheet.{Line, isStart, startLine, globalLine, entryLineOf, valueOf, lastLine, byMark, saysOf, lineFrom, saidBy}
 use Rattle.model.specs.Write.{globalRule, rowRules, rowReferences, rowEntityRules}
@@ -91,12 +91,12 @@ quiet-mark b l t h = by (eqb b 69) (eqb b 85) (eqb b 71) h
   where
     by : (x y z : Bool) → x || (y || z) ≡ false
         → Quiet (cond (eqb b 83) (cond (isStart t) Start (Nothing false))
-        (cond z (globalLine t) (cond (x || y) (entryLineOf (entryOf l)) (cond (eqb b 82) (valueOf true (strictOf t)) (cond (eqb b 86) (valueOf false (strictOf t)) (cond (eqb b 90) (cond (leb (plainOf t) most) (Last (plainOf t)) (Nothing false)) (Nothing false)))))))
+        (cond z (globalLine t) (cond (x || y) (entryLineOf (entryOf l)) (cond (eqb b 82) (valueOf true (strictOf t)) (cond (eqb b 86) (valueOf false (strictOf t)) (cond (eqb b 90) (cond (isPlain t) (Last (plainOf t)) (Nothing false)) (Nothing false)))))))
     by false false false e =
         cond-cases Quiet (eqb b 83) _ _ (λ _. cond-cases Quiet (isStart t) Start (Nothing false) (λ _. tt) (λ _. tt))
         (λ _. cond-cases Quiet (eqb b 82) _ _ (λ _. quiet-value true (strictOf t))
         (λ _. cond-cases Quiet (eqb b 86) _ _ (λ _. quiet-value false (strictOf t))
-        (λ _. cond-cases Quiet (eqb b 90) _ _ (λ _. cond-cases Quiet (leb (plainOf t) most) (Last (plainOf t)) (Nothing false) (λ _. tt) (λ _. tt)) (λ _. tt))))
+        (λ _. cond-cases Quiet (eqb b 90) _ _ (λ _. cond-cases Quiet (isPlain t) (Last (plainOf t)) (Nothing false) (λ _. tt) (λ _. tt)) (λ _. tt))))
     by true y z e = let k : _≡_ {A = ℕ} 0 1 = cc in absurd (omega arith)
     by false true z e = let k : _≡_ {A = ℕ} 0 1 = cc in absurd (omega arith)
     by false false true e = let k : _≡_ {A = ℕ} 0 1 = cc in absurd (omega arith)

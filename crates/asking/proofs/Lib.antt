@@ -5,3 +5,5 @@ pub mod Saying
 pub mod Tables
 pub mod Referring
 pub mod Naming
+pub mod Numbered
+pub mod Showing

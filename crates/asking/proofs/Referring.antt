@@ -27,7 +27,7 @@ module _ (types : List ℕ) (w : Wanted) where
   pub asks-nothing : w .asked ≡ false → true ≡ asksOk types w
   asks-nothing e = rw e
 
-  pub asks-class : w .asked ≡ true → (class : ℕ) (r : Bool) → class ≡ classAt types (w .number) → r ≡ fits (w .want) class → r ≡ asksOk types w
+  pub asks-class : w .asked ≡ true → (class : ℕ) (r : Bool) → class ≡ classAt types (w .number .0) → r ≡ fits (w .want) class → r ≡ asksOk types w
   asks-class e class r ec er = rw (e, er, ec)
 
 pub ruleset asks = (not-true, not-false, asks-nothing, asks-class, rest-all, rest-on, rest-no, rest-done)

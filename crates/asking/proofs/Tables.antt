@@ -14,12 +14,15 @@ use Rattle.references.proofs.Classes.{class-range, class-at, class-even, class-
 use Rattle.directory.specs.declared.Fields.{Fields}
 use Rattle.sheets.specs.declared.Said.{Said}
 use Rattle.sheets.specs.declared.Said.the-variants.{Start, Global, Entry, Value as Given, Last, Nothing}
+use Rattle.sheets.specs.declared.Verdict.the-variants.{Good}
 use Rattle.sheets.specs.Line.{run}
 use Rattle.sheets.specs.Sheet.{Line, saysOf, lineFrom, saidBy, linesIn}
+use Rattle.sheets.specs.Order.{verdictOf}
 use Rattle.sheets.proofs.Walk.{lines-first}
 use Rattle.rows.specs.Rows.{typesIn}
 use Rattle.asking.specs.Heads.{headOf}
 use Rattle.asking.specs.Classes.{sheetTypes, classesIn, saidClass, withClass, tableSize, Tabled}
+use Rattle.asking.specs.Shown.{Shown}
 use Rattle.asking.proofs.Lines.{lines-piece, lines-none}
 use Rattle.asking.proofs.Others.{class-other}
 use Rattle.asking.proofs.Heading.{Quiet, head-tells}
@@ -169,13 +172,16 @@ module _ (classes : List ℕ) (n : ℕ) (t : List ℕ) (number : ℕ) (tab : Tab
         let h : number / 2 < length (typesIn (linesIn t)) = omega (arith, tab .count) in
         e ∙ class-of (typesIn (linesIn t)) (number / 2) h ∙ class-at (typesIn (linesIn t)) number odd h
 
-    pub number-table : number / 2 < tableSize → getD classes (number / 2) 0 ≡ classAt (sheetTypes t) number
-    number-table h = number-walk (getD classes (number / 2) 0) (tab .each (number / 2) h)
+    pub number-table : n ≤ tableSize → getD classes (number / 2) 0 ≡ classAt (sheetTypes t) number
+    number-table h = number-walk (getD classes (number / 2) 0) (tab .each h (number / 2) (omega arith))
 
-  pub number-in : number / 2 < tableSize → number / 2 < length classes
-  number-in h = omega (arith, tab .size)
+    pub number-in : n ≤ tableSize → number / 2 < length classes
+    number-in h = omega (arith, tab .size)
 
-pub ruleset names = (number-even, number-past, number-walk, number-table, number-in)
+pub number-shown : (t : List ℕ) (number r : ℕ) → Shown t number r → (r ≡ 0 → ⊥) → r ≡ classAt (sheetTypes t) number
+number-shown t number r s h = s .so h
+
+pub ruleset names = (number-even, number-past, number-walk, number-table, number-in, number-shown)
 
 -- ---- a table that was filled
 
@@ -202,11 +208,12 @@ laid-first cs o i h z =
     let a : 0 + i ≡ i = omega arith in
     rw a at (laid-at cs o 0 i (omega arith) (rw a z))
 
-pub filled : (m : ℕ) (c : List ℕ) (n : ℕ) (t : List ℕ) → m ≡ tableSize → c ≡ laid (replicate m 0) 0 (classesIn (linesIn t)) → n ≡ length (sheetTypes t) → Tabled c n t
-filled m c n t em e en = record {
+pub filled : (m : ℕ) (c : List ℕ) (n : ℕ) (t : List ℕ) → m ≡ tableSize → c ≡ laid (replicate m 0) 0 (classesIn (linesIn t)) → n ≡ length (sheetTypes t) → verdictOf t ≡ Good n → Tabled c n t
+filled m c n t em e en g = record {
   size = ap length e ∙ length-laid (replicate m 0) 0 (classesIn (linesIn t)) ∙ length-replicate {A = ℕ} m 0 ∙ em;
-  each = λ i h. ap (λ (l : List ℕ). getD l i 0) e ∙ laid-first (classesIn (linesIn t)) (replicate m 0) i (rw (length-replicate {A = ℕ} m 0) (omega arith)) (getD-replicate {A = ℕ} m i 0 0 (omega arith));
+  each = λ few i h. ap (λ (l : List ℕ). getD l i 0) e ∙ laid-first (classesIn (linesIn t)) (replicate m 0) i (rw (length-replicate {A = ℕ} m 0) (omega arith)) (getD-replicate {A = ℕ} m i 0 0 (omega arith));
   count = en;
+  good = g;
 }
 
 pub ruleset filling = (filled)

@@ -1,12 +1,14 @@
--- The classes of a sheet's entries, and the table that keeps them.
+-- The code's form: the classes of a sheet's entries, and the table that keeps them.
 use mathlib.Core.Path.{_≡_}
 use mathlib.Core.List.{List, _∷_, map}
-use Prim.Native.Nat.{ℕ, zero, suc, _<_}
+use Prim.Native.Nat.{ℕ, zero, suc, _≤_, _<_}
 use lib.ListN.{length, getD}
 use Rattle.references.specs.References.{noEntry, classOf}
 use Rattle.sheets.specs.declared.Said.{Said}
 use Rattle.sheets.specs.declared.Said.the-variants.{Start, Global, Entry, Value as Given, Last, Nothing}
+use Rattle.sheets.specs.declared.Verdict.the-variants.{Good}
 use Rattle.sheets.specs.Sheet.{Line, linesIn}
+use Rattle.sheets.specs.Order.{verdictOf}
 use Rattle.rows.specs.Rows.{typesIn}
 
 -- the types of a sheet's entries
@@ -35,8 +37,9 @@ withClass (suc c) cs = suc c ∷ cs
 abbrev pub tableSize : ℕ
 tableSize = 66665
 
--- a table of the classes of a sheet's n entries, as far as it reaches
+-- a table for a good sheet of n entries: of their classes, if they are no more than it holds; else nothing is said of what it tells
 pub record Tabled (classes : List ℕ) (n : ℕ) (t : List ℕ) : Type 0 where
   pub size : length classes ≡ tableSize
-  pub each : (i : ℕ) → i < tableSize → getD classes i 0 ≡ getD (classesIn (linesIn t)) i 0
+  pub each : n ≤ tableSize → (i : ℕ) → i < tableSize → getD classes i 0 ≡ getD (classesIn (linesIn t)) i 0
   pub count : n ≡ length (sheetTypes t)
+  pub good : verdictOf t ≡ Good n

@@ -1,4 +1,4 @@
--- What a pass reads of a line: G lines and entry lines alone, told by their first byte; and what it asks of them.
+-- The code's form: what a pass reads of a line: G lines and entry lines alone, told by their first byte; and what it asks of them.
 use mathlib.Core.Bool.{Bool, false, cond, _||_}
 use mathlib.Core.List.{List, []}
 use Prim.Native.Nat.{ℕ}

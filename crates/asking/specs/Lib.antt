@@ -2,3 +2,4 @@ pub mod Lines
 pub mod Heads
 pub mod Classes
 pub mod Passes
+pub mod Shown

@@ -1,4 +1,4 @@
--- A pass over a sheet's lines in line order: the first refusal of what is asked of G lines and of entry lines.
+-- The code's form: a pass over a sheet's lines in line order: the first refusal of what is asked of G lines and of entry lines.
 use mathlib.Core.Path.{_≡_}
 use mathlib.Core.List.{List, [], _∷_}
 use Prim.Native.Nat.{ℕ, _+_}

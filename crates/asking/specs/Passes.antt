@@ -1,4 +1,4 @@
--- The passes over a sheet behind 17, as writing's order has them.
+-- The code's form: the passes over a sheet behind 17, as writing's order has them.
 use mathlib.Core.List.{List}
 use Prim.Native.Nat.{ℕ}
 use Rattle.sheets.specs.Sheet.{linesIn}

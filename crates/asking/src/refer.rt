@@ -51,9 +51,9 @@ fn all_ask_ok(classes: &[u8], n: usize, t: &[u8], e: Entry) -> bool
 }
 
 // What a line says, at its place.
-pub fn reference_of(classes: &[u8], n: usize, t: &[u8], said: Said, place: usize) -> Pass
+pub fn reference_of(classes: &[u8], n: usize, t: &[u8], said: Said, line: SheetLine) -> Pass
     requires { ⌜ Tabled (now classes) n (now t) ⌝ }
-    ensures { λ r. ⌜ r ≡ saidReferences (sheetTypes (now (t .entry))) place said ⌝ }
+    ensures { λ r. ⌜ r ≡ saidReferences (sheetTypes (now (t .entry))) (line .0) said ⌝ }
 {
     let Said::Entry {
         known: _,
@@ -69,25 +69,25 @@ pub fn reference_of(classes: &[u8], n: usize, t: &[u8], said: Said, place: usize
     }
     Pass::Refused {
         fault: Fault::Reference,
-        line: SheetLine(place),
+        line,
     }
 }
 
 // All entries from `from` on, where the line has this place.
-pub fn references(classes: &[u8], n: usize, t: &[u8], from: usize, first: usize) -> Pass
-    requires { ⌜ Tabled (now classes) n (now t) × (from ≤ length (now t)) × (first ≤ from + 1) ⌝ }
-    ensures { λ r. ⌜ r ≡ linesPass noRule (rowReferences (sheetTypes (now (t .entry)))) first (linesIn (drop from (now (t .entry)))) ⌝ }
+pub fn references(classes: &[u8], n: usize, t: &[u8], from: usize, first: SheetLine) -> Pass
+    requires { ⌜ Tabled (now classes) n (now t) × (from ≤ length (now t)) × (first .0 ≤ from + 1) ⌝ }
+    ensures { λ r. ⌜ r ≡ linesPass noRule (rowReferences (sheetTypes (now (t .entry)))) (first .0) (linesIn (drop from (now (t .entry)))) ⌝ }
 {
     let size = t.len();
     let mut at = from;
-    let mut place = first;
+    let mut place = first.0;
     while at < size {
         let end = end_of(t, at);
         if end == size {
             return Pass::Good;
         }
         let said = head_at(t, at, end);
-        let found = reference_of(classes, n, t, said, place);
+        let found = reference_of(classes, n, t, said, SheetLine(place));
         match found {
             Pass::Refused { fault, line } => {
                 return Pass::Refused { fault, line };

@@ -9,10 +9,9 @@ ghost use Rattle.asking.specs.Lines.{orElse};
 ghost use Rattle.asking.specs.Heads.{saidRule};
 
 // What a line says, at its place.
-fn rule_of(said: Said, place: usize) -> Pass
-    ensures { λ r. ⌜ r ≡ saidRule place said ⌝ }
+fn rule_of(said: Said, line: SheetLine) -> Pass
+    ensures { λ r. ⌜ r ≡ saidRule (line .0) said ⌝ }
 {
-    let line = SheetLine(place);
     match said {
         Said::Global {
             number,
@@ -43,8 +42,8 @@ fn rule_of(said: Said, place: usize) -> Pass
 }
 
 // The first refusal so far, or that of this line.
-pub fn rule_too(first: Pass, said: Said, place: usize) -> Pass
-    ensures { λ r. ⌜ r ≡ orElse first (saidRule place said) ⌝ }
+pub fn rule_too(first: Pass, said: Said, place: SheetLine) -> Pass
+    ensures { λ r. ⌜ r ≡ orElse first (saidRule (place .0) said) ⌝ }
 {
     match first {
         Pass::Refused { fault, line } => Pass::Refused { fault, line },

@@ -1,5 +1,8 @@
-// The class of each entry of a sheet: kept in a table for as many entries as a file can have, read off the sheet past that.
+// The class of each entry of a sheet: kept in a table, if they are no more than a file can have. In a sheet of more the table helps to
+// find an entry's line (`far`).
+use crate::far::class_near;
 use crate::heads::head_at;
+use columns::DirectoryNumber;
 use references::NO_ENTRY;
 use said::end_of;
 use sheets::Said;
@@ -16,6 +19,9 @@ ghost use Rattle.asking.specs.Classes.{sheetTypes, classesIn, saidClass,
 
 // A file of 200,000 lines has three of its own (S, G, T), and three for each entry.
 pub const TABLE: usize = 66665;
+
+// The parts of a sheet of more entries, four bytes of the table for each.
+pub const PARTS: usize = 16666;
 
 // The class of the entry that a line heads.
 fn class_said(said: Said) -> u8
@@ -82,19 +88,23 @@ fn class_past(t: &[u8], i: usize) -> u8
 }
 
 // The class of what a directory number names in a sheet of n entries.
-pub fn class_at(classes: &[u8], n: usize, t: &[u8], number: u32) -> u8
+pub fn class_at(classes: &[u8], n: usize, t: &[u8], number: DirectoryNumber) -> u8
     requires { ⌜ Tabled (now classes) n (now t) ⌝ }
-    ensures { λ r. ⌜ r ≡ classAt (sheetTypes (now (t .entry))) number ⌝ }
+    ensures { λ r. ⌜ r ≡ classAt (sheetTypes (now (t .entry))) (number .0) ⌝ }
 {
-    if number % 2 != 1 {
+    if number.0 % 2 != 1 {
         return NO_ENTRY;
     }
-    let i = (number / 2) as usize;
+    let i = (number.0 / 2) as usize;
     if n <= i {
         return NO_ENTRY;
     }
-    if i < TABLE {
+    if n <= TABLE {
         return classes[i];
+    }
+    let class = class_near(classes, n, t, number);
+    if class != NO_ENTRY {
+        return class;
     }
     class_past(t, i)
 }

@@ -1,5 +1,5 @@
 -- An entity of a sheet: its values one after the other, its layout's verdict and its marks. Assumes nothing.
-use mathlib.Core.Path.{_≡_, refl, sym, _∙_}
+use mathlib.Core.Path.{_≡_, refl, sym, ap, _∙_}
 use mathlib.Core.Bool.{Bool, true, false, cond, _&&_}
 use mathlib.Core.List.{List, [], _∷_, map}
 use Prim.Native.Nat.{ℕ, _+_, _≤_, _<_}
@@ -9,7 +9,7 @@ use borrow.Author.Tests.{not-true, not-false}
 use Rattle.columns.specs.declared.Fault.the-variants.{Mark, Layout as LayoutFault, LayoutReference as LayoutReferenceFault}
 use Rattle.columns.specs.declared.Signed.{Signed}
 use Rattle.columns.specs.Columns.{columns}
-use Rattle.columns.specs.Refusal.{accepted, demand, _then_}
+use Rattle.columns.specs.Refusal.{Outcome, accepted, refused, demand, _then_}
 use Rattle.columns.proofs.Tests.{and-assoc}
 use Rattle.values.specs.declared.Value.{Value}
 use Rattle.values.specs.declared.Strict.{Strict}
@@ -24,9 +24,11 @@ use Rattle.layouts.specs.declared.Verdict.{Verdict}
 use Rattle.layouts.specs.declared.Verdict.the-variants.{Good as GoodVerdict, Layout, LayoutReference}
 use Rattle.layouts.specs.Known.{known}
 use Rattle.layouts.specs.Machine.{start, end}
-use Rattle.layouts.specs.Stepping.{stepped}
-use Rattle.layouts.specs.Entities.{feed, run as runs, ended, verdictFrom, verdict, fault, entityCheck, mark, marksFrom}
-use Rattle.layouts.proofs.Runs.{feed-read}
+use Rattle.layouts.specs.Walk.{stepped, feed, run as runs, verdictFrom, judged as walked, mark, marksFrom}
+use Rattle.layouts.specs.Entities.{Entity, fault, entityCheck}
+use Rattle.layouts.proofs.Runs.{feed-stepped}
+use Rattle.layouts.proofs.Fits.{accepts-keeps}
+use Rattle.layouts.proofs.Walk.{check-judged}
 use Rattle.entities.specs.Marks.{marksBegun}
 use Rattle.entities.proofs.Names.{negative-names, whole-names}
 use Rattle.entities.proofs.Marking.{stepped-go, stepped-bad, marks-begin}
@@ -61,10 +63,6 @@ right-no right reference g e = rw e
 pub ruleset values = (negative-names, whole-names, names-other, stepped-go, stepped-bad, right-yes, right-no)
 
 -- ---- all of them: f is the answer
-
-feed-stepped : (types t : List ℕ) (g : Stepped) (v : Value) → feed types g (itemOf t v) ≡ stepped types g v
-feed-stepped types t Bad v = refl
-feed-stepped types t (Go s) v = feed-read types t s v
 
 module _ (types t : List ℕ) (at size : ℕ) (g : Stepped) (right : Bool) (f : Judged) (inv : judged types g right (valuesFirst (linesIn (drop at t))) ≡ f) (all : size ≡ length t) where
   pub judge-end : size ≤ at → judgedSo g right ≡ f
@@ -166,27 +164,36 @@ module _ (types : List ℕ) where
       judged-right (feed types g (v .1)) (rightToo right (v .0) g) vs
       ∙ and-assoc right (equal (v .0) (mark g)) (allEqual (map markIn vs) (marksFrom types (feed types g (v .1)) (map valueIn vs)))
 
+-- what comes behind a refusal has no say
+then-same : {A B : Type 0} (o : Outcome A) (f g : A → Outcome B) → ((a : A) → o ≡ accepted a → f a ≡ g a) → o then f ≡ o then g
+then-same (accepted a) f g h = h a refl
+then-same (refused n p) f g h = refl
+
 module _ (list : ℕ) (types : List ℕ) (place : ℕ) (marked : Bool) (x : Fields) (vs : List (Bool × Item)) where
-  check-part : fault (verdictIf (known list (x .entity .size) (x .form .size)) (runs types (marksBegun list (x .entity .size) (x .form .size)) (map valueIn vs))) place
-      ≡ entityCheck list types (entityOf x (map valueIn vs)) place
-  unfolding marksBegun entityCheck verdict verdictFrom
-  check-part = by (known list (x .entity .size) (x .form .size))
+  abbrev inside : Bool
+  inside = known list (x .entity .size) (x .form .size)
+
+  abbrev begin : Stepped
+  begin = marksBegun list (x .entity .size) (x .form .size)
+
+  abbrev entity : Entity
+  entity = entityOf x (map valueIn vs)
+
+  check-part : fault (verdictIf inside (runs types begin (map valueIn vs))) place ≡ entityCheck list types entity place
+  unfolding marksBegun walked verdictFrom
+  check-part = by inside ∙ check-judged types list entity place
     where
       by : (b : Bool) → fault (verdictIf b (runs types (cond b (Go (start (x .entity .size) (x .form .size))) Bad) (map valueIn vs))) place
-          ≡ cond b (fault (ended (runs types (Go (start (x .entity .size) (x .form .size))) (map valueIn vs))) place) (accepted tt)
+          ≡ cond b (fault (walked types entity) place) (accepted tt)
       by true = refl
       by false = refl
 
-  answer-row : answerOf (known list (x .entity .size) (x .form .size)) marked (judged types (marksBegun list (x .entity .size) (x .form .size)) true vs) place
-      ≡ passOf (rowEntityRules list types place (row marked x [] vs))
+  -- the marks count where 14 and 15 are passed
+  answer-row : answerOf inside marked (judged types begin true vs) place ≡ passOf (rowEntityRules list types place (row marked x [] vs))
   unfolding answerOf
   answer-row =
-      rw (
-        judged-state types (marksBegun list (x .entity .size) (x .form .size)) true vs,
-        judged-right types (marksBegun list (x .entity .size) (x .form .size)) true vs,
-        check-part,
-        ← marks-begin types list (x .entity .size) (x .form .size) (map valueIn vs),
-      )
+      rw (judged-state types begin true vs, judged-right types begin true vs, check-part)
+      (ap passOf (then-same (entityCheck list types entity place) _ _ (λ u h. rw (marks-begin types list (x .entity .size) (x .form .size) (map valueIn vs) (accepts-keeps types entity list place u h)))))
 
   pub entity-told : (s : Said) (n : Signed) (inside : Bool) (g : Stepped) (j : Judged) (r : Pass) → s ≡ Entry marked n x → inside ≡ known list (x .entity .size) (x .form .size)
       → g ≡ marksBegun list (x .entity .size) (x .form .size) → j ≡ judged types g true vs → r ≡ answerOf inside marked j place → r ≡ saidEntity list types place vs s

@@ -1,4 +1,4 @@
--- An entity of a sheet value by value: the layout's state, and whether all marks so far were right.
+-- The code's form: an entity of a sheet value by value: the layout's state, and whether all marks so far were right.
 use mathlib.Core.Bool.{Bool, cond, _&&_}
 use mathlib.Core.List.{List, [], _∷_}
 use Prim.Native.Nat.{ℕ}
@@ -8,7 +8,8 @@ use Rattle.values.specs.Value.{Item}
 use Rattle.layouts.specs.declared.Stepped.{Stepped}
 use Rattle.layouts.specs.declared.Verdict.{Verdict}
 use Rattle.layouts.specs.declared.Verdict.the-variants.{Good as GoodVerdict}
-use Rattle.layouts.specs.Entities.{feed, mark, ended, fault}
+use Rattle.layouts.specs.Entities.{fault}
+use Rattle.layouts.specs.Walk.{feed, mark, ended}
 use Rattle.model.specs.Write.{equal}
 use Rattle.judging.specs.declared.Judged.{Judged}
 use Rattle.judging.specs.declared.Values.{Values}

@@ -4,6 +4,7 @@ use asking::heads::head_at;
 use asking::refer::reference_of;
 use asking::refer::references;
 use asking::table::class_at;
+use columns::DirectoryNumber;
 use columns::Fault;
 use columns::SheetLine;
 use entities::marks::mark_of;
@@ -23,7 +24,7 @@ ghost use mathlib.Core.Bool.{true};
 ghost use Prim.Native.Nat.{_+_, _≤_};
 ghost use lib.ListN.{length, drop};
 ghost use Rattle.layouts.specs.Named.{named};
-ghost use Rattle.layouts.specs.Stepping.{stepped};
+ghost use Rattle.layouts.specs.Walk.{stepped};
 ghost use Rattle.sheets.specs.Sheet.{linesIn};
 ghost use Rattle.rows.specs.Rows.{valuesFirst};
 ghost use Rattle.model.specs.Write.{equal, rowReferences};
@@ -64,7 +65,7 @@ fn named_at(classes: &[u8], n: usize, t: &[u8], v: Value) -> u8
             if neg {
                 return NO_ENTRY;
             }
-            class_at(classes, n, t, size)
+            class_at(classes, n, t, DirectoryNumber(size))
         }
         _ => NO_ENTRY,
     }
@@ -167,10 +168,9 @@ fn verdict_if(inside: bool, g: Stepped) -> Verdict
 }
 
 // 14 and 15 come before 18.
-fn answer_of(inside: bool, marked: bool, j: Judged, place: usize) -> Pass
-    ensures { λ r. ⌜ r ≡ answerOf inside marked j place ⌝ }
+fn answer_of(inside: bool, marked: bool, j: Judged, line: SheetLine) -> Pass
+    ensures { λ r. ⌜ r ≡ answerOf inside marked j (line .0) ⌝ }
 {
-    let line = SheetLine(place);
     let g = j.state;
     let verdict = verdict_if(inside, g);
     let right = same(marked, inside);
@@ -205,10 +205,10 @@ fn entity_of(
     t: &[u8],
     from: usize,
     said: Said,
-    place: usize,
+    line: SheetLine,
 ) -> Asked
     requires { ⌜ Tabled (now classes) n (now t) × (from ≤ length (now t)) ⌝ }
-    ensures { λ r. ⌜ r .found ≡ saidEntity list (sheetTypes (now (t .entry))) place (valuesFirst (linesIn (drop from (now (t .entry))))) said ⌝ }
+    ensures { λ r. ⌜ r .found ≡ saidEntity list (sheetTypes (now (t .entry))) (line .0) (valuesFirst (linesIn (drop from (now (t .entry))))) said ⌝ }
     ensures { λ r. ⌜ Skipped (now (t .entry)) from (r .next) (r .lines) ⌝ }
     ensures { λ r. ⌜ (from + r .lines ≤ r .next) × (r .next ≤ length (now (t .entry))) ⌝ }
 {
@@ -232,7 +232,7 @@ fn entity_of(
     let state = values.state;
     let right = values.right;
     let judged = Judged { state, right };
-    let found = answer_of(inside, marked, judged, place);
+    let found = answer_of(inside, marked, judged, line);
     Asked {
         found,
         next: values.next,
@@ -241,9 +241,16 @@ fn entity_of(
 }
 
 // Behind an entity with this refusal: what 10 refuses from `from` on comes first.
-fn refused_later(classes: &[u8], n: usize, t: &[u8], from: usize, place: usize, found: Pass) -> Pass
-    requires { ⌜ Tabled (now classes) n (now t) × (from ≤ length (now t)) × (place ≤ from + 1) ⌝ }
-    ensures { λ r. ⌜ r ≡ orElse (linesPass noRule (rowReferences (sheetTypes (now (t .entry)))) place (linesIn (drop from (now (t .entry))))) found ⌝ }
+fn refused_later(
+    classes: &[u8],
+    n: usize,
+    t: &[u8],
+    from: usize,
+    place: SheetLine,
+    found: Pass,
+) -> Pass
+    requires { ⌜ Tabled (now classes) n (now t) × (from ≤ length (now t)) × (place .0 ≤ from + 1) ⌝ }
+    ensures { λ r. ⌜ r ≡ orElse (linesPass noRule (rowReferences (sheetTypes (now (t .entry)))) (place .0) (linesIn (drop from (now (t .entry))))) found ⌝ }
 {
     let named = references(classes, n, t, from, place);
     match named {
@@ -266,18 +273,18 @@ pub fn named_rules(list: u64, classes: &[u8], n: usize, t: &[u8]) -> Pass
             return Pass::Good;
         }
         let said = head_at(t, at, end);
-        let named = reference_of(classes, n, t, said, place);
+        let named = reference_of(classes, n, t, said, SheetLine(place));
         match named {
             Pass::Refused { fault, line } => {
                 return Pass::Refused { fault, line };
             }
             Pass::Good => {
-                let asked = entity_of(list, classes, n, t, end + 1, said, place);
+                let asked = entity_of(list, classes, n, t, end + 1, said, SheetLine(place));
                 let found = asked.found;
                 match found {
                     Pass::Refused { fault, line } => {
                         let first = Pass::Refused { fault, line };
-                        return refused_later(classes, n, t, end + 1, place + 1, first);
+                        return refused_later(classes, n, t, end + 1, SheetLine(place + 1), first);
                     }
                     Pass::Good => {
                         at = asked.next;

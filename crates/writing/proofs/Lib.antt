@@ -4,3 +4,4 @@ pub mod Walking
 pub mod Ahead
 pub mod Counting
 pub mod Facts
+pub mod Marking

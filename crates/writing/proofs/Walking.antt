@@ -91,7 +91,7 @@ module _ (v : Verdict) (n : ℕ) (e : v ≡ Good n) (t : List ℕ) where
   walked-rules p h = h .so n e
 
   pub walked-table : (m : ℕ) (c : List ℕ) → v ≡ verdictOf t → m ≡ tableSize → IfGood v (c ≡ laid (replicate m 0) 0 (classesIn (linesIn t))) → Tabled c n t
-  walked-table m c ev em h = filled m c n t em (h .so n e) (good-count t v n ev e)
+  walked-table m c ev em h = filled m c n t em (h .so n e) (good-count t v n ev e) (sym ev ∙ e)
 
   pub walked-lines : (x : Tally) (k : Lines) → IfGood v (within x ≡ linesOfSheet (linesIn t)) → k ≡ within x → k ≡ linesOfSheet (linesIn t)
   walked-lines x k h q = q ∙ h .so n e

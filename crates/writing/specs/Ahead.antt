@@ -1,4 +1,4 @@
--- Value lines that are passed over: only the state and where they end in their record is kept.
+-- The code's form: value lines that are passed over: only the state and where they end in their record is kept.
 use mathlib.Core.Path.{_≡_}
 use mathlib.Core.List.{List}
 use Prim.Native.Nat.{ℕ, _+_}

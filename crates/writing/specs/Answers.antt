@@ -1,4 +1,4 @@
--- The answer of all checks of a sheet.
+-- The code's form: the answer of all checks of a sheet.
 use mathlib.Core.Path.{_≡_}
 use mathlib.Core.List.{List}
 use Prim.Native.Nat.{ℕ}

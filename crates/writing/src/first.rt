@@ -6,11 +6,15 @@ use asking::Pass;
 use asking::rules::rule_too;
 use asking::table::keep;
 use canonical::Tally;
+use columns::SheetLine;
 use said::end_of;
 use said::is_mark;
 use said::is_value;
 use said::line_at;
 use said::strict_at;
+use sheets::BEFORE_STARTS;
+use sheets::NO_FIELD;
+use sheets::NO_RUN;
 use sheets::State;
 use sheets::Step;
 use sheets::Verdict;
@@ -81,16 +85,16 @@ pub fn walk(classes: &mut [u8], t: &[u8]) -> Walked
 {
     let n = t.len();
     let mut st = State {
-        section: 0,
-        field: 2,
+        section: BEFORE_STARTS,
+        field: NO_FIELD,
         entries: 0,
-        run: 0,
+        run: SheetLine(NO_RUN),
         line: 0,
     };
     let mut tally = Tally {
         s: 0,
         global: 8,
-        field: 2,
+        field: NO_FIELD,
         d: 0,
         p: 0,
         at: 0,
@@ -109,7 +113,7 @@ pub fn walk(classes: &mut [u8], t: &[u8]) -> Walked
             };
         }
         let said = line_at(t, at, end);
-        pass = rule_too(pass, said, st.line + 1);
+        pass = rule_too(pass, said, SheetLine(st.line + 1));
         k = keep(classes, k, said);
         let more = tally_said(tally, said);
         match order::step_line(st, said) {

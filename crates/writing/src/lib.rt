@@ -1,9 +1,11 @@
-// Writing: the checks of a sheet in the paper's order, 1 (list only), 17, 8, each entry 9 and 13, all 10, each entry 14, 15, 18; and the lines of its file (19).
-// A sheet is walked twice. The first walk asks 17 of each line, and 8, 9 and 13, the first refusal of which is kept, since 17 comes before all
-// of them; on it the class of each entry is put into a table, and the lines of the file are counted. The second walk asks 10 of each entry, then 14, 15 and 18 with the value
-// lines behind it, and goes on behind these; behind a refused entity only 10 is left to ask.
-// `first` is the first walk. Crate `asking` has what it asks of a line and keeps of an entry, `judging` makes the second walk.
+// Writing: the checks of a sheet in the paper's order, 1 (list only), 17, 8, each entry 9 and 13, all 10, each entry 14, 15, 18; and
+// the lines of its file (19). A sheet is walked twice. The first walk asks 17 of each line, and 8, 9 and 13, the first refusal of which
+// is kept, since 17 comes before all of them; on it the class of each entry is put into a table, and the lines of the file are counted.
+// The second walk asks 10 of each entry, then 14, 15 and 18 with the value lines behind it, and goes on behind these; behind a refused
+// entity only 10 is left to ask. `first` is the first walk; `marks` makes another table for a sheet that has more entries than a file
+// can have. Crate `asking` has what it asks of a line and keeps of an entry, `judging` makes the second walk.
 mod first;
+mod marks;
 
 use asking::Pass;
 use asking::table::TABLE;
@@ -26,8 +28,8 @@ pub struct Past {
     pub at: usize,
 }
 
-// What the first walk tells: the verdict on a sheet's lines and, where that is good, whether all is good that lines are asked by themselves, and
-// what its lines come to.
+// What the first walk tells: the verdict on a sheet's lines and, where that is good, whether all is good that lines are asked by
+// themselves, and what its lines come to.
 pub struct Walked {
     pub verdict: Verdict,
     pub pass: Pass,
@@ -72,6 +74,7 @@ pub fn check(list: u64, t: &[u8]) -> Ruled
             line,
         },
         Verdict::Good(n) => {
+            marks::mark(&mut classes, n, t);
             let found = passes(list, &classes, n, t, first);
             match found {
                 Pass::Refused { fault, line } => Ruled::Refused { fault, line },

@@ -3,6 +3,7 @@ use mathlib.Core.Path.{refl}
 use borrow.Author.Needs.{needs}
 use Rattle.writing.proofs.Checking.{checks}
 use Rattle.writing.proofs.Walking.{walked-table, walked-rules, walked}
+use Rattle.writing.proofs.Marking.{tabled-marked}
 use Rattle.writing.proofs.check.Statement.{statement}
 use Rattle.writing.proofs.check.Tie as tie
 
@@ -18,7 +19,9 @@ check-spec =
     (λ c. search (needs, checks, walked))
     (λ c. search (needs, checks, walked))
     (λ c. search (needs, checks, walked))
-    (λ c κs. (walked-table _ _ (search (needs)) _ _ _ (search (needs)) refl (c .before .before .before .before .before .before .walk .ensures .1 .1 .0), search (needs, walked-rules)))
+    (λ c κs. search needs)
+    (λ c. search (needs, checks, walked))
+    (λ c κs. (tabled-marked _ _ _ _ (walked-table _ _ (search (needs)) _ _ _ (search (needs)) refl (c .before .before .before .before .before .before .before .before .before .walk .ensures .1 .1 .0)) (c .before .before .mark .ensures), search (needs, walked-rules)))
     (λ c. search (needs, checks, walked))
     (λ c. search (needs, checks, walked))
     (λ c. search (needs, checks, walked))

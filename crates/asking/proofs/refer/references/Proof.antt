@@ -12,11 +12,11 @@ use Rattle.asking.proofs.refer.references.Statement.{statement}
 use Rattle.asking.proofs.refer.references.Tie as tie
 
 abbrev Inv-loop : tie.InvT-loop
-Inv-loop classes n t from first size at₀ place₀ at place =
-    (place ≤ at + 1) × (at ≤ size) × (size ≡ length t) × (linesPass noRule (rowReferences (sheetTypes t)) place (linesIn (drop at t)) ≡ linesPass noRule (rowReferences (sheetTypes t)) first (linesIn (drop from t)))
+Inv-loop classes n t from size at₀ place₀ at place =
+    (place ≤ at + 1) × (at ≤ size) × (size ≡ length t) × (linesPass noRule (rowReferences (sheetTypes t)) place (linesIn (drop at t)) ≡ linesPass noRule (rowReferences (sheetTypes t)) place₀ (linesIn (drop from t)))
 
 abbrev μ-loop : tie.MeasureT-loop
-μ-loop classes n t from first size at₀ place₀ at place = size - at
+μ-loop classes n t from size at₀ place₀ at place = size - at
 
 pub references-spec : {M : Type 1} → statement M
 references-spec =

@@ -1,4 +1,4 @@
--- An even number and one past the last entry name none; the table has the others as far as it reaches, the sheet all.
+-- An even number and one past the last entry name none; the table has the others, if they are few; else a line that shows the number, or the sheet counted off.
 use borrow.Author.Needs.{needs}
 use Rattle.asking.proofs.Tables.{names}
 use Rattle.asking.proofs.table.class_at.Statement.{statement}
@@ -12,6 +12,8 @@ class-at-spec =
     (λ c. search (needs, names))
     (λ c. search (needs, names))
     (λ c. search (needs, names))
+    (λ c. search (needs, names))
+    (λ c κs. search (needs, names))
     (λ c. search (needs, names))
     (λ c κs. search (needs, names))
     (λ c. search (needs, names)))
