@@ -21,12 +21,9 @@ use Rattle.directory.specs.Lines.{entryAt, labelAt}
 use Rattle.directory.specs.Naming.{typesAt}
 use Rattle.directory.proofs.Slots.{label-columns}
 use Rattle.layouts.specs.Known.{known}
-use Rattle.layouts.specs.Entities.{marks}
-use Rattle.model.specs.Model.{marked}
 use Rattle.sheets.specs.Plain.{sized}
 use Rattle.sheets.specs.Sheet.{entry, last, lineOf}
-use Rattle.entities.specs.Taking.{entityWith}
-use Rattle.entities.specs.Marks.{carriedIn}
+use Rattle.entities.specs.Marks.{carriedIn, marksBegun, markedFrom}
 use Rattle.printing.specs.Bytes.{valueBytes, entityBytes}
 use Rattle.printing.specs.Taking.{Unrefused}
 use Rattle.printing.specs.Rows.{speltBytes, rowBytes, rowsBytes, SpeltReads, RowReads, RowsRead}
@@ -53,7 +50,7 @@ module _ (f : List ℕ) (k from end : ℕ) (ef : from ≡ 81 * (k + 1) + 56) (ee
 
 pub entity-of : {o o₁ o₂ : List ℕ} {at r₁ r₂ : ℕ} (list : ℕ) (types : List ℕ) (number : ℕ) (x : Fields) (label : List ℕ) (vs : List Item)
     → Wrote o at (lineOf (entry (known list (x .entity .size) (x .form .size)) (sized false number) x label) ++ (10 ∷ [])) o₁ r₁
-    → Wrote o₁ r₁ (valueBytes (marked (marks list types (entityWith (x .entity .size) (x .form .size) vs)) vs)) o₂ r₂
+    → Wrote o₁ r₁ (valueBytes (markedFrom types (marksBegun list (x .entity .size) (x .form .size)) vs)) o₂ r₂
     → Wrote o at (entityBytes list types number x label vs) o₂ r₂
 unfolding entityBytes
 entity-of list types number x label vs p q = then p q

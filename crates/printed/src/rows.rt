@@ -2,6 +2,7 @@
 use cards::LINE_BYTES;
 use carried::put_values;
 use columns::DirectoryNumber;
+use columns::ParameterLine;
 use columns::wide;
 use directory::EntryRead;
 use directory::Fields;
@@ -93,23 +94,14 @@ pub fn put_entity(
     )
 }
 
-// The directory number of entry i.
-fn number_of(i: usize) -> DirectoryNumber
-    requires { ⌜ i < 2 ^ 30 ⌝ }
-    ensures { λ r. ⌜ r .0 ≡ 2 * i + 1 ⌝ }
+// How many P lines stand before this one.
+fn before(line: ParameterLine) -> usize
+    ensures { λ r. ⌜ (r ≡ line .0 - 1) × (r < 2 ^ 32) ⌝ }
 {
-    let n = i as u32;
-    DirectoryNumber(2 * n + 1)
-}
-
-// How many P lines stand before the one with this number.
-fn before(number: u32) -> usize
-    ensures { λ r. ⌜ (r ≡ number - 1) × (r < 2 ^ 32) ⌝ }
-{
-    if number == 0 {
+    if line.0 == 0 {
         return 0;
     }
-    (number - 1) as usize
+    (line.0 - 1) as usize
 }
 
 // Entry i as its D lines tell it, if its P lines stand in the file.
@@ -125,11 +117,11 @@ fn put_spelt(
     d: u8,
     i: usize,
     x: Fields,
-    pointer: u32,
+    pointer: ParameterLine,
     count: u32,
 ) -> usize
-    requires { ⌜ (length (now file) ≤ 16200000) × (0 < c) × (0 < d) × (81 * (first + 2 * n) ≤ length (now file)) × (i < n) × (parameters ≤ 200000) × (at < 2 ^ 57) × SpeltReads (now file) parameters c d pointer count ⌝ }
-    ensures { λ r. ⌜ Wrote (now (out .entry)) at (speltBytes list (now (file .entry)) first n parameters c d i x pointer count) (now (out .exit)) r ⌝ }
+    requires { ⌜ (length (now file) ≤ 16200000) × (0 < c) × (0 < d) × (81 * (first + 2 * n) ≤ length (now file)) × (i < n) × (parameters ≤ 200000) × (at < 2 ^ 57) × SpeltReads (now file) parameters c d (pointer .0) count ⌝ }
+    ensures { λ r. ⌜ Wrote (now (out .entry)) at (speltBytes list (now (file .entry)) first n parameters c d i x (pointer .0) count) (now (out .exit)) r ⌝ }
     ensures { λ r. ⌜ r ≤ at + 15000000000 ⌝ }
 {
     let b = before(pointer);
@@ -140,7 +132,7 @@ fn put_spelt(
         return at;
     }
     let k = first + 2 * i;
-    let number = number_of(i);
+    let number = cards::entry_number(i);
     put_entity(
         out,
         at,
@@ -193,7 +185,7 @@ fn put_row(
             d,
             i,
             fields,
-            pointer.0,
+            pointer,
             lines,
         ),
     }

@@ -48,7 +48,7 @@ module _ (f : List ℕ) (c : Counts) (rd : Ready f c) where
       let q : first ≡ firstD c = omega arith in
       rw (q, eb) (sym types-ready)
 
-  module _ (from : ParameterLine) (count m l n : ℕ) (em : m ≡ from .0) (el : l ≡ parameterLine c m) (en : n ≡ count) where
+  module _ (from : ParameterLine) (count l n : ℕ) (el : l ≡ parameterLine c (from .0)) (en : n ≡ count) where
     pub record-stands : 1 ≤ from .0 → from .0 + count ≤ c .p + 1 → Stands f (81 * l) 64 n
     record-stands lo hi = record {
       wide = omega arith;
@@ -60,11 +60,11 @@ module _ (f : List ℕ) (c : Counts) (rd : Ready f c) where
     pub record-told : (list p d typ form first b : ℕ) (y : EntityAnswer) → first ≡ entryLine c 0 → b ≡ c .d
         → y ≡ entityPassOf list (typesAt f first (b / 2)) typ form (valuesAt 64 p d (textOf f (81 * l) 64 n) 0) → y ≡ recordAnswer list f c p d typ form (from .0) count
     unfolding recordAnswer
-    record-told list p d typ form first b y ef eb ey = rw (← em, ← el, ← en, ← types-are first b ef eb) ey
+    record-told list p d typ form first b y ef eb ey = rw (← el, ← en, ← types-are first b ef eb) ey
 
     pub record-weighed : (p d k : ℕ) → k ≡ carriedLength (carriedIn (valuesAt 64 p d (textOf f (81 * l) 64 n) 0)) → k ≡ carriedLength (recordCarried f c p d (from .0) count)
     unfolding recordCarried
-    record-weighed p d k ek = rw (← em, ← el, ← en) ek
+    record-weighed p d k ek = rw (← el, ← en) ek
 
 pub ruleset records = (entries-inside, record-stands, record-told, record-weighed)
 

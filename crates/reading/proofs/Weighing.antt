@@ -20,18 +20,19 @@ use Rattle.directory.specs.Lines.{entryAt, labelAt}
 use Rattle.directory.specs.Naming.{typesAt}
 use Rattle.directory.proofs.Slots.{label-columns}
 use Rattle.layouts.specs.Known.{known}
-use Rattle.layouts.specs.Entities.{marks}
-use Rattle.layouts.proofs.Runs.{marks-length}
+use Rattle.layouts.specs.Walk.{marksFrom}
+use Rattle.layouts.proofs.Runs.{marks-from}
 use Rattle.sheets.specs.Plain.{sized}
 use Rattle.sheets.specs.Sheet.{entry, lineOf}
 use Rattle.sheets.specs.Writing.{entryLength}
 use Rattle.sheets.proofs.Measured.{entry-length}
-use Rattle.model.specs.Model.{entityOf, marked}
+use Rattle.model.specs.Model.{marked}
 use Rattle.passes.specs.Passes.{fileLine}
 use Rattle.passes.specs.Ready.{Ready}
 use Rattle.passes.proofs.After.{never-wrong, pointer-some, pointer-stays}
 use Rattle.entities.specs.declared.EntityAnswer.{EntityAnswer}
 use Rattle.entities.specs.declared.EntityAnswer.the-variants.{Good as GoodEntity, Refused as RefusedEntity}
+use Rattle.entities.specs.Marks.{marksBegun, markedFrom}
 use Rattle.entities.specs.Walking.{carriedLength}
 use Rattle.printing.specs.Bytes.{valueBytes, entityBytes}
 use Rattle.printing.specs.Rows.{speltBytes, readBytes, rowBytes}
@@ -52,11 +53,11 @@ values-length (b ∷ bs) (v ∷ vs) h = simp length-append (omega (arith, values
 
 entity-length : (list : ℕ) (types : List ℕ) (n : ℕ) (x : Fields) (label : List ℕ) (vs : List Item)
     → length (entityBytes list types n x label vs) ≡ length (lineOf (entry (known list (x .entity .size) (x .form .size)) (sized false n) x label) ++ (10 ∷ [])) + carriedLength vs
-unfolding entityBytes
+unfolding entityBytes markedFrom
 entity-length list types n x label vs =
-    length-append (lineOf (entry (known list (x .entity .size) (x .form .size)) (sized false n) x label) ++ (10 ∷ [])) (valueBytes (marked (marks list types (entityOf x vs)) vs))
+    length-append (lineOf (entry (known list (x .entity .size) (x .form .size)) (sized false n) x label) ++ (10 ∷ [])) (valueBytes (markedFrom types (marksBegun list (x .entity .size) (x .form .size)) vs))
     ∙ ap (λ (k : ℕ). length (lineOf (entry (known list (x .entity .size) (x .form .size)) (sized false n) x label) ++ (10 ∷ [])) + k)
-    (values-length (marks list types (entityOf x vs)) vs (marks-length types list (entityOf x vs)))
+    (values-length (marksFrom types (marksBegun list (x .entity .size) (x .form .size)) vs) vs (marks-from types (marksBegun list (x .entity .size) (x .form .size)) vs))
 
 -- the directory number of entry i
 pub head-numbered : (n i : ℕ) (x : Fields) {r : ℕ} → n ≡ 2 * i + 1 → r ≡ entryLength n x 8 → r ≡ entryLength (2 * i + 1) x 8

@@ -1,4 +1,4 @@
--- The answers of the last pass over one entity and of all checks of a file.
+-- The code's form: the answers of the last pass over one entity and of all checks of a file.
 use mathlib.Core.List.{List, []}
 use Prim.Native.Nat.{ℕ, _+_, _*_}
 use Rattle.columns.specs.Columns.{lineBytes, textOf}

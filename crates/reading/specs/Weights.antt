@@ -1,4 +1,4 @@
--- The last pass with the bytes that the sheet takes behind its G lines.
+-- The code's form: the last pass with the bytes that the sheet takes behind its G lines.
 use Prim.Native.Nat.{ℕ, _+_, _*_, _≤_}
 use mathlib.Core.Bool.{false}
 use mathlib.Core.List.{List, [], _∷_, _++_}

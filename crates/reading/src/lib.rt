@@ -2,7 +2,6 @@
 // entity and measures its lines in the sheet on the way. Crate `weighing` has the last pass over all of them and all checks.
 use cards::Counts;
 use cards::LINE_BYTES;
-use columns::DirectoryNumber;
 use columns::Fault;
 use columns::FileLine;
 use columns::ParameterLine;
@@ -74,7 +73,7 @@ fn record_answer(
 {
     let total = wide(c.d) / 2;
     let first = cards::entry_line(c, 0);
-    let from = cards::parameter_line(c, wide(pointer.0));
+    let from = cards::parameter_line(c, pointer);
     let base = LINE_BYTES * from;
     let count = wide(lines);
     entitypass::entity_pass(
@@ -91,22 +90,13 @@ fn record_answer(
     )
 }
 
-// The directory number of entry i.
-fn number_of(i: usize) -> DirectoryNumber
-    requires { ⌜ i < 2 ^ 30 ⌝ }
-    ensures { λ r. ⌜ r .0 ≡ 2 * i + 1 ⌝ }
-{
-    let n = i as u32;
-    DirectoryNumber(2 * n + 1)
-}
-
 // The bytes of the entry line of entry i: its label fills a slot of the directory.
 fn head_len(i: usize, x: Fields) -> usize
     requires { ⌜ i < 2 ^ 30 ⌝ }
     ensures { λ r. ⌜ r ≡ entryLength (2 * i + 1) x slotColumns ⌝ }
     ensures { λ r. ⌜ r ≤ 388 ⌝ }
 {
-    let number = number_of(i);
+    let number = cards::entry_number(i);
     entry_len(number, x, SLOT_COLUMNS)
 }
 

@@ -1,18 +1,17 @@
--- A file that meets the rules is accepted. Assumes nothing.
+-- A file that meets the rules meets all that is asked of it before the last pass; the last pass: `Content`. Assumes nothing.
 use mathlib.Core.Path.{_≡_, refl, sym, ap, _∙_}
 use mathlib.Core.Bool.{Bool, true, false, cond, not, _&&_}
-use mathlib.Core.List.{List, _∷_}
-use Prim.Native.Nat.{ℕ, zero, suc, _+_, _-_, _*_, _≤_, _<_}
+use mathlib.Core.List.{List}
+use Prim.Native.Nat.{ℕ, zero, suc, _+_, _*_, _≤_, _<_}
 use native.Mathlib.Omega.{arith}
 use lib.Seq.{ext-getD}
-use lib.Dec.{leb, eqb}
-use borrow.Author.Tests.{le-leb, ne-eqb, eq-eqb, leb-true}
+use lib.Dec.{leb}
+use borrow.Author.Tests.{ne-eqb, leb-true}
 use Rattle.columns.specs.declared.SignedField.{SignedField}
 use Rattle.columns.specs.declared.SignedField.the-variants.{Number, Bad}
 use Rattle.columns.specs.Fixed.{signedOf}
 use Rattle.columns.specs.Refusal.{accepted}
-use Rattle.values.specs.Value.{Item, whole}
-use Rattle.records.specs.Record.{values, valuesAt, trimmed}
+use Rattle.values.specs.Value.{Item}
 use Rattle.records.specs.Global.{firstField}
 use Rattle.records.proofs.Globals.{delimits, parameter-above, record-above}
 use Rattle.cards.specs.declared.Counts.{Counts}
@@ -23,12 +22,7 @@ use Rattle.directory.specs.Rules.{entryRules, referenceRule}
 use Rattle.owners.specs.InFile.{sizeOr0, ownerIn, fromIn, countIn}
 use Rattle.owners.specs.Rules.{Owns}
 use Rattle.owners.proofs.Round.{owns-passes}
-use Rattle.layouts.specs.Known.{mostList, known}
-use Rattle.layouts.specs.Entities.{Entity, fault, verdict, entityCheck}
-use Rattle.layouts.specs.declared.Verdict.the-variants.{Good}
-use Rattle.sheets.specs.Sheet.{sheetText}
-use Rattle.model.specs.Model.{Carried, typeOf, entityOf, sheetOf}
-use Rattle.model.specs.Read.{GlobalRead, globalRead, given, globalText, entryIn, entriesIn, parametersOf, entityIn, listedType, referencesOf, referencesIn, firstEntry, lastPass, modelWith, before, readModel, reads}
+use Rattle.model.specs.Read.{GlobalRead, globalRead, given, entryIn, entriesIn, listedType, referencesOf, referencesIn, firstEntry, before}
 use Rattle.passes.specs.declared.Pass.{Pass}
 use Rattle.passes.specs.declared.Pass.the-variants.{Good as Passes}
 use Rattle.passes.specs.Passes.{passOf}
@@ -39,7 +33,6 @@ use Rattle.passes.proofs.Spellings.{stood, types-length, types-at}
 use Rattle.passes.proofs.Walks.{row-walk, entries-walk}
 use Rattle.passes.proofs.Whole.{good-entries}
 use Rattle.rewrap.specs.Rules.{GlobalIs, no-fields, fields, MeetsRules}
-use Rattle.rewrap.proofs.Spelling.{is-read}
 use Rattle.rewrap.proofs.GlobalRules.{global-complete}
 use Rattle.rewrap.proofs.Sound.{taken}
 
@@ -50,7 +43,7 @@ all-good check zero i h = refl
 all-good check (suc n) i h = rw (h i (omega arith) (omega arith)) (all-good check n (i + 1) (λ j lo hi. h j (omega arith) (omega arith)))
 
 -- delimiters are no blanks
-above : (t : List ℕ) (p d : ℕ) (vs : List Item) → GlobalIs t p d vs → (0 < p) × (0 < d)
+pub above : (t : List ℕ) (p d : ℕ) (vs : List Item) → GlobalIs t p d vs → (0 < p) × (0 < d)
 above t p d vs (no-fields e b) =
     let a = parameter-above 8 e (delimits t) in
     let c = record-above 8 e (delimits t) in
@@ -70,31 +63,19 @@ size-same (Number x) h = by (x .neg) (leb 1 (x .size)) refl h
     by true b e h = let z : _≡_ {A = ℕ} 0 1 = cc in absurd (omega arith)
 size-same Bad h = let z : _≡_ {A = ℕ} 0 1 = cc in absurd (omega arith)
 
--- an entity that is known keeps to its layout
-checked : (list : ℕ) (types : List ℕ) (e : Entity) (p : ℕ) → (known list (e .typ) (e .form) ≡ true → verdict types e ≡ Good) → entityCheck list types e p ≡ accepted tt
-unfolding entityCheck
-checked list types e p h = by (known list (e .typ) (e .form)) h
-  where
-    by : (k : Bool) → (k ≡ true → verdict types e ≡ Good) → cond k (fault (verdict types e) p) (accepted tt) ≡ accepted tt
-    by true h = rw (h refl)
-    by false h = refl
-
-eqb-self : (n : ℕ) → eqb n n ≡ true
-eqb-self n = eq-eqb n n refl
-
 module _ (list : ℕ) (f : List ℕ) (r : MeetsRules list f) where
   abbrev c : Counts
   c = r .counts
 
-  abbrev g : GlobalRead
+  abbrev pub g : GlobalRead
   g = globalRead (r .parameter) (r .closing) (given firstField (r .globals))
 
   -- entry i is what its lines say
-  listed : (i : ℕ) → i < entries c → entryOf f c i ≡ record { fields = r .entry i .fields; label = labelAt f (entryLine c i); pointer = r .entry i .pointer; lines = r .entry i .lines }
+  pub listed : (i : ℕ) → i < entries c → entryOf f c i ≡ record { fields = r .entry i .fields; label = labelAt f (entryLine c i); pointer = r .entry i .pointer; lines = r .entry i .lines }
   unfolding listedAt
   listed i h = ap (listedOf (labelAt f (entryLine c i))) (r .entry-meets i h .spelt)
 
-  types-same : r .types ≡ allTypes f c
+  pub types-same : r .types ≡ allTypes f c
   types-same =
       ext-getD 0 (r .types) (allTypes f c) (r .types-length ∙ sym (types-length f c))
       (λ i h. let l : i < entries c = omega (arith, r .types-length) in r .types-are i l ∙ (sym (ap listedType (listed i l)) ∙ sym (types-at f c i l)))
@@ -140,34 +121,8 @@ module _ (list : ℕ) (f : List ℕ) (r : MeetsRules list f) where
       ∙ all-good (λ j. passOf (referencesOf (allTypes f c) (firstEntry c + 2 * j) (entryOf f c j))) (entries c) 0
       (λ j lo hi. let h : j < entries c = omega arith in rw (listed j h, ← types-same, r .entry-meets j h .references-fit))
 
-  -- the values of entry i are read, and pass
-  values-pass : (i : ℕ) (p : ℕ) → i < entries c → passOf (entityIn list f c g (allTypes f c) p (entryOf f c i)) ≡ Passes
-  unfolding entityIn
-  values-pass i p h =
-      let m = r .entry-meets i h in
-      let a = above (globalText f c) (r .parameter) (r .closing) (r .globals) (r .global) in
-      let e : valuesAt 64 (r .parameter) (r .closing) (parametersOf f c (entryOf f c i)) 0 ≡ values (whole false (typeOf (r .entry i .fields)) ∷ m .values) (m .end) =
-      rw (listed i h) (is-read 64 (r .parameter) (r .closing) _ (a .0) (a .1) (omega arith) (m .spells)) in
-      rw e (rw (listed i h, ← types-same) (rw (eqb-self (typeOf (r .entry i .fields)), checked list (r .types) (entityOf (r .entry i .fields) (trimmed (m .values))) p (m .layout))))
-
-  last-passes : passOf (lastPass list f c g (allEntries f c)) ≡ Passes
-  unfolding lastPass
-  last-passes =
-      row-walk (entityIn list f c g (allTypes f c)) (entryOf f c) (firstEntry c) (entries c) 0 (firstEntry c) (omega arith)
-      ∙ all-good (λ j. passOf (entityIn list f c g (allTypes f c) (firstEntry c + 2 * j) (entryOf f c j))) (entries c) 0
-      (λ j lo hi. values-pass j (firstEntry c + 2 * j) (omega arith))
-
-  before-accepts : before f ≡ accepted (record { counts = c; global = g; listed = allEntries f c })
+  pub before-accepts : before f ≡ accepted (record { counts = c; global = g; listed = allEntries f c })
   unfolding before
   before-accepts =
       let u = taken (referencesIn c (allEntries f c)) references-pass in
       rw (rules f c .1 (r .lines), global-complete f c (r .lines .holds) (r .parameter) (r .closing) (r .globals) (r .global) (r .global-fits), good-entries f c entries-pass, u .1, owns-passes f c owns)
-
-  accepts-with : (ys : List Carried) → lastPass list f c g (allEntries f c) ≡ accepted ys → reads list f ≡ accepted (sheetText (sheetOf list (modelWith f c g ys)))
-  unfolding reads readModel
-  accepts-with ys h = rw (le-leb list mostList (r .list-ok), before-accepts, h)
-
-  pub complete-rules : (s : List ℕ) × (reads list f ≡ accepted s)
-  complete-rules =
-      let y = taken (lastPass list f c g (allEntries f c)) last-passes in
-      (sheetText (sheetOf list (modelWith f c g (y .0))), accepts-with (y .0) (y .1))

@@ -1,5 +1,7 @@
+pub mod Keeping
 pub mod Refusals
 pub mod Lists
+pub mod Entries
 pub mod Owners
 pub mod Spelling
 pub mod GlobalRules
@@ -8,3 +10,6 @@ pub mod Complete
 pub mod Exactly
 pub mod Answered
 pub mod Numbers
+pub mod Content
+pub mod NeverRoom
+pub mod Slots

@@ -27,10 +27,11 @@ use Rattle.directory.specs.Rules.{rangesOk, entryRules, referenceRule, referenc
 use Rattle.owners.specs.InFile.{sizeOr0, ownerIn, fromIn, countIn}
 use Rattle.owners.specs.Rules.{Owns}
 use Rattle.owners.proofs.Round.{passes-owns}
-use Rattle.layouts.specs.declared.Verdict.{Verdict}
-use Rattle.layouts.specs.declared.Verdict.the-variants.{Good, Layout, LayoutReference}
 use Rattle.layouts.specs.Known.{mostList, known}
-use Rattle.layouts.specs.Entities.{Entity, fault, verdict, entityCheck}
+use Rattle.layouts.specs.Fits.{Keeps}
+use Rattle.layouts.specs.Entities.{entityCheck}
+use Rattle.layouts.proofs.Fits.{accepts-keeps}
+use Rattle.rewrap.proofs.Keeping.{all-kept}
 use Rattle.model.specs.Model.{Carried, typeOf, entityOf}
 use Rattle.model.specs.Read.{Listed, Before, isType, byEntry, entryIn, byParameters, parametersOf, entityIn, referencesOf, referencesIn, firstEntry, lastPass, before, readModel, reads}
 use Rattle.passes.specs.declared.Pass.the-variants.{Good as Passes}
@@ -91,7 +92,7 @@ pub record Valued (list : ℕ) (types : List ℕ) (x : Fields) (c d : ℕ) (t : 
   pub items : List Item
   pub end : ℕ
   pub spells : Spells 64 c d t 0 (whole false (typeOf x) ∷ items) end
-  pub layout : known list (typeOf x) (x .form .size) ≡ true → verdict types (entityOf x (trimmed items)) ≡ Good
+  pub layout : known list (typeOf x) (x .form .size) ≡ true → Keeps types (entityOf x (trimmed items))
 
 -- the first value is the type
 pub first-is : (typ : ℕ) (vs : List Item) → isType typ (getD vs 0 default) ≡ true → vs ≡ whole false typ ∷ drop 1 vs
@@ -101,16 +102,6 @@ first-is typ (whole true n ∷ vs) h = let z : _≡_ {A = ℕ} 0 1 = cc in absur
 first-is typ (whole false n ∷ vs) h = rw (eqb-true n typ h)
 first-is typ (real neg m eneg e double ∷ vs) h = let z : _≡_ {A = ℕ} 0 1 = cc in absurd (never z)
 first-is typ (text bs ∷ vs) h = let z : _≡_ {A = ℕ} 0 1 = cc in absurd (never z)
-
-good-verdict : (v : Verdict) (p : ℕ) (u : Unit {0}) → fault v p ≡ accepted u → v ≡ Good
-good-verdict Good p u h = refl
-good-verdict Layout p u h = let z : _≡_ {A = ℕ} 0 1 = cc in absurd (never z)
-good-verdict LayoutReference p u h = let z : _≡_ {A = ℕ} 0 1 = cc in absurd (never z)
-
-pub good-entity : (list : ℕ) (types : List ℕ) (e : Entity) (p : ℕ) (u : Unit {0}) → entityCheck list types e p ≡ accepted u → known list (e .typ) (e .form) ≡ true
-    → verdict types e ≡ Good
-unfolding entityCheck
-good-entity list types e p u h k = good-verdict (verdict types e) p u (rw k at h)
 
 valued : (list : ℕ) (types : List ℕ) (p : ℕ) (e : Listed) (c d : ℕ) (t : List ℕ) (r : Values) (y : Carried) → valuesAt 64 c d t 0 ≡ r
     → byParameters list types p e r ≡ accepted y → Valued list types (e .fields) c d t
@@ -123,7 +114,7 @@ valued list types p e c d t (values vs end) y er h =
       items = drop 1 vs;
       end = end;
       spells = is-spelt 64 c d t 0 (whole false (typeOf (e .fields)) ∷ drop 1 vs) end (er ∙ ap (λ (l : List Item). values l end) first);
-      layout = good-entity list types (entityOf (e .fields) (trimmed (drop 1 vs))) p (s .value) (s .first);
+      layout = accepts-keeps types (entityOf (e .fields) (trimmed (drop 1 vs))) list p (s .value) (s .first);
     }
 
 -- ---- all entries
@@ -226,7 +217,7 @@ module _ (list : ℕ) (f : List ℕ) (b : Before) (ys : List Carried) (p : Passe
         values = v .items;
         end = v .end;
         spells = v .spells;
-        layout = v .layout;
+        layout = λ k. all-kept types (entryOf f c i .fields) (v .items) (v .layout k);
       }
 
   pub meets : list ≤ mostList → MeetsRules list f

@@ -1,6 +1,6 @@
 -- What the entry points answer, and what they leave in what was lent to them.
 use mathlib.Core.Bool.{cond, _&&_}
-use mathlib.Core.List.{List, [], _∷_, _++_, map}
+use mathlib.Core.List.{List, [], _∷_, _++_}
 use Prim.Native.Nat.{ℕ, _+_, _*_, _/_, _%_}
 use lib.ListN.{length, take, drop}
 use lib.Dec.{leb, ltb, eqb}
@@ -10,59 +10,56 @@ use Rattle.columns.specs.Columns.{blank, lineBytes}
 use Rattle.columns.specs.Decimal.{dec}
 use Rattle.columns.specs.Laid.{laid}
 use Rattle.cards.specs.Cards.{entryLine}
-use Rattle.directory.specs.Fields.{entryOf}
+use Rattle.directory.specs.Fields.{named, entryOf}
 use Rattle.directory.specs.Lines.{parameterLine, slots, slotColumns, slotsALine, seek, label}
-use Rattle.layouts.specs.Known.{mostList}
+use Rattle.layouts.specs.Known.{mostList, known}
 use Rattle.rewrap.specs.declared.Answer.{Answer}
 use Rattle.rewrap.specs.declared.Record.{Record}
+use Rattle.model.specs.Model.{typeOf}
 use Rattle.model.specs.Read.{Before, Listed, before, readModel, reads}
 use Rattle.model.specs.Write.{writes}
 
 -- ---- read and write: 16 if the buffer is too short, after all other refusals
 
--- 16, after all else
-unfoldable pub inRoom : {A : Type 0} → ℕ → Outcome (List A) → Outcome (List A)
-inRoom room o = o then λ bs. demand (leb (length bs) room) Room 0 then λ _. accepted bs
-
 -- number, place, length
 abbrev pub answer : ℕ → ℕ → ℕ → Answer
 answer n place len = record { number = n; place = place; length = len }
 
--- success returns 0 and the length; a refusal number and place
-unfoldable pub answerOf : {A : Type 0} → Outcome (List A) → Answer
-answerOf (accepted bs) = answer 0 0 (length bs)
-answerOf (refused n place) = answer (number n) place 0
+-- with room for so many: success returns 0 and the length; 16 the length that is needed; any other refusal number and place
+unfoldable pub answerOf : {A : Type 0} → ℕ → Outcome (List A) → Answer
+answerOf room (accepted bs) = answer (cond (leb (length bs) room) 0 (number Room)) 0 (length bs)
+answerOf room (refused n place) = answer (number n) place 0
 
 -- bytes past the length are untouched, on a refusal all
 unfoldable pub leftIn : List ℕ → Outcome (List ℕ) → List ℕ
-leftIn out (accepted bs) = laid out 0 bs
+leftIn out (accepted bs) = cond (leb (length bs) (length out)) (laid out 0 bs) out
 leftIn out (refused n place) = out
-
--- reading into a buffer of so many bytes, and writing
-unfoldable pub readsInto : ℕ → List ℕ → ℕ → Outcome (List ℕ)
-readsInto list f room = inRoom room (reads list f)
-
--- writing into a buffer of so many bytes
-unfoldable pub writesInto : ℕ → List ℕ → ℕ → Outcome (List ℕ)
-writesInto list s room = inRoom room (writes list s)
 
 -- ---- the directory table: one slot an entry; filled exactly if reading accepts the file
 
--- the record of an entry
-abbrev pub recordOf : Listed → Record
-recordOf e = record { entry = entryOf (e .fields); label = e .label; pointer = parameterLine (e .pointer); lines = e .lines }
+-- the record of an entry under a list: its entry line's fields, where n is its directory number, its parameter pointer and line count
+abbrev pub recordOf : ℕ → ℕ → Listed → Record
+recordOf list n e = record {
+  known = known list (typeOf (e .fields)) (e .fields .form .size);
+  number = named n;
+  entry = entryOf (e .fields);
+  label = e .label;
+  pointer = parameterLine (e .pointer);
+  lines = e .lines;
+}
+
+-- those of the entries from the k-th on
+unfoldable pub recordsFrom : ℕ → ℕ → List Listed → List Record
+recordsFrom list k [] = []
+recordsFrom list k (e ∷ es) = recordOf list (2 * k + 1) e ∷ recordsFrom list (k + 1) es
 
 -- the records of a file that reading accepts
 unfoldable pub listedIn : ℕ → List ℕ → Outcome (List Record)
-listedIn list f = readModel list f then λ _. before f then λ b. accepted (map recordOf (b .listed))
+listedIn list f = readModel list f then λ _. before f then λ b. accepted (recordsFrom list 0 (b .listed))
 
--- the records, if there are slots enough
-unfoldable pub tableInto : ℕ → List ℕ → ℕ → Outcome (List Record)
-tableInto list f room = inRoom room (listedIn list f)
-
--- slots past the entries stay
+-- slots past the entries stay, on a refusal all
 unfoldable pub slotsLeft : List Record → Outcome (List Record) → List Record
-slotsLeft table (accepted rs) = rs ++ drop (length rs) table
+slotsLeft table (accepted rs) = cond (leb (length rs) (length table)) (rs ++ drop (length rs) table) table
 slotsLeft table (refused n place) = table
 
 -- ---- the name to show: the label columns where they stand in the file, or the stand-in where those are blank
@@ -111,7 +108,14 @@ abbrev pub printed : Outcome (List ℕ) → List ℕ
 printed (accepted s) = s
 printed (refused n place) = 88 ∷ (9 ∷ (dec (number n) ++ (9 ∷ (dec place ++ (10 ∷ [])))))
 
+-- 1 or 16 by these limits
+unfoldable pub withinLimits : List ℕ → Outcome (List ℕ)
+withinLimits input =
+    demand (leb (length input) mostInput) ListOrLength 0
+    then λ _. reads mostList input
+    then λ s. demand (leb (length s) mostOutput) Room 0
+    then λ _. accepted s
+
 -- what the program prints
 unfoldable pub igsheet : List ℕ → List ℕ
-igsheet input =
-    printed (demand (leb (length input) mostInput) ListOrLength 0 then λ _. readsInto mostList input mostOutput)
+igsheet input = printed (withinLimits input)

@@ -1,4 +1,4 @@
--- Cases a to l of document 01: what stands on the left is read as what stands on the right, or refused with that number.
+-- Worked examples: cases a to l of document 01. What stands on the left is read as what stands on the right, or refused with that number.
 use mathlib.Core.Path.{_≡_, refl}
 use mathlib.Core.Bool.{cond}
 use mathlib.Core.List.{List, [], _∷_, _++_, map}

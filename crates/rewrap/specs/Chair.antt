@@ -1,4 +1,4 @@
--- The worked example of document 01, both ways: the file of a chair's pin in canonical form, and its sheet of 107 bytes.
+-- Worked examples: that of document 01, both ways: the file of a chair's pin in canonical form, and its sheet of 107 bytes.
 use mathlib.Core.Path.{_≡_, refl}
 use mathlib.Core.List.{List, [], _∷_, _++_}
 use Prim.Native.Nat.{ℕ}
@@ -26,15 +26,15 @@ use Rattle.cards.specs.Cards.{linesFrom, linesOf as cards-linesOf, lineOk, seve
 use Rattle.cards.specs.Written.{zeros, lineOf as cards-lineOf, section, totalsOf, fileLines, fileOf}
 use Rattle.owners.specs.InFile.{numberOr0, sizeOr0, sizeAt, nameOf, ownerIn, fromIn, countIn, ownersIn}
 use Rattle.owners.specs.Owners.{nameIs, entryOwns, inRange as owners-inRange, lineOwned, ownersOf, startOf as owners-startOf}
-use Rattle.layouts.specs.Entities.{run as layouts-run, verdictFrom, verdict, entityCheck, marksFrom, marks}
+use Rattle.layouts.specs.Entities.{everywhere, verdict, entityCheck, referencePlaces, marks}
+use Rattle.layouts.specs.Fits.{placesOf, asked}
 use Rattle.layouts.specs.Known.{known}
-use Rattle.layouts.specs.Layout.{paper, table, startOf as layouts-startOf, placeAt, bitOf}
-use Rattle.layouts.specs.Machine.{settle, onward, takes, start, step, finish as layouts-finish, end}
+use Rattle.layouts.specs.Layout.{paper, bitOf}
 use Rattle.layouts.specs.Named.{named}
-use Rattle.sheets.specs.Line.{run as sheets-run, isLabel, numOf, numbersOf, entryOf as sheets-entryOf, labelOf, spell, spells, entryLine}
+use Rattle.sheets.specs.Line.{run as sheets-run, isLabel, isEntryNumber, entryNumber, numbersOf, entryOf as sheets-entryOf, labelOf, spell, spells, entryLine}
 use Rattle.sheets.specs.Order.{closed as sheets-closed, startStep, globalStep, entryStep, valueStep, lastStep, noneStep, finish as sheets-finish, goLines, verdictOf, readSheet}
-use Rattle.sheets.specs.Plain.{digitAfter, sizeFrom, minusOf, signedPlain, statusFrom, statusPlain}
-use Rattle.sheets.specs.Sheet.{startLines as sheets-startLines, globalLines as sheets-globalLines, valueLines, rowLines, linesOf as sheets-linesOf, lineOf as sheets-lineOf, textOf as sheets-textOf, sheetText, isMark, isStart, startLine, globalLine, lastLine, byMark, saysOf, saidBy, into, piecesOf, lastPiece, saidByAll, linesIn, partsOf, sheetOf as sheets-sheetOf}
+use Rattle.sheets.specs.Plain.{isPlain, isSigned, signedNumber, allDigits, isStatus, statusNumber}
+use Rattle.sheets.specs.Sheet.{startLines as sheets-startLines, globalLines as sheets-globalLines, valueLines, rowLines, linesOf as sheets-linesOf, lineOf as sheets-lineOf, textOf as sheets-textOf, sheetText, isMark, isStart, startLine, isFieldNumber, isNumbered, globalLine, lastLine, byMark, saysOf, saidBy, into, piecesOf, lastPiece, saidByAll, linesIn, partsOf, sheetOf as sheets-sheetOf}
 use Rattle.model.specs.Canonical.{startLines as model-startLines, filled, globalText, globalLines as model-globalLines, parameterText, blockOf, directoryLines, parameterLines, lineTotal, canonical}
 use Rattle.model.specs.Model.{marked, rowOf, sheetOf as model-sheetOf, modelOf}
 use Rattle.model.specs.Read.{startsIn, noStray, given, globalIn, entryIn, entriesIn, referencesIn, entityIn, lastPass, before, readModel, reads}
@@ -75,10 +75,10 @@ sheet-length = refl
 
 -- the file is read to the sheet
 pub read-chair : reads mostList file ≡ accepted sheet
-unfolding columns printable blank sameBytes joined lineAt columns-textOf lastDigits dec signedDec toRight toLeft firstNot upFrom digitsOf fieldOf isNumber signedOf eachAt headOf power powerAt numberOf strictOf spelled firm gap piece flow lineCount cut inLines mayDelimit opened recordDelimiter openingOf canonicalOpening kindOf records-inRange globalFits nextAt valueAt valuesFrom valuesAt positionOf startAt classOf classAt directory-entryOf slots slotIn numberIn numbersFrom entryAt labelAt entryLines statusOk rangesOk entryRules referenceRule linesFrom cards-linesOf lineOk seven placeOf numberedOf stepOf pass tells totals closes cards-closed lengthOk cardsOf zeros cards-lineOf section totalsOf fileLines fileOf numberOr0 sizeOr0 sizeAt nameOf ownerIn fromIn countIn ownersIn nameIs entryOwns owners-inRange lineOwned ownersOf owners-startOf layouts-run verdictFrom verdict entityCheck marksFrom marks known paper table layouts-startOf placeAt bitOf settle onward takes start step layouts-finish end named sheets-run isLabel numOf numbersOf sheets-entryOf labelOf spell spells entryLine sheets-closed startStep globalStep entryStep valueStep lastStep noneStep sheets-finish goLines verdictOf readSheet digitAfter sizeFrom minusOf signedPlain statusFrom statusPlain sheets-startLines sheets-globalLines valueLines rowLines sheets-linesOf sheets-lineOf sheets-textOf sheetText isMark isStart startLine globalLine lastLine byMark saysOf saidBy into piecesOf lastPiece saidByAll linesIn partsOf sheets-sheetOf model-startLines filled globalText model-globalLines parameterText blockOf directoryLines parameterLines lineTotal canonical marked rowOf model-sheetOf modelOf startsIn noStray given globalIn entryIn entriesIn referencesIn entityIn lastPass before readModel reads sheetRules writeModel writes
+unfolding columns printable blank sameBytes joined lineAt columns-textOf lastDigits dec signedDec toRight toLeft firstNot upFrom digitsOf fieldOf isNumber signedOf eachAt headOf power powerAt numberOf strictOf spelled firm gap piece flow lineCount cut inLines mayDelimit opened recordDelimiter openingOf canonicalOpening kindOf records-inRange globalFits nextAt valueAt valuesFrom valuesAt positionOf startAt classOf classAt directory-entryOf slots slotIn numberIn numbersFrom entryAt labelAt entryLines statusOk rangesOk entryRules referenceRule linesFrom cards-linesOf lineOk seven placeOf numberedOf stepOf pass tells totals closes cards-closed lengthOk cardsOf zeros cards-lineOf section totalsOf fileLines fileOf numberOr0 sizeOr0 sizeAt nameOf ownerIn fromIn countIn ownersIn nameIs entryOwns owners-inRange lineOwned ownersOf owners-startOf verdict entityCheck marks known paper bitOf named sheets-run isLabel isEntryNumber entryNumber numbersOf sheets-entryOf labelOf spell spells entryLine sheets-closed startStep globalStep entryStep valueStep lastStep noneStep sheets-finish goLines verdictOf readSheet isPlain isSigned signedNumber allDigits isStatus statusNumber sheets-startLines sheets-globalLines valueLines rowLines sheets-linesOf sheets-lineOf sheets-textOf sheetText isMark isStart startLine isFieldNumber isNumbered globalLine lastLine byMark saysOf saidBy into piecesOf lastPiece saidByAll linesIn partsOf sheets-sheetOf model-startLines filled globalText model-globalLines parameterText blockOf directoryLines parameterLines lineTotal canonical marked rowOf model-sheetOf modelOf startsIn noStray given globalIn entryIn entriesIn referencesIn entityIn lastPass before readModel reads sheetRules writeModel writes everywhere referencePlaces placesOf asked
 read-chair = refl
 
 -- the sheet is written to the file
 pub written-chair : writes mostList sheet ≡ accepted file
-unfolding columns printable blank sameBytes joined lineAt columns-textOf lastDigits dec signedDec toRight toLeft firstNot upFrom digitsOf fieldOf isNumber signedOf eachAt headOf power powerAt numberOf strictOf spelled firm gap piece flow lineCount cut inLines mayDelimit opened recordDelimiter openingOf canonicalOpening kindOf records-inRange globalFits nextAt valueAt valuesFrom valuesAt positionOf startAt classOf classAt directory-entryOf slots slotIn numberIn numbersFrom entryAt labelAt entryLines statusOk rangesOk entryRules referenceRule linesFrom cards-linesOf lineOk seven placeOf numberedOf stepOf pass tells totals closes cards-closed lengthOk cardsOf zeros cards-lineOf section totalsOf fileLines fileOf numberOr0 sizeOr0 sizeAt nameOf ownerIn fromIn countIn ownersIn nameIs entryOwns owners-inRange lineOwned ownersOf owners-startOf layouts-run verdictFrom verdict entityCheck marksFrom marks known paper table layouts-startOf placeAt bitOf settle onward takes start step layouts-finish end named sheets-run isLabel numOf numbersOf sheets-entryOf labelOf spell spells entryLine sheets-closed startStep globalStep entryStep valueStep lastStep noneStep sheets-finish goLines verdictOf readSheet digitAfter sizeFrom minusOf signedPlain statusFrom statusPlain sheets-startLines sheets-globalLines valueLines rowLines sheets-linesOf sheets-lineOf sheets-textOf sheetText isMark isStart startLine globalLine lastLine byMark saysOf saidBy into piecesOf lastPiece saidByAll linesIn partsOf sheets-sheetOf model-startLines filled globalText model-globalLines parameterText blockOf directoryLines parameterLines lineTotal canonical marked rowOf model-sheetOf modelOf startsIn noStray given globalIn entryIn entriesIn referencesIn entityIn lastPass before readModel reads sheetRules writeModel writes
+unfolding columns printable blank sameBytes joined lineAt columns-textOf lastDigits dec signedDec toRight toLeft firstNot upFrom digitsOf fieldOf isNumber signedOf eachAt headOf power powerAt numberOf strictOf spelled firm gap piece flow lineCount cut inLines mayDelimit opened recordDelimiter openingOf canonicalOpening kindOf records-inRange globalFits nextAt valueAt valuesFrom valuesAt positionOf startAt classOf classAt directory-entryOf slots slotIn numberIn numbersFrom entryAt labelAt entryLines statusOk rangesOk entryRules referenceRule linesFrom cards-linesOf lineOk seven placeOf numberedOf stepOf pass tells totals closes cards-closed lengthOk cardsOf zeros cards-lineOf section totalsOf fileLines fileOf numberOr0 sizeOr0 sizeAt nameOf ownerIn fromIn countIn ownersIn nameIs entryOwns owners-inRange lineOwned ownersOf owners-startOf verdict entityCheck marks known paper bitOf named sheets-run isLabel isEntryNumber entryNumber numbersOf sheets-entryOf labelOf spell spells entryLine sheets-closed startStep globalStep entryStep valueStep lastStep noneStep sheets-finish goLines verdictOf readSheet isPlain isSigned signedNumber allDigits isStatus statusNumber sheets-startLines sheets-globalLines valueLines rowLines sheets-linesOf sheets-lineOf sheets-textOf sheetText isMark isStart startLine isFieldNumber isNumbered globalLine lastLine byMark saysOf saidBy into piecesOf lastPiece saidByAll linesIn partsOf sheets-sheetOf model-startLines filled globalText model-globalLines parameterText blockOf directoryLines parameterLines lineTotal canonical marked rowOf model-sheetOf modelOf startsIn noStray given globalIn entryIn entriesIn referencesIn entityIn lastPass before readModel reads sheetRules writeModel writes everywhere referencePlaces placesOf asked
 written-chair = refl

@@ -3,10 +3,11 @@ use mathlib.Core.Path.{_≡_}
 use mathlib.Core.Bool.{Bool, true, false}
 use mathlib.Core.List.{List, [], _∷_, map}
 use mathlib.Core.Logic.{_⊎_}
-use Prim.Native.Nat.{ℕ, _≤_, _<_}
+use Prim.Native.Nat.{ℕ, _+_, _*_, _≤_, _<_}
+use lib.ListN.{length, take, drop}
 use Rattle.columns.specs.declared.Fault.{Fault}
 use Rattle.columns.specs.declared.Fault.the-variants.{TooLong}
-use Rattle.columns.specs.Refusal.{Outcome, accepted, refused}
+use Rattle.columns.specs.Refusal.{Outcome, accepted, refused, eachAt}
 use Rattle.values.specs.Value.{Item}
 use Rattle.cards.specs.Cards.{mostLines, entries}
 use Rattle.directory.specs.declared.Fields.{Fields}
@@ -14,28 +15,24 @@ use Rattle.layouts.specs.Known.{mostList, known, Inside}
 use Rattle.layouts.specs.Larger.{Late}
 use Rattle.sheets.specs.Sheet.{Row, Sheet, row, sheetText, linesIn, sheetOf as sheetOfLines}
 use Rattle.rewrap.specs.declared.Record.{Record}
-use Rattle.model.specs.Model.{Model, typeOf, valueIn, sheetOf, modelOf}
+use Rattle.model.specs.Model.{Carried, Model, typeOf, valueIn, sheetOf, modelOf}
 use Rattle.model.specs.Canonical.{lineTotal, canonical}
-use Rattle.model.specs.Read.{Before, before, readModel, reads}
+use Rattle.model.specs.Read.{Listed, Before, two, listedType, entityIn, firstEntry, before, readModel, reads}
 use Rattle.model.specs.Write.{writes}
+use Rattle.rewrap.specs.Words.{Accepts, Iff}
 use Rattle.rewrap.specs.Rules.{MeetsRules, InRange}
-use Rattle.rewrap.specs.Answers.{leftIn, slotsLeft}
-
-abbrev Accepts : {A : Type 0} → Outcome A → Type 0
-Accepts {A} o = (a : A) × (o ≡ accepted a)
-
-abbrev Iff : Type 0 → Type 0 → Type 0
-Iff A B = (A → B) × (B → A)
+use Rattle.rewrap.specs.Answers.{answerOf, leftIn, slotsLeft}
 
 -- ---- demand 1: every input has an answer (the definitions are functions), and a refusal changes nothing that was lent
 
 -- of an output buffer
 abbrev pub RefusalKeepsBuffer : Type 0
-RefusalKeepsBuffer = (o : Outcome (List ℕ)) (out : List ℕ) (n : Fault) (place : ℕ) → o ≡ refused n place → leftIn out o ≡ out
+RefusalKeepsBuffer = (o : Outcome (List ℕ)) (out : List ℕ) → (answerOf (length out) o .number ≡ 0 → ⊥) → leftIn out o ≡ out
 
 -- of a lent table
 abbrev pub RefusalKeepsTable : Type 0
-RefusalKeepsTable = (o : Outcome (List Record)) (table : List Record) (n : Fault) (place : ℕ) → o ≡ refused n place → slotsLeft table o ≡ table
+RefusalKeepsTable = (o : Outcome (List Record)) (table : List Record) → (answerOf (length table) o .number ≡ 0 → ⊥)
+    → slotsLeft table o ≡ table
 
 -- ---- demand 2
 
@@ -70,12 +67,17 @@ pub record OneInside (small large : ℕ) : Type 0 where
   pub large-list : large ≤ mostList
   pub inside : Inside small large
 
--- two entries of the two sheets: the same line for line; or only the larger list knows the entity, and the lines differ in their marks alone
+-- a value marked V, whatever its mark
+abbrev pub unmarked : Bool × Item → Bool × Item
+unmarked v = (false, valueIn v)
+
+-- two entries of the two sheets: the same line for line; or only the larger list knows the entity: its letter is U for E, and its values
+-- are the same, all of them marked V
 pub data RowsAlike (small large : ℕ) : Row → Row → Type 0 where
   same : (r : Row) → RowsAlike small large r r
-  marks-only : (x : Fields) (label : List ℕ) (vs ws : List (Bool × Item)) → known small (typeOf x) (x .form .size) ≡ false
-      → known large (typeOf x) (x .form .size) ≡ true → map valueIn vs ≡ map valueIn ws
-      → RowsAlike small large (row false x label vs) (row true x label ws)
+  marks-only : (x : Fields) (label : List ℕ) (vs : List (Bool × Item))
+      → known small (typeOf x) (x .form .size) ≡ false → known large (typeOf x) (x .form .size) ≡ true
+      → RowsAlike small large (row false x label (map unmarked vs)) (row true x label vs)
 
 -- all entries of the two sheets, in order
 pub data AllAlike (small large : ℕ) : List Row → List Row → Type 0 where
@@ -100,9 +102,40 @@ SameBytes = (small large : ℕ) → OneInside small large → (f : List ℕ) (m 
     → ((lineTotal m ≤ mostLines) × ((writes small (sheetText (sheetOf small m)) ≡ accepted (canonical m)) × (writes large (sheetText (sheetOf large m)) ≡ accepted (canonical m))))
     ⊎ ((mostLines < lineTotal m) × ((writes small (sheetText (sheetOf small m)) ≡ refused TooLong 0) × (writes large (sheetText (sheetOf large m)) ≡ refused TooLong 0)))
 
+-- what the last pass says of an entry, whose place is this
+abbrev pub entityUnder : ℕ → List ℕ → Before → ℕ → Listed → Outcome Carried
+entityUnder list f b place e = entityIn list f (b .counts) (b .global) (map listedType (b .listed)) place e
+
+-- a pass over entries, of two lines each from a place on, stops at entry i, counted from 0: the entries before it pass, and it is refused
+pub record StopsAt {A B : Type 0} (f : ℕ → A → Outcome B) (place : ℕ) (es : List A) (i : ℕ) (n : Fault) (p : ℕ) : Type 0 where
+  pub passed : List B
+  pub pass : eachAt two f place (take i es) ≡ accepted passed
+  pub entry : A
+  pub others : List A
+  pub stands : drop i es ≡ entry ∷ others
+  pub stops : f (place + 2 * i) entry ≡ refused n p
+
+-- the last pass under a list
+abbrev pub LastStops : ℕ → List ℕ → Before → ℕ → Fault → ℕ → Type 0
+LastStops list f b i n p = StopsAt (entityUnder list f b) (firstEntry (b .counts)) (b .listed) i n p
+
+-- all before the last pass is accepted; there the smaller list stops at entry i, and the larger at entry j before it
+pub record EarlierEntry (small large : ℕ) (f : List ℕ) (n : Fault) (p : ℕ) (m : Fault) (q : ℕ) : Type 0 where
+  pub reached : Before
+  pub before-last : before f ≡ accepted reached
+  pub i : ℕ
+  pub j : ℕ
+  pub earlier : j < i
+  pub smaller : LastStops small f reached i n p
+  pub larger : LastStops large f reached j m q
+
 -- d. "if the smaller refuses, the larger gives the same refusal, or 14 or 15 at an earlier directory entry, the last pass over entities counting as
 -- later than all before it": where the smaller refuses before the last pass the larger refuses alike
 abbrev pub LargerRefuses : Type 0
 LargerRefuses = (small large : ℕ) → OneInside small large → (f : List ℕ) (n : Fault) (p : ℕ) → reads small f ≡ refused n p
-    → (reads large f ≡ refused n p)
-    ⊎ ((b : Before) × ((before f ≡ accepted b) × ((m : Fault) × ((q : ℕ) × ((Late m) × ((q < p) × (reads large f ≡ refused m q)))))))
+    → (reads large f ≡ refused n p) ⊎ ((m : Fault) × (q : ℕ) × (reads large f ≡ refused m q) × Late m × EarlierEntry small large f n p m q)
+
+-- where all before the last pass is accepted, a refusal is that of one entry
+abbrev pub RefusedAtEntry : Type 0
+RefusedAtEntry = (list : ℕ) (f : List ℕ) (b : Before) → list ≤ mostList → before f ≡ accepted b → (n : Fault) (p : ℕ)
+    → (reads list f ≡ refused n p → (i : ℕ) × LastStops list f b i n p) × ((i : ℕ) → LastStops list f b i n p → reads list f ≡ refused n p)

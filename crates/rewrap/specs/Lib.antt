@@ -1,6 +1,9 @@
+pub mod Words
 pub mod Rules
 pub mod Answers
 pub mod Demands
 pub mod Cases
 pub mod Chair
 pub mod Reading
+pub mod Content
+pub mod Slots

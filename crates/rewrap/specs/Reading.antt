@@ -1,4 +1,4 @@
--- The sheet of a file as the code goes about it: its bytes alone.
+-- The code's form: the sheet of a file as the code goes about it: its bytes alone.
 use mathlib.Core.List.{List, []}
 use Prim.Native.Nat.{ℕ}
 use Rattle.columns.specs.Refusal.{Outcome, accepted, refused}

@@ -9,7 +9,7 @@ use Rattle.values.specs.declared.Value.{Value}
 use Rattle.values.specs.Value.{Item, default, whole, itemOf, seen}
 use Rattle.records.specs.declared.Got.the-variants.{Found}
 use Rattle.records.specs.declared.Opening.the-variants.{Opened}
-use Rattle.records.specs.Record.{valueAt, trimmed}
+use Rattle.records.specs.Record.{valueAt}
 use Rattle.records.specs.Global.{openingOf, firstField, globalFits}
 use Rattle.cards.specs.declared.Counts.{Counts}
 use Rattle.cards.specs.Cards.{entries, entryLine, parameterLine}
@@ -20,9 +20,8 @@ use Rattle.directory.specs.Fields.{entryOf}
 use Rattle.directory.specs.Lines.{entryAt, parameterLine as lineNumber}
 use Rattle.directory.specs.Rules.{rangesOk, references, allFit}
 use Rattle.owners.specs.InFile.{ownerIn}
-use Rattle.layouts.specs.declared.Verdict.the-variants.{Good}
 use Rattle.layouts.specs.Known.{mostList, known}
-use Rattle.layouts.specs.Entities.{verdict}
+use Rattle.layouts.specs.Fits.{Keeps}
 use Rattle.model.specs.Model.{typeOf, entityOf}
 use Rattle.model.specs.Read.{globalText}
 
@@ -64,7 +63,7 @@ pub record EntryMeets (list : ℕ) (f : List ℕ) (counts : Counts) (c d : ℕ) 
   pub end : ℕ
   pub spells : Spells 64 c d (textOf f (lineBytes * parameterLine counts (e .pointer)) 64 (e .lines)) 0 (whole false (typeOf (e .fields)) ∷ values) end
   -- a known entity keeps to its layout
-  pub layout : known list (typeOf (e .fields)) (e .fields .form .size) ≡ true → verdict types (entityOf (e .fields) (trimmed values)) ≡ Good
+  pub layout : known list (typeOf (e .fields)) (e .fields .form .size) ≡ true → Keeps types (entityOf (e .fields) values)
 
 -- an entry's type
 abbrev pub entryType : EntryIs → ℕ

@@ -2,6 +2,7 @@
 use crate::Answer;
 use columns::Fault;
 ghost use mathlib.Core.Path.{_≡_};
+ghost use Rattle.columns.specs.declared.Fault.the-variants.{Room};
 ghost use Rattle.columns.specs.Refusal.{number};
 ghost use Rattle.rewrap.specs.Answers.{answer};
 
@@ -41,5 +42,16 @@ pub fn refusal(fault: Fault, place: usize) -> Answer
         number,
         place: place as u64,
         length: 0,
+    }
+}
+
+// 16: how much room is needed.
+pub fn no_room(needed: usize) -> Answer
+    ensures { λ r. ⌜ r ≡ answer (number Room) 0 needed ⌝ }
+{
+    Answer {
+        number: 16,
+        place: 0,
+        length: needed as u64,
     }
 }

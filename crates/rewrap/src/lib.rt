@@ -2,10 +2,11 @@
 // What they answer, and the rules that a file meets. Crate `unwrap` reads, `wrap` writes, `tables` and `names` look up.
 pub mod answers;
 
+use columns::DirectoryNumber;
 use columns::ParameterLine;
 use directory::Entry;
 
-// Accepted: number 0 and the length. Refused: the paper's number and the place, length 0.
+// Accepted: number 0 and the length. Refused: the paper's number and the place; of 16 the length that is needed, else 0.
 #[repr(C)]
 pub struct Answer {
     pub number: u64,
@@ -13,8 +14,10 @@ pub struct Answer {
     pub length: u64,
 }
 
-// A slot of the lent table: an entry line's fields, parameter pointer and line count.
+// A slot of the lent table: an entry line's fields, whether the list knows the entity first of them; parameter pointer and line count.
 pub struct Record {
+    pub known: bool,
+    pub number: DirectoryNumber,
     pub entry: Entry,
     pub label: [u8; 8],
     pub pointer: ParameterLine,

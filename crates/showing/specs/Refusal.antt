@@ -1,4 +1,4 @@
--- The line of a refusal, over its number.
+-- The code's form: the line of a refusal, over its number.
 use mathlib.Core.List.{List, [], _∷_, _++_}
 use Prim.Native.Nat.{ℕ}
 use Rattle.columns.specs.Decimal.{dec}

@@ -2,13 +2,15 @@
 use rewrap::Answer;
 ghost use mathlib.Core.Path.{_≡_};
 ghost use lib.ListN.{length};
-ghost use Rattle.rewrap.specs.Answers.{answerOf, leftIn, readsInto, writesInto};
+ghost use Rattle.model.specs.Read.{reads};
+ghost use Rattle.model.specs.Write.{writes};
+ghost use Rattle.rewrap.specs.Answers.{answerOf, leftIn};
 
 // Reads a file to its sheet.
 #[no_mangle]
 pub extern "C" fn szelmikra_read(list: u64, file: &[u8], sheet: &mut [u8]) -> Answer
-    ensures { λ r. ⌜ r ≡ answerOf (readsInto list (now (file .entry)) (length (now (sheet .entry)))) ⌝ }
-    ensures { λ r. ⌜ now (sheet .exit) ≡ leftIn (now (sheet .entry)) (readsInto list (now (file .entry)) (length (now (sheet .entry)))) ⌝ }
+    ensures { λ r. ⌜ r ≡ answerOf (length (now (sheet .entry))) (reads list (now (file .entry))) ⌝ }
+    ensures { λ r. ⌜ now (sheet .exit) ≡ leftIn (now (sheet .entry)) (reads list (now (file .entry))) ⌝ }
 {
     unwrap::read(list, file, sheet)
 }
@@ -16,8 +18,8 @@ pub extern "C" fn szelmikra_read(list: u64, file: &[u8], sheet: &mut [u8]) -> An
 // Writes a sheet to its canonical file.
 #[no_mangle]
 pub extern "C" fn szelmikra_write(list: u64, sheet: &[u8], file: &mut [u8]) -> Answer
-    ensures { λ r. ⌜ r ≡ answerOf (writesInto list (now (sheet .entry)) (length (now (file .entry)))) ⌝ }
-    ensures { λ r. ⌜ now (file .exit) ≡ leftIn (now (file .entry)) (writesInto list (now (sheet .entry)) (length (now (file .entry)))) ⌝ }
+    ensures { λ r. ⌜ r ≡ answerOf (length (now (file .entry))) (writes list (now (sheet .entry))) ⌝ }
+    ensures { λ r. ⌜ now (file .exit) ≡ leftIn (now (file .entry)) (writes list (now (sheet .entry))) ⌝ }
 {
     wrap::write(list, sheet, file)
 }

@@ -19,7 +19,7 @@ use Rattle.reading.specs.Weights.{rowsLength, weightOf, Light}
 use Rattle.reading.proofs.Facts.{checked-no-sheet}
 use Rattle.reading.proofs.Weights.{weight-refused, weight-good, weight-rows, weight-few}
 use Rattle.rewrap.specs.declared.Answer.{Answer}
-use Rattle.rewrap.specs.Answers.{answer, answerOf, leftIn, readsInto}
+use Rattle.rewrap.specs.Answers.{answer, answerOf, leftIn}
 use Rattle.rewrap.specs.Reading.{sheetIn}
 use Rattle.rewrap.proofs.Answered as answered
 use Rattle.unwrap.proofs.Reading.{reads-sheet}
@@ -29,12 +29,10 @@ module _ (list : ℕ) (f o : List ℕ) (r : Weight) (er : r ≡ weightOf list f 
     refuses : reads list f ≡ refused n (l .0)
     refuses = checked-no-sheet list f (Refused n l) (weight-refused list f er n l e) n l refl
 
-    pub refused-answer : (y : Answer) → y ≡ answer (number n) (l .0) 0 → y ≡ answerOf (readsInto list f (length o))
-    unfolding readsInto
+    pub refused-answer : (y : Answer) → y ≡ answer (number n) (l .0) 0 → y ≡ answerOf (length o) (reads list f)
     refused-answer = answered.refused-answer (reads list f) o n (l .0) refuses
 
-    pub refused-left : o ≡ leftIn o (readsInto list f (length o))
-    unfolding readsInto
+    pub refused-left : o ≡ leftIn o (reads list f)
     refused-left = answered.refused-left (reads list f) o n (l .0) refuses
 
   module _ (c : Counts) (p d rows : ℕ) (e : r ≡ GoodWeight c p d rows) where
@@ -51,21 +49,17 @@ module _ (list : ℕ) (f o : List ℕ) (r : Weight) (er : r ≡ weightOf list f 
     accepts = reads-sheet list f c p d good-here
 
     module _ (k : ℕ) (ek : k ≡ length (sheetIn list f)) where
-      pub short-answer : (y : Answer) → length o < k → y ≡ answer (number Room) 0 0 → y ≡ answerOf (readsInto list f (length o))
-      unfolding readsInto
+      pub short-answer : (y : Answer) → length o < k → y ≡ answer (number Room) 0 k → y ≡ answerOf (length o) (reads list f)
       short-answer = answered.short-answer (reads list f) o (sheetIn list f) accepts k ek
 
-      pub short-left : length o < k → o ≡ leftIn o (readsInto list f (length o))
-      unfolding readsInto
+      pub short-left : length o < k → o ≡ leftIn o (reads list f)
       short-left = answered.short-left (reads list f) o (sheetIn list f) accepts k ek
 
       module _ (h : k ≤ length o) (o′ : List ℕ) (t : ℕ) (w : Wrote o 0 (sheetIn list f) o′ t) where
-        pub good-answer : answer 0 0 t ≡ answerOf (readsInto list f (length o))
-        unfolding readsInto
+        pub good-answer : answer 0 0 t ≡ answerOf (length o) (reads list f)
         good-answer = answered.whole-answer (reads list f) o (sheetIn list f) accepts k ek h o′ t w
 
-        pub good-left : o′ ≡ leftIn o (readsInto list f (length o))
-        unfolding readsInto
+        pub good-left : o′ ≡ leftIn o (reads list f)
         good-left = answered.whole-left (reads list f) o (sheetIn list f) accepts k ek h o′ t w
 
 pub ruleset readings = (refused-answer, refused-left, good-here, rows-here, rows-few, short-answer, short-left, good-answer, good-left, wrote-length)

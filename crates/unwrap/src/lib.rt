@@ -1,18 +1,18 @@
 // A file to its sheet.
 mod sheet;
 
-use columns::Fault;
 use reading::Weight;
 use rewrap::Answer;
 use rewrap::answers;
 ghost use mathlib.Core.Path.{_≡_};
 ghost use lib.ListN.{length};
-ghost use Rattle.rewrap.specs.Answers.{answerOf, leftIn, readsInto};
+ghost use Rattle.model.specs.Read.{reads};
+ghost use Rattle.rewrap.specs.Answers.{answerOf, leftIn};
 
 // The sheet of a file under a list. It is measured first, since a refusal changes no byte of out.
 pub fn read(list: u64, file: &[u8], out: &mut [u8]) -> Answer
-    ensures { λ r. ⌜ r ≡ answerOf (readsInto list (now (file .entry)) (length (now (out .entry)))) ⌝ }
-    ensures { λ r. ⌜ now (out .exit) ≡ leftIn (now (out .entry)) (readsInto list (now (file .entry)) (length (now (out .entry)))) ⌝ }
+    ensures { λ r. ⌜ r ≡ answerOf (length (now (out .entry))) (reads list (now (file .entry))) ⌝ }
+    ensures { λ r. ⌜ now (out .exit) ≡ leftIn (now (out .entry)) (reads list (now (file .entry))) ⌝ }
 {
     let told = weighing::weigh(list, file);
     match told {
@@ -25,7 +25,7 @@ pub fn read(list: u64, file: &[u8], out: &mut [u8]) -> Answer
         } => {
             let length = sheet::measure(list, file, counts, parameter, closing, rows);
             if out.len() < length {
-                return answers::refusal(Fault::Room, 0);
+                return answers::no_room(length);
             }
             let end = sheet::put_file(out, list, file, counts, parameter, closing);
             Answer {

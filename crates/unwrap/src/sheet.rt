@@ -1,6 +1,7 @@
 // The sheet of a file that passes all checks, and how long it is.
 use cards::Counts;
 use cards::LINE_BYTES;
+use columns::ParameterLine;
 use columns::wide;
 use records::Opening;
 ghost use mathlib.Core.Path.{_≡_};
@@ -30,7 +31,7 @@ pub fn put_file(
     let s = wide(c.s);
     let g = wide(c.g);
     let n = wide(c.d) / 2;
-    let first = cards::parameter_line(c, 1);
+    let first = cards::parameter_line(c, ParameterLine(1));
     let opening = global::opening_of(file, LINE_BYTES * s, g);
     let Opening::Opened {
         parameter: _,

@@ -28,7 +28,7 @@ use Rattle.canonical.specs.Counting.{linesOfSheet}
 use Rattle.canonical.specs.Laying.{Ranged}
 use Rattle.canonical.proofs.Answers.{passed, answer-file, answer-length, answer-long}
 use Rattle.rewrap.specs.declared.Answer.{Answer}
-use Rattle.rewrap.specs.Answers.{answer, answerOf, leftIn, writesInto}
+use Rattle.rewrap.specs.Answers.{answer, answerOf, leftIn}
 use Rattle.rewrap.proofs.Answered as answered
 
 -- a sheet that is refused by its checks
@@ -41,12 +41,10 @@ module _ (list : ℕ) (t o : List ℕ) (r : Ruled) (er : r ≡ ruledOf list t) w
     refuses : writes list t ≡ refused n (l .0)
     refuses = not-written list t n (l .0) (ruled-refused list t n l (sym e ∙ er))
 
-    pub refused-answer : (y : Answer) → y ≡ answer (number n) (l .0) 0 → y ≡ answerOf (writesInto list t (length o))
-    unfolding writesInto
+    pub refused-answer : (y : Answer) → y ≡ answer (number n) (l .0) 0 → y ≡ answerOf (length o) (writes list t)
     refused-answer = answered.refused-answer (writes list t) o n (l .0) refuses
 
-    pub refused-left : o ≡ leftIn o (writesInto list t (length o))
-    unfolding writesInto
+    pub refused-left : o ≡ leftIn o (writes list t)
     refused-left = answered.refused-left (writes list t) o n (l .0) refuses
 
   module _ (n : ℕ) (k : Lines) (e : r ≡ Good n k) where
@@ -57,12 +55,10 @@ module _ (list : ℕ) (t o : List ℕ) (r : Ruled) (er : r ≡ ruledOf list t) w
       long : writes list t ≡ refused TooLong 0
       long = answer-long list t (modelOf (sheetOf (linesIn t))) (good .model) (sym (good .lines) ∙ many)
 
-      pub long-answer : (y : Answer) → y ≡ answer (number TooLong) 0 0 → y ≡ answerOf (writesInto list t (length o))
-      unfolding writesInto
+      pub long-answer : (y : Answer) → y ≡ answer (number TooLong) 0 0 → y ≡ answerOf (length o) (writes list t)
       long-answer = answered.refused-answer (writes list t) o TooLong 0 long
 
-      pub long-left : o ≡ leftIn o (writesInto list t (length o))
-      unfolding writesInto
+      pub long-left : o ≡ leftIn o (writes list t)
       long-left = answered.refused-left (writes list t) o TooLong 0 long
 
     module _ (c : Counts) (few : k ≡ Are c) where
@@ -83,21 +79,17 @@ module _ (list : ℕ) (t o : List ℕ) (r : Ruled) (er : r ≡ ruledOf list t) w
         size : b ≡ length (canonical (modelOf (sheetOf (linesIn t))))
         size = eb ∙ sym (answer-length list t (modelOf (sheetOf (linesIn t))) (good .model) c needs-counts)
 
-        pub short-answer : (y : Answer) → length o < b → y ≡ answer (number Room) 0 0 → y ≡ answerOf (writesInto list t (length o))
-        unfolding writesInto
+        pub short-answer : (y : Answer) → length o < b → y ≡ answer (number Room) 0 b → y ≡ answerOf (length o) (writes list t)
         short-answer = answered.short-answer (writes list t) o (canonical (modelOf (sheetOf (linesIn t)))) accepts b size
 
-        pub short-left : length o < b → o ≡ leftIn o (writesInto list t (length o))
-        unfolding writesInto
+        pub short-left : length o < b → o ≡ leftIn o (writes list t)
         short-left = answered.short-left (writes list t) o (canonical (modelOf (sheetOf (linesIn t)))) accepts b size
 
         module _ (h : b ≤ length o) (o′ : List ℕ) (end : ℕ) (w : Wrote o 0 (canonical (modelOf (sheetOf (linesIn t)))) o′ end) where
-          pub good-answer : answer 0 0 end ≡ answerOf (writesInto list t (length o))
-          unfolding writesInto
+          pub good-answer : answer 0 0 end ≡ answerOf (length o) (writes list t)
           good-answer = answered.whole-answer (writes list t) o (canonical (modelOf (sheetOf (linesIn t)))) accepts b size h o′ end w
 
-          pub good-left : o′ ≡ leftIn o (writesInto list t (length o))
-          unfolding writesInto
+          pub good-left : o′ ≡ leftIn o (writes list t)
           good-left = answered.whole-left (writes list t) o (canonical (modelOf (sheetOf (linesIn t)))) accepts b size h o′ end w
 
 pub ruleset writings = (

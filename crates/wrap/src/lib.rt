@@ -8,12 +8,13 @@ use rewrap::answers;
 use writing::Ruled;
 ghost use mathlib.Core.Path.{_≡_};
 ghost use lib.ListN.{length};
-ghost use Rattle.rewrap.specs.Answers.{answerOf, leftIn, writesInto};
+ghost use Rattle.model.specs.Write.{writes};
+ghost use Rattle.rewrap.specs.Answers.{answerOf, leftIn};
 
 // The canonical file of a sheet under a list. Its lines are counted first, since a refusal changes no byte of out.
 pub fn write(list: u64, sheet: &[u8], out: &mut [u8]) -> Answer
-    ensures { λ r. ⌜ r ≡ answerOf (writesInto list (now (sheet .entry)) (length (now (out .entry)))) ⌝ }
-    ensures { λ r. ⌜ now (out .exit) ≡ leftIn (now (out .entry)) (writesInto list (now (sheet .entry)) (length (now (out .entry)))) ⌝ }
+    ensures { λ r. ⌜ r ≡ answerOf (length (now (out .entry))) (writes list (now (sheet .entry))) ⌝ }
+    ensures { λ r. ⌜ now (out .exit) ≡ leftIn (now (out .entry)) (writes list (now (sheet .entry))) ⌝ }
 {
     let told = writing::check(list, sheet);
     match told {
@@ -23,7 +24,7 @@ pub fn write(list: u64, sheet: &[u8], out: &mut [u8]) -> Answer
             Lines::Are(counts) => {
                 let bytes = file::bytes(counts);
                 if out.len() < bytes {
-                    return answers::refusal(Fault::Room, 0);
+                    return answers::no_room(bytes);
                 }
                 let laid = canonical::file::put_file(out, sheet, counts, entries);
                 Answer {

@@ -11,7 +11,6 @@ record-answer-spec =
     (λ c κs. search (needs, records))
     (λ c κs. search (needs, records))
     (λ c κs. search (needs, records))
-    (λ c κs. search (needs, records))
     (λ c. search (needs, records))
     (λ c κs. search (needs, records))
     (λ c κs. search (needs, records))
