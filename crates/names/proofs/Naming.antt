@@ -29,7 +29,8 @@ use Rattle.reading.proofs.Facts.{checked-model, checked-passed, checked-ready, 
 use Rattle.rewrap.specs.Answers.{Shown, labelFrom, standIn, nothing, labelByte, labelOr, nameIn, byReading, shown}
 use Rattle.names.specs.declared.Found.{Found}
 use Rattle.names.specs.declared.Found.the-variants.{Label, Blank, Nobody}
-use Rattle.names.specs.Names.{nameWith, foundOf, Inside, Part, Shows}
+use Rattle.names.specs.Finding.{nameWith, foundOf, Inside}
+use Rattle.names.specs.Names.{Part, Shows}
 
 -- ---- in the directory
 

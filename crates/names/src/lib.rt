@@ -10,7 +10,8 @@ ghost use Prim.Native.Nat.{_<_};
 ghost use lib.ListN.{length};
 ghost use Rattle.passes.specs.Ready.{Ready};
 ghost use Rattle.rewrap.specs.Answers.{shown};
-ghost use Rattle.names.specs.Names.{nameWith, foundOf, Inside, Shows};
+ghost use Rattle.names.specs.Finding.{nameWith, foundOf, Inside};
+ghost use Rattle.names.specs.Names.{Shows};
 
 // What a directory number finds: a label and where it starts, a blank one, or no entry.
 enum Found {

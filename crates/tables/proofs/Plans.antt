@@ -2,7 +2,7 @@
 use mathlib.Core.Path.{_≡_, refl, sym, ap, ap₂, subst, _∙_}
 use mathlib.Core.Bool.{Bool, true, false}
 use mathlib.Core.List.{List, [], _∷_, _++_, map}
-use Prim.Native.Nat.{ℕ, zero, suc, _+_, _*_, _/_, _≤_, _<_}
+use Prim.Native.Nat.{ℕ, zero, suc, _+_, _/_, _≤_, _<_}
 use native.Mathlib.Nat.{add-zero}
 use native.Mathlib.Numerals.{add-one}
 use native.Mathlib.Omega.{arith}
@@ -20,7 +20,7 @@ use Rattle.cards.specs.declared.Counts.{Counts}
 use Rattle.cards.specs.Cards.{firstD, entries}
 use Rattle.model.specs.Model.{Model}
 use Rattle.model.specs.Read.{Listed, Before, before, readModel}
-use Rattle.passes.specs.Listed.{entryOf, allEntries}
+use Rattle.passes.specs.Listed.{entriesFrom, allEntries}
 use Rattle.passes.specs.Ready.{Ready}
 use Rattle.reading.specs.declared.Checked.{Checked}
 use Rattle.reading.specs.declared.Checked.the-variants.{Good, Refused}
@@ -28,42 +28,42 @@ use Rattle.reading.specs.Checks.{checkOf}
 use Rattle.reading.proofs.Facts.{checked-model, checked-passed, checked-ready, checked-refused}
 use Rattle.rewrap.specs.declared.Answer.{Answer}
 use Rattle.rewrap.specs.declared.Record.{Record}
-use Rattle.rewrap.specs.Answers.{inRoom, answer, answerOf, recordOf, listedIn, tableInto, slotsLeft}
+use Rattle.rewrap.specs.Answers.{answer, answerOf, recordsFrom, listedIn, slotsLeft}
 use Rattle.tables.specs.declared.Plan.{Plan}
-use Rattle.tables.specs.Tables.{refusing, planWith, planBy, planOf, recordIn, filled}
+use Rattle.tables.specs.Tables.{refusing, planWith, planBy, planOf, recordAt, recordIn, HasEntry, filled}
 
 -- ---- records stored one by one
 
-pub length-filled : (f : List ℕ) (first : ℕ) (rs : List Record) (n : ℕ) → length (filled f first rs n) ≡ length rs
-length-filled f first rs zero = refl
-length-filled f first rs (suc n) = length-set (filled f first rs n) n (recordIn f (first + 2 * n)) ∙ length-filled f first rs n
+pub length-filled : (list : ℕ) (f : List ℕ) (first : ℕ) (rs : List Record) (n : ℕ) → length (filled list f first rs n) ≡ length rs
+length-filled list f first rs zero = refl
+length-filled list f first rs (suc n) = length-set (filled list f first rs n) n (recordIn list f first n) ∙ length-filled list f first rs n
 
-module _ (f : List ℕ) (first : ℕ) (rs : List Record) where
+module _ (list : ℕ) (f : List ℕ) (first : ℕ) (rs : List Record) where
   abbrev here : ℕ → Record
-  here j = recordIn f (first + 2 * j)
+  here j = recordIn list f first j
 
   -- those from i on, stored behind those before them
-  stored-from : (n i : ℕ) → sets (filled f first rs i) i (map here (upFrom i n)) ≡ filled f first rs (i + n)
+  stored-from : (n i : ℕ) → sets (filled list f first rs i) i (map here (upFrom i n)) ≡ filled list f first rs (i + n)
   unfolding upFrom
-  stored-from zero i = ap (filled f first rs) (sym (add-zero i))
+  stored-from zero i = ap (filled list f first rs) (sym (add-zero i))
   stored-from (suc n) i =
       let e : i + 1 + n ≡ i + suc n = omega arith in
-      ap (λ (j : ℕ). sets (filled f first rs j) j (map here (upFrom (i + 1) n))) (sym (add-one i)) ∙ stored-from n (i + 1) ∙ ap (filled f first rs) e
+      ap (λ (j : ℕ). sets (filled list f first rs j) j (map here (upFrom (i + 1) n))) (sym (add-one i)) ∙ stored-from n (i + 1) ∙ ap (filled list f first rs) e
 
   -- all of them, and then the slots past them
-  stored-all : (n : ℕ) → n ≤ length rs → filled f first rs n ≡ map here (upFrom 0 n) ++ drop n rs
+  stored-all : (n : ℕ) → n ≤ length rs → filled list f first rs n ≡ map here (upFrom 0 n) ++ drop n rs
   stored-all n h =
       let e : length (map here (upFrom 0 n)) ≡ n = length-map (upFrom 0 n) here ∙ length-upFrom n 0 in
       let z : 0 + n ≡ n = omega arith in
       let s : sets rs 0 (map here (upFrom 0 n)) ≡ map here (upFrom 0 n) ++ drop (0 + length (map here (upFrom 0 n))) rs = sets-eq (map here (upFrom 0 n)) rs 0 (omega (arith, e)) in
-      ap (filled f first rs) (sym z) ∙ sym (stored-from n 0) ∙ s ∙ ap (λ (j : ℕ). map here (upFrom 0 n) ++ drop j rs) (ap (λ (j : ℕ). 0 + j) e ∙ z)
+      ap (filled list f first rs) (sym z) ∙ sym (stored-from n 0) ∙ s ∙ ap (λ (j : ℕ). map here (upFrom 0 n) ++ drop j rs) (ap (λ (j : ℕ). 0 + j) e ∙ z)
 
 -- ---- the answers of the functions
 
 module _ (c : Counts) (room : ℕ) where
-  pub with-short : (d : ℕ) (a : Answer) → d ≡ c .d → room < d / 2 → a ≡ answer (number Room) 0 0 → record { answer = a; first = 0; count = 0 } ≡ planWith c room
+  pub with-short : (d : ℕ) (a : Answer) → d ≡ c .d → room < d / 2 → a ≡ answer (number Room) 0 (d / 2) → record { answer = a; first = 0; count = 0 } ≡ planWith c room
   unfolding planWith
-  with-short d a ed h ea = rw (lt-leb (entries c) room (omega arith), ea)
+  with-short d a ed h ea = rw (lt-leb (entries c) room (omega arith), ea, ed)
 
   pub with-room : (s g d : ℕ) → s ≡ c .s → g ≡ c .g → d ≡ c .d → d / 2 ≤ room → record { answer = answer 0 0 (d / 2); first = s + g; count = d / 2 } ≡ planWith c room
   unfolding planWith
@@ -82,52 +82,44 @@ pub ruleset plans = (with-short, with-room, for-refused, for-good)
 
 -- ---- the table of a file
 
-module _ (list : ℕ) (f : List ℕ) (room : ℕ) where
-  table-refused : (n : Fault) (l : ℕ) → readModel list f ≡ refused n l → tableInto list f room ≡ refused n l
-  unfolding tableInto inRoom listedIn
-  table-refused n l e = rw e
-
-  table-short : (es : List Record) → listedIn list f ≡ accepted es → room < length es → tableInto list f room ≡ refused Room 0
-  unfolding tableInto inRoom
-  table-short es e h = rw (e, lt-leb (length es) room h)
-
-  table-whole : (es : List Record) → listedIn list f ≡ accepted es → length es ≤ room → tableInto list f room ≡ accepted es
-  unfolding tableInto inRoom
-  table-whole es e h = rw (e, le-leb (length es) room h)
+table-refused : (list : ℕ) (f : List ℕ) (n : Fault) (l : ℕ) → readModel list f ≡ refused n l → listedIn list f ≡ refused n l
+unfolding listedIn
+table-refused list f n l e = rw e
 
 -- the records of its entries, at their computed places
-records-are : (f : List ℕ) (c : Counts) (rs : List Record) (l : List ℕ) → map recordOf (map (entryOf f c) l) ≡ map (here f (firstD c) rs) l
-unfolding recordIn
-records-are f c rs [] = refl
-records-are f c rs (j ∷ l) = ap (λ (es : List Record). recordOf (entryOf f c j) ∷ es) (records-are f c rs l)
+records-are : (list : ℕ) (f : List ℕ) (c : Counts) (n i : ℕ) → recordsFrom list i (entriesFrom f c i n) ≡ map (recordIn list f (firstD c)) (upFrom i n)
+unfolding recordsFrom recordAt upFrom
+records-are list f c zero i = refl
+records-are list f c (suc n) i = ap (λ (es : List Record). recordIn list f (firstD c) i ∷ es) (records-are list f c n (i + 1))
 
 module _ (list : ℕ) (f : List ℕ) (c : Counts) (p d : ℕ) (e : Good c p d ≡ checkOf list f) where
-  listed-are : listedIn list f ≡ accepted (map recordOf (allEntries f c))
+  listed-are : listedIn list f ≡ accepted (recordsFrom list 0 (allEntries f c))
   unfolding listedIn
   listed-are =
       let m = checked-model list f (Good c p d) e c p d refl in
       let l : m .told .whole .listed ≡ allEntries f c = checked-passed list f (Good c p d) e c p d refl .listed ∙ ap (allEntries f) (m .told .counts) in
-      ap (λ (o : Outcome Model). o then λ _. before f then λ b. accepted (map recordOf (b .listed))) (m .is)
-      ∙ ap (λ (o : Outcome Before). o then λ b. accepted (map recordOf (b .listed))) (m .told .is) ∙ ap (λ (es : List Listed). accepted (map recordOf es)) l
+      ap (λ (o : Outcome Model). o then λ _. before f then λ b. accepted (recordsFrom list 0 (b .listed))) (m .is)
+      ∙ ap (λ (o : Outcome Before). o then λ b. accepted (recordsFrom list 0 (b .listed))) (m .told .is) ∙ ap (λ (es : List Listed). accepted (recordsFrom list 0 es)) l
 
-  listed-count : length (map recordOf (allEntries f c)) ≡ entries c
-  listed-count = length-map (allEntries f c) recordOf ∙ length-map (upFrom 0 (entries c)) (entryOf f c) ∙ length-upFrom (entries c) 0
+  listed-count : length (recordsFrom list 0 (allEntries f c)) ≡ entries c
+  listed-count =
+      ap length (records-are list f c (entries c) 0) ∙ length-map (upFrom 0 (entries c)) (recordIn list f (firstD c)) ∙ length-upFrom (entries c) 0
 
-  pub entry-inside : (i : ℕ) → i < entries c → 81 * (firstD c + 2 * i) + 162 ≤ length f
+  pub entry-inside : (i : ℕ) → i < entries c → HasEntry f (firstD c) i
   entry-inside i h =
       let rd : Ready f c = checked-ready list f (Good c p d) e c p d refl in
-      omega (arith, rd .holds .size)
+      (omega (arith, rd .holds .size), omega (arith, rd .holds .most))
 
 -- ---- what the plan says of the table
 
 pub record Planned (list : ℕ) (f : List ℕ) (rs : List Record) (x : Plan) : Type 0 where
-  pub answers : x .answer ≡ answerOf (tableInto list f (length rs))
-  pub slots : filled f (x .first) rs (x .count) ≡ slotsLeft rs (tableInto list f (length rs))
+  pub answers : x .answer ≡ answerOf (length rs) (listedIn list f)
+  pub slots : filled list f (x .first) rs (x .count) ≡ slotsLeft rs (listedIn list f)
   pub within : x .count ≤ length rs
-  pub inside : (i : ℕ) → i < x .count → 81 * (x .first + 2 * i) + 162 ≤ length f
+  pub inside : (i : ℕ) → i < x .count → HasEntry f (x .first) i
 
 module _ (list : ℕ) (f : List ℕ) (rs : List Record) where
-  refusal-planned : (n : Fault) (l : ℕ) → tableInto list f (length rs) ≡ refused n l → Planned list f rs (refusing (answer (number n) l 0))
+  refusal-planned : (n : Fault) (l : ℕ) → listedIn list f ≡ refused n l → Planned list f rs (refusing (answer (number n) l 0))
   unfolding answerOf slotsLeft
   refusal-planned n l e = record {
     answers = rw e refl;
@@ -138,33 +130,46 @@ module _ (list : ℕ) (f : List ℕ) (rs : List Record) where
 
   module _ (c : Counts) (p d : ℕ) (e : Good c p d ≡ checkOf list f) where
     abbrev es : List Record
-    es = map recordOf (allEntries f c)
+    es = recordsFrom list 0 (allEntries f c)
 
     whole-planned : entries c ≤ length rs → Planned list f rs (record { answer = answer 0 0 (entries c); first = firstD c; count = entries c })
     unfolding answerOf slotsLeft
     whole-planned h =
         let n : length es ≡ entries c = listed-count list f c p d e in
-        let t : tableInto list f (length rs) ≡ accepted es = table-whole list f (length rs) es (listed-are list f c p d e) (omega (arith, n)) in
-        let s : filled f (firstD c) rs (entries c) ≡ es ++ drop (length es) rs
-        = stored-all f (firstD c) rs (entries c) h ∙ ap₂ (λ (xs : List Record) (j : ℕ). xs ++ drop j rs) (sym (records-are f c rs (upFrom 0 (entries c)))) (sym n) in
+        let t : listedIn list f ≡ accepted es = listed-are list f c p d e in
+        let r : leb (length es) (length rs) ≡ true = le-leb (length es) (length rs) (omega (arith, n)) in
+        let s : filled list f (firstD c) rs (entries c) ≡ es ++ drop (length es) rs
+        = stored-all list f (firstD c) rs (entries c) h ∙ ap₂ (λ (xs : List Record) (j : ℕ). xs ++ drop j rs) (sym (records-are list f c (entries c) 0)) (sym n) in
         record {
-          answers = rw (t, n) refl;
-          slots = rw t s;
+          answers = rw (t, r, n) refl;
+          slots = rw (t, r) s;
           within = h;
           inside = entry-inside list f c p d e;
+        }
+
+    short-planned : length rs < entries c → Planned list f rs (refusing (answer (number Room) 0 (entries c)))
+    unfolding answerOf slotsLeft
+    short-planned h =
+        let n : length es ≡ entries c = listed-count list f c p d e in
+        let t : listedIn list f ≡ accepted es = listed-are list f c p d e in
+        let r : leb (length es) (length rs) ≡ false = lt-leb (length es) (length rs) (omega (arith, n)) in
+        record {
+          answers = rw (t, r, n) refl;
+          slots = rw (t, r) refl;
+          within = omega arith;
+          inside = λ i h. absurd (omega (arith, h));
         }
 
     good-planned : (b : Bool) → leb (entries c) (length rs) ≡ b → Planned list f rs (planWith c (length rs))
     unfolding planWith
     good-planned true eb = rw eb (whole-planned (leb-true (entries c) (length rs) eb))
     good-planned false eb =
-        let n : length es ≡ entries c = listed-count list f c p d e in
         let h : length rs < entries c = leb-false (entries c) (length rs) eb in
-        rw eb (refusal-planned Room 0 (table-short list f (length rs) es (listed-are list f c p d e) (omega (arith, n))))
+        rw eb (short-planned h)
 
   by-planned : (r : Checked) → r ≡ checkOf list f → Planned list f rs (planBy r (length rs))
   by-planned (Good c p d) e = good-planned c p d e (leb (entries c) (length rs)) refl
-  by-planned (Refused n l) e = refusal-planned n (l .0) (table-refused list f (length rs) n (l .0) (checked-refused list f (Refused n l) e n l refl))
+  by-planned (Refused n l) e = refusal-planned n (l .0) (table-refused list f n (l .0) (checked-refused list f (Refused n l) e n l refl))
 
   pub planned : (x : Plan) → x ≡ planOf list f (length rs) → Planned list f rs x
   unfolding planOf

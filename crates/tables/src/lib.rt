@@ -3,17 +3,15 @@
 mod slot;
 
 use cards::Counts;
-use columns::Fault;
 use columns::wide;
 use reading::Checked;
 use rewrap::Answer;
 use rewrap::Record;
 use rewrap::answers;
 ghost use mathlib.Core.Path.{_≡_};
-ghost use Prim.Native.Nat.{_+_, _*_, _<_, _≤_};
 ghost use lib.ListN.{length};
-ghost use Rattle.rewrap.specs.Answers.{answerOf, tableInto, slotsLeft};
-ghost use Rattle.tables.specs.Tables.{planWith, planOf, recordIn};
+ghost use Rattle.rewrap.specs.Answers.{answerOf, listedIn, slotsLeft};
+ghost use Rattle.tables.specs.Tables.{planWith, planOf, recordIn, HasEntry};
 
 // What to do with the table: the answer, and how many entries to store, none for a refusal, the first of them at this line of the file.
 struct Plan {
@@ -22,14 +20,14 @@ struct Plan {
     count: usize,
 }
 
-// For a file with these counts: 16 if the slots are too few.
+// For a file with these counts: 16 and how many are needed, if the slots are too few.
 fn plan_with(c: Counts, room: usize) -> Plan
     ensures { λ r. ⌜ r ≡ planWith c room ⌝ }
 {
     let count = wide(c.d) / 2;
     let first = wide(c.s) + wide(c.g);
     if room < count {
-        let answer = answers::refusal(Fault::Room, 0);
+        let answer = answers::no_room(count);
         return Plan {
             answer,
             first: 0,
@@ -83,22 +81,26 @@ fn answer_of(plan: Plan) -> Answer
 }
 
 // The record of entry i.
-fn record_of(file: &[u8], plan: Plan, i: usize) -> Record
-    requires { ⌜ 81 * (plan .first + 2 * i) + 162 ≤ length (now file) ⌝ }
-    ensures { λ r. ⌜ r ≡ recordIn (now (file .entry)) (plan .first + 2 * i) ⌝ }
+fn record_of(list: u64, file: &[u8], plan: Plan, i: usize) -> Record
+    requires { ⌜ HasEntry (now file) (plan .first) i ⌝ }
+    ensures { λ r. ⌜ r ≡ recordIn list (now (file .entry)) (plan .first) i ⌝ }
 {
-    slot::record_at(file, plan.first + 2 * i)
+    let number = cards::entry_number(i);
+    slot::record_at(list, file, number, plan.first + 2 * i)
 }
 
 // The table of a file's directory under a list; slots past the entries stay, and a refusal changes none.
 pub fn directory(list: u64, file: &[u8], table: &mut [Record]) -> Answer
-    ensures { λ r. ⌜ (r ≡ answerOf (tableInto list (now (file .entry)) (length (now (table .entry))))) × (now (table .exit) ≡ slotsLeft (now (table .entry)) (tableInto list (now (file .entry)) (length (now (table .entry))))) ⌝ }
+    ensures { λ r. ⌜
+        (r ≡ answerOf (length (now (table .entry))) (listedIn list (now (file .entry))))
+        × (now (table .exit) ≡ slotsLeft (now (table .entry)) (listedIn list (now (file .entry))))
+        ⌝ }
 {
     let told = plan_for(list, file, table.len());
     let n = count_of(told);
     let mut i = 0;
     while i < n {
-        table[i] = record_of(file, told, i);
+        table[i] = record_of(list, file, told, i);
         i += 1;
     }
     answer_of(told)

@@ -1,4 +1,5 @@
 // The record of an entry, by value.
+use columns::DirectoryNumber;
 use columns::ParameterLine;
 use columns::Signed;
 use directory::EntryRead;
@@ -9,7 +10,7 @@ ghost use mathlib.Core.List.{[]};
 ghost use Prim.Native.Nat.{_+_, _*_, _≤_};
 ghost use lib.ListN.{length, take, drop};
 ghost use Rattle.directory.specs.Fields.{fieldsOf};
-ghost use Rattle.tables.specs.Tables.{recordIn, recordSpelt};
+ghost use Rattle.tables.specs.Tables.{recordSpelt, recordAt};
 
 // The eight bytes from a place on.
 fn eight(file: &[u8], at: usize) -> [u8; 8]
@@ -52,12 +53,24 @@ fn no_fields() -> Fields
     }
 }
 
-// Its fields, with its label, parameter pointer and line count.
-fn record_with(fields: Fields, label: [u8; 8], pointer: ParameterLine, lines: u32) -> Record
-    ensures { λ r. ⌜ r ≡ recordSpelt fields label pointer lines ⌝ }
+// Its fields under a list, with its directory number, label, parameter pointer and line count.
+fn record_with(
+    list: u64,
+    number: DirectoryNumber,
+    fields: Fields,
+    label: [u8; 8],
+    pointer: ParameterLine,
+    lines: u32,
+) -> Record
+    ensures { λ r. ⌜ r ≡ recordSpelt list (number .0) fields label pointer lines ⌝ }
 {
+    let entity = fields.entity;
+    let form = fields.form;
+    let known = typelists::known(list, entity.size, form.size);
     let entry = entryrules::entry_of(fields);
     Record {
+        known,
+        number,
         entry,
         label,
         pointer,
@@ -65,10 +78,10 @@ fn record_with(fields: Fields, label: [u8; 8], pointer: ParameterLine, lines: u3
     }
 }
 
-// Of the entry whose first D line is line k.
-pub fn record_at(file: &[u8], k: usize) -> Record
+// Of the entry with this directory number whose first D line is line k.
+pub fn record_at(list: u64, file: &[u8], number: DirectoryNumber, k: usize) -> Record
     requires { ⌜ 81 * k + 162 ≤ length (now file) ⌝ }
-    ensures { λ r. ⌜ r ≡ recordIn (now (file .entry)) k ⌝ }
+    ensures { λ r. ⌜ r ≡ recordAt list (now (file .entry)) (number .0) k ⌝ }
 {
     let at = dlines::label_at(k);
     let label = eight(file, at);
@@ -78,10 +91,10 @@ pub fn record_at(file: &[u8], k: usize) -> Record
             fields,
             pointer,
             lines,
-        } => record_with(fields, label, pointer, lines),
+        } => record_with(list, number, fields, label, pointer, lines),
         EntryRead::Wrong => {
             let none = no_fields();
-            record_with(none, label, ParameterLine(0), 0)
+            record_with(list, number, none, label, ParameterLine(0), 0)
         }
     }
 }

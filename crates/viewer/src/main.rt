@@ -6,7 +6,8 @@ use directory::Entry;
 use rewrap::Record;
 ghost use mathlib.Core.Path.{_≡_};
 ghost use lib.ListN.{length};
-ghost use Rattle.rewrap.specs.Answers.{tableInto, slotsLeft};
+ghost use Rattle.rewrap.specs.Answers.{listedIn, slotsLeft};
+ghost use Rattle.viewer.specs.Unused.{nines};
 
 // The list of all types.
 const LIST: u64 = 16383;
@@ -17,9 +18,13 @@ const SLOTS: usize = 4;
 const NAMES: u32 = 7;
 
 // A slot that no entry has: it is seen where a slot stays.
-fn unused() -> Record {
+fn unused() -> Record
+    ensures { λ r. ⌜ r ≡ nines ⌝ }
+{
     let none = DirectoryNumber(9);
     Record {
+        known: false,
+        number: none,
         entry: Entry {
             entity: 9,
             form: 9,
@@ -42,7 +47,7 @@ fn unused() -> Record {
 
 // The rows with the table of a file in them.
 fn listed(list: u64, file: &[u8], rows: [Record; 4]) -> [Record; 4]
-    ensures { λ r. ⌜ r ≡ slotsLeft rows (tableInto list (now (file .entry)) (length rows)) ⌝ }
+    ensures { λ r. ⌜ r ≡ slotsLeft rows (listedIn list (now (file .entry))) ⌝ }
 {
     let mut table = rows;
     tables::directory(list, file, &mut table);
@@ -66,10 +71,21 @@ fn print_part(n: u32) {
     io::write_all(1, b" ");
 }
 
+// As an entry line begins.
+fn print_mark(known: bool) {
+    if known {
+        io::write_all(1, b"E ");
+    } else {
+        io::write_all(1, b"U ");
+    }
+}
+
 fn print_slot(slot: Record) {
     let entry = slot.entry;
     let label = slot.label;
     let colour = entry.colour;
+    print_mark(slot.known);
+    print_part(slot.number.0);
     print_part(entry.entity);
     print_part(entry.form);
     print_part(slot.pointer.0);
@@ -81,9 +97,9 @@ fn print_slot(slot: Record) {
     io::write_all(1, b"\n");
 }
 
-fn print_name<'f, 's: 'f>(file: &'f [u8], stand_in: &'s [u8], number: u32) {
-    let name = names::name(LIST, file, stand_in, DirectoryNumber(number));
-    print_part(number);
+fn print_name<'f, 's: 'f>(file: &'f [u8], stand_in: &'s [u8], number: DirectoryNumber) {
+    let name = names::name(LIST, file, stand_in, number);
+    print_part(number.0);
     io::write_all(1, b"[");
     io::write_all(1, name);
     io::write_all(1, b"]\n");
@@ -102,7 +118,7 @@ fn main() {
     let stand_in = *b"no name";
     let mut k = 0;
     while k < NAMES {
-        print_name(&buffer[..n], &stand_in, k);
+        print_name(&buffer[..n], &stand_in, DirectoryNumber(k));
         k += 1;
     }
 }

@@ -54,7 +54,7 @@ use Rattle.rewrap.proofs.Record.Laws as T′
 use Rattle.rewrap.proofs.Answer as R
 use Rattle.rewrap.proofs.Answer.Laws as R′
 use Rattle.tables.specs.declared.Plan.{Plan}
-use Rattle.tables.specs.Tables.{planOf, recordIn, filled}
+use Rattle.tables.specs.Tables.{planOf, recordIn, HasEntry, filled}
 use Rattle.tables.proofs.Plans.{length-filled, Planned, planned}
 use Rattle.tables.proofs.Plan as P
 use Rattle.tables.proofs.Plan.Laws as P′
@@ -176,28 +176,29 @@ module _ {M : Type 1} (𝓤 : URA M) (H : Heap 𝓤) (A : Atoms 𝓤) (W : Given
     said-answer : (r : Answer) → ent 𝓤 (ensured 𝓤 H A answer-of.ended (answer-of.clauses 𝓤 H A mem run) tt (p, tt) tt r) (fact 𝓤 (r ≡ p .answer))
     said-answer r = exE 𝓤 _ (λ ws. snd∗ 𝓤 (sem 𝓤 H A (lasts answer-of.ended tt (p, tt) ws)) (fact 𝓤 (r ≡ p .answer)))
 
-    abbrev of-args : ℕ → RefT (List ℕ) × (Plan × (ℕ × Unit {0}))
-    of-args i = (y, (p, (i, tt)))
+    abbrev of-args : ℕ → ℕ × (RefT (List ℕ) × (Plan × (ℕ × Unit {0})))
+    of-args i = (list, (y, (p, (i, tt))))
 
     abbrev of-vals : ℕ → Vals record-of.signature (κ, tt)
-    of-vals i = (u₁ ∷ [], (u ∷ [], (vint w64 i ∷ [], tt)))
+    of-vals i = (vint w64 list ∷ [], (u₁ ∷ [], (u ∷ [], (vint w64 i ∷ [], tt))))
 
     abbrev to-record : ℕ → RecordOf 𝓤 H A mem run .Ghost
     to-record i = (((κ, tt), (q, tt), tt, of-args i, of-vals i), tt)
 
-    asked-record : (i : ℕ) → 81 * (p .first + 2 * i) + 162 ≤ length ss → ent 𝓤 (onEntry 𝓤 H A record-of.signature (κ, tt) (q, tt) (of-args i) (of-vals i)) (RecordOf 𝓤 H A mem run .pre (to-record i))
-    asked-record i h = qed W ((‵ (flft κ q) ⊛ ‵ ftrue) ∷ ‵ (owns (ShrSlice (named 0) κ u8 ∷ P.the-row ∷ usize ∷ []) (of-args i) (of-vals i)) ∷ []) ∵ says ! h $ frame ! $ done !
+    asked-record : (i : ℕ) → HasEntry ss (p .first) i → ent 𝓤 (onEntry 𝓤 H A record-of.signature (κ, tt) (q, tt) (of-args i) (of-vals i)) (RecordOf 𝓤 H A mem run .pre (to-record i))
+    asked-record i h = qed W ((‵ (flft κ q) ⊛ ‵ ftrue) ∷ ‵ (owns (u64 ∷ ShrSlice (named 0) κ u8 ∷ P.the-row ∷ usize ∷ []) (of-args i) (of-vals i)) ∷ []) ∵ says ! h $ frame ! $ done !
 
-    said-record : (i : ℕ) (r : Record) → ent 𝓤 (ensured 𝓤 H A record-of.ended (record-of.clauses 𝓤 H A mem run) (κ, tt) (of-args i) tt r) (fact 𝓤 (r ≡ recordIn ss (p .first + 2 * i)))
-    said-record i r = exE 𝓤 _ (λ ws. snd∗ 𝓤 (sem 𝓤 H A (lasts record-of.ended (κ, tt) (of-args i) ws)) (fact 𝓤 (r ≡ recordIn ss (p .first + 2 * i))))
+    said-record : (i : ℕ) (r : Record) → ent 𝓤 (ensured 𝓤 H A record-of.ended (record-of.clauses 𝓤 H A mem run) (κ, tt) (of-args i) tt r) (fact 𝓤 (r ≡ recordIn list ss (p .first) i))
+    said-record i r = exE 𝓤 _ (λ ws. snd∗ 𝓤 (sem 𝓤 H A (lasts record-of.ended (κ, tt) (of-args i) ws)) (fact 𝓤 (r ≡ recordIn list ss (p .first) i)))
 
     module _ (is : Is P.the-row p (u ∷ [])) where
-      apart-record : (i : ℕ) → i < 2 ^ 64 → 81 * (p .first + 2 * i) + 162 ≤ length ss
+      apart-record : (i : ℕ) → list < 2 ^ 64 → i < 2 ^ 64 → HasEntry ss (p .first) i
           → ent 𝓤 (sep 𝓤 (A .lft κ q) (sem 𝓤 H A Own)) (sep 𝓤 (RecordOf 𝓤 H A mem run .pre (to-record i)) (sem 𝓤 H A Own))
-      apart-record i fits h =
+      apart-record i list-fits fits h =
           qed W (‵ (flft κ q) ∷ ‵ Own ∷ []) ∵ move ! (1 ∷ []) $ use1 W (‵ Own ⊛ ‵ Own) (shr-slice-copy 𝓤 H A W (named 0) κ u8 .twice y (u₁ ∷ [])) $ split ! $
           nothing ! $ owned ! usize (Is usize) (uint-makes 𝓤 H A W w64) i _ (refl, fits) $ fjoin ! $
-          owned ! P.the-row (Is P.the-row) (LL.makes P.the-type P′.the-plain 𝓤 H A) p (u ∷ []) is $ fjoin ! $ move ! (1 ∷ 0 ∷ []) $ fjoin ! $ nothing ! $ move ! (3 ∷ 0 ∷ []) $ join ! $
+          owned ! P.the-row (Is P.the-row) (LL.makes P.the-type P′.the-plain 𝓤 H A) p (u ∷ []) is $ fjoin ! $ move ! (1 ∷ 0 ∷ []) $ fjoin ! $
+          owned ! u64 (Is u64) (uint-makes 𝓤 H A W w64) list _ (refl, list-fits) $ fjoin ! $ nothing ! $ move ! (3 ∷ 0 ∷ []) $ join ! $
           use2 W (raw (RecordOf 𝓤 H A mem run .pre (to-record i))) (asked-record i h) $ frame ! $ done !
 
       module _ (list-fits : list < 2 ^ 64) (room-s : Room u8 (length ss)) (room : Room T.the-row (length ys)) (pl : Planned list ss ys p) where
@@ -206,10 +207,10 @@ module _ {M : Type 1} (𝓤 : URA M) (H : Heap 𝓤) (A : Atoms 𝓤) (W : Given
 
         -- i records are stored
         abbrev at : ℕ → List Record
-        at i = filled ss (p .first) ys i
+        at i = filled list ss (p .first) ys i
 
         at-length : (i : ℕ) → length (at i) ≡ length ys
-        at-length i = length-filled ss (p .first) ys i
+        at-length i = length-filled list ss (p .first) ys i
 
         exits : (r : Answer) (v : Val) → Is R.the-row r (v ∷ []) → r ≡ p .answer
             → ent 𝓤 (⋆ 𝓤 H A (‵ (fobs γ (codedHoleys T.the-row .code (heres T.the-row (at m)))) ∷ ‵ (fbor κ′ (Held T.the-row (length (at m)) b o γ)) ∷ ‵ (flft κ′ q′) ∷ ‵ Own ∷ ‵ (flft κ q) ∷ [])) (Post v)
@@ -255,7 +256,7 @@ module _ {M : Type 1} (𝓤 : URA M) (H : Heap 𝓤) (A : Atoms 𝓤) (W : Given
             inside : (i : ℕ) → i < m → i < length (at i)
             inside i small = omega (arith, small, pl .within, at-length i)
 
-            bytes : (i : ℕ) → i < m → i * 76 < 2 ^ 64
+            bytes : (i : ℕ) → i < m → i * 84 < 2 ^ 64
             bytes i small = omega (arith, small, pl .within, room .1)
 
             next : (t : ℕ) → m - t < m → m - t + 1 ≡ m - (m - (m - t + 1))
@@ -267,17 +268,17 @@ module _ {M : Type 1} (𝓤 : URA M) (H : Heap 𝓤) (A : Atoms 𝓤) (W : Given
                 assigns ! (bin ! (load ! (from ! (stop !)) (look ! 16 refl)) (load ! (from ! (stop !)) (look ! 18 refl)) tt) (from ! (stop !)) (init ! 12 refl (tt, tt)) $
                 while-test ! (load ! (from ! (stop !)) (look ! 12 refl))
                 (λ h. let small = ltb→lt (m - t) m h in
-                move ! (5 ∷ 4 ∷ []) $ use2 W (raw (RecordOf 𝓤 H A mem run .pre (to-record (m - t))) ⊛ ‵ Own) (apart-record (m - t) (omega (arith, small, m-fits)) (pl .inside (m - t) small)) $ split ! $
+                move ! (5 ∷ 4 ∷ []) $ use2 W (raw (RecordOf 𝓤 H A mem run .pre (to-record (m - t))) ⊛ ‵ Own) (apart-record (m - t) list-fits (omega (arith, small, m-fits)) (pl .inside (m - t) small)) $ split ! $
                 -- [what `record_of` asks; Own; the row; the open borrow; obs; auth; _11; …]
-                calls-at ! (fmOf 𝓤 H (W .laws) 𝓣) (RecordOf 𝓤 H A mem run) known-record (to-record (m - t)) (and-then ! (load ! (from ! (stop !)) (look ! 24 refl)) (and-then ! (load ! (from ! (stop !)) (look ! 20 refl)) (and-then ! (load ! (from ! (stop !)) (look ! 16 refl)) (no-more !)))) (λ v.
+                calls-at ! (fmOf 𝓤 H (W .laws) 𝓣) (RecordOf 𝓤 H A mem run) known-record (to-record (m - t)) (and-then ! (load ! (from ! (stop !)) (look ! 26 refl)) (and-then ! (load ! (from ! (stop !)) (look ! 24 refl)) (and-then ! (load ! (from ! (stop !)) (look ! 20 refl)) (and-then ! (load ! (from ! (stop !)) (look ! 16 refl)) (no-more !))))) (λ v.
                 use1 W (later (some (λ (r : Record). ((‵ (flft κ q) ⊛ ‵ ftrue) ⊛ ‵ (T.the-row .own r (v ∷ []))) ⊛ raw (ensured 𝓤 H A record-of.ended (record-of.clauses 𝓤 H A mem run) (κ, tt) (of-args (m - t)) tt r)))) (id⊢ 𝓤 _) $ await ! tt $ pick ! (λ r.
-                split ! $ move ! (1 ∷ []) $ use1 W (raw (fact 𝓤 (r ≡ recordIn ss (p .first + 2 * (m - t))))) (said-record (m - t) r) $ heard ! (r ≡ recordIn ss (p .first + 2 * (m - t))) (λ e. split ! $ move ! (1 ∷ []) $
+                split ! $ move ! (1 ∷ []) $ use1 W (raw (fact 𝓤 (r ≡ recordIn list ss (p .first) (m - t)))) (said-record (m - t) r) $ heard ! (r ≡ recordIn list ss (p .first) (m - t)) (λ e. split ! $ move ! (1 ∷ []) $
                 peeks ! T.the-row (Is T.the-row) (shows 𝓤 H A T.the-row) r (v ∷ []) (λ is-r.
                 -- [what the record owns; the token; Own; the row; the open borrow; obs; auth; _11; …]
                 land ! (from ! (stop !)) (init ! 11 refl (LL.lawful T.the-type T′.the-laws 𝓤 H A W .typed r _ is-r .0)) $
                 assigns ! (bin ! (load ! (from ! (stop !)) (look ! 17 refl)) (lit ! tt) (record { fits = bytes (m - t) small })) (from ! (stop !)) (init ! 9 refl (tt, record { fits = bytes (m - t) small })) $
                 assigns ! (bin ! (load ! (from ! (fld ! refl (stop !))) (look-in ! 23 (sub ! 0 refl (whole !)))) (load ! (from ! (stop !)) (look ! 9 refl)) tt) (from ! (stop !)) (init ! 7 refl (tt, tt)) $
-                rewrite ! 7 (λ (z : ℕ). ‵ (fat fullShare tyPtr l₁₁ 0 (vptr b z))) (sym (place-is 76 o (m - t))) refl $
+                rewrite ! 7 (λ (z : ℕ). ‵ (fat fullShare tyPtr l₁₁ 0 (vptr b z))) (sym (place-is 84 o (m - t))) refl $
                 move ! (3 ∷ []) $ elem-out ! T.the-row (Is T.the-row) (shows 𝓤 H A T.the-row) (LL.vals T.the-type T′.the-laws) (LL.tells T.the-type T′.the-laws) fullShare (at (m - t)) (m - t) r b o (inside (m - t) small) (λ _.
                 -- [table[i]; what it owns; the others; what the record owns; the token; Own; the open borrow; obs; auth; _11; …]
                 assigns ! (of-opd ! (load ! (from ! (stop !)) (look ! 13 refl))) (from ! (hop ! (look ! 9 refl) (stop !))) (store-raw ! 0 refl (LL.lawful T.the-type T′.the-laws 𝓤 H A W .typed r _ is-r .0)) $

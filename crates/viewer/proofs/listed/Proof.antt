@@ -49,7 +49,7 @@ use denote.Signature.Array.{arrayOf}
 use borrow.Rule.Slice.Shared.{parts-cells}
 use Rattle.rewrap.specs.declared.Answer.{Answer}
 use Rattle.rewrap.specs.declared.Record.{Record}
-use Rattle.rewrap.specs.Answers.{answerOf, tableInto, slotsLeft}
+use Rattle.rewrap.specs.Answers.{answerOf, listedIn, slotsLeft}
 use Rattle.rewrap.proofs.Record as T
 use Rattle.rewrap.proofs.Record.Laws as T′
 use Rattle.rewrap.proofs.Answer as R
@@ -125,7 +125,7 @@ module _ {M : Type 1} (𝓤 : URA M) (H : Heap 𝓤) (A : Atoms 𝓤) (W : Given
   typed-rows : (zs : List Record) → Is (Array T.the-row 4) zs (whole-of zs ∷ []) → Holds (hasTy rows (whole-of zs)) × WT (whole-of zs)
   typed-rows zs is = array-lawful 𝓤 H A W T.the-row (LL.lawful T.the-type T′.the-laws 𝓤 H A W) 4 .typed zs (whole-of zs ∷ []) is .0
 
-  exits : list < 2 ^ 64 → (zs : List Record) → Is (Array T.the-row 4) zs (whole-of zs ∷ []) → zs ≡ slotsLeft xs (tableInto list ss (length xs)) → ent 𝓤 (⋆ 𝓤 H A (‵ (flft κ q) ∷ ‵ Own ∷ [])) (Post (whole-of zs))
+  exits : list < 2 ^ 64 → (zs : List Record) → Is (Array T.the-row 4) zs (whole-of zs ∷ []) → zs ≡ slotsLeft xs (listedIn list ss) → ent 𝓤 (⋆ 𝓤 H A (‵ (flft κ q) ∷ ‵ Own ∷ [])) (Post (whole-of zs))
   exits list-fits zs is e =
       qed W (‵ (flft κ q) ∷ ‵ Own ∷ []) ∵
       suffices ! _ (ends-at 𝓤 H A listed.ended stayed (listed.clauses 𝓤 H A mem run) W bound (whole-of zs) zs (tt, (tt, (tt, tt))) (tt, (tt, (tt, tt)))) $ says ! e $
@@ -163,7 +163,7 @@ module _ {M : Type 1} (𝓤 : URA M) (H : Heap 𝓤) (A : Atoms 𝓤) (W : Given
 
     -- what is said of the table at exit
     abbrev Said : Answer → List Record → Type 0
-    Said r zs = (r ≡ answerOf (tableInto list ss (length xs))) × (zs ≡ slotsLeft xs (tableInto list ss (length xs)))
+    Said r zs = (r ≡ answerOf (length xs) (listedIn list ss)) × (zs ≡ slotsLeft xs (listedIn list ss))
 
   room : Room T.the-row 4
   room = (lit< tt, lit< tt)

@@ -9,4 +9,5 @@ record-with-spec =
     tie.close
     (tie.spec
     (λ c κs. search (needs, slotted))
+    (λ c κs. search (needs, slotted))
     (λ c. search (needs, slotted)))
