@@ -1,2 +1,3 @@
-pub mod Packs
 pub mod Rooms
+pub mod Passing
+pub mod Packs

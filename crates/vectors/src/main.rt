@@ -10,9 +10,11 @@ use crate::vector::wants_room;
 ghost use mathlib.Core.Path.{_≡_};
 ghost use Prim.Native.Nat.{_≤_};
 ghost use lib.ListN.{length};
+ghost use Rattle.vectors.specs.Passing.{passes, scored};
+ghost use Rattle.vectors.specs.Packs.{Tried};
 
-// A vector: whether it is written (1) or read (0), under which list, the answer that is expected; where its name, its input and the expected
-// output stand in its pack, up to where the next vector begins.
+// A vector: whether it is written (1) or read (0), under which list, the answer that is expected; where its name, its input and the
+// expected output stand in its pack, up to where the next vector begins.
 pub enum Packed {
     Vector {
         op: u64,
@@ -53,6 +55,7 @@ fn passes(
     expected: &[u8],
     out: &mut [u8],
 ) -> bool
+    ensures { λ r. ⌜ r ≡ passes op list number place (now (input .entry)) (now (expected .entry)) (length (now (out .entry))) ⌝ }
     ensures { λ _. ⌜ length (now (out .exit)) ≡ length (now (out .entry)) ⌝ }
 {
     if !gives(op, list, number, place, input, expected, out) {
@@ -72,6 +75,7 @@ fn score(
     expected: &[u8],
     out: &mut [u8],
 ) -> u64
+    ensures { λ r. ⌜ r ≡ scored op list number place (now (input .entry)) (now (expected .entry)) (length (now (out .entry))) ⌝ }
     ensures { λ r. ⌜ r ≤ 1 ⌝ }
     ensures { λ _. ⌜ length (now (out .exit)) ≡ length (now (out .entry)) ⌝ }
 {
@@ -83,7 +87,9 @@ fn score(
 }
 
 // All vectors of a pack.
-fn all(p: &[u8], out: &mut [u8]) -> Tally {
+fn all(p: &[u8], out: &mut [u8]) -> Tally
+    ensures { λ r. ⌜ Tried (now (p .entry)) (length (now (out .entry))) 0 0 0 r ⌝ }
+{
     let mut tried: u64 = 0;
     let mut passed: u64 = 0;
     let mut at = 0;
