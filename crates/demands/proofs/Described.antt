@@ -30,6 +30,10 @@ pub described-sheet : (list : ℕ) (m : Model) → Fits list m → described (sh
 described-sheet list m f =
     ap (λ (s : Sheet). modelOf s) (ap sheetOfLines (lines-written (sheet-formed list m f .spelt)) ∙ sheet-again (sheetOf list m)) ∙ model-again list m
 
+-- so no two models have one
+pub one-told : (list : ℕ) (m k : Model) → Fits list m → Fits list k → sheetText (sheetOf list m) ≡ sheetText (sheetOf list k) → m ≡ k
+one-told list m k f g e = sym (described-sheet list m f) ∙ ap described e ∙ described-sheet list k g
+
 -- ---- what is known of a sheet that is written
 
 pub record Accepted (list : ℕ) (s g : List ℕ) : Type 0 where

@@ -2,6 +2,8 @@
 use mathlib.Core.Path.{refl}
 use Rattle.sections.proofs.cards.Kinds as sections-cards-kinds
 use Rattle.sections.proofs.cards.Reads as sections-cards-reads
+use Rattle.cards.proofs.entry_number.Kinds as entry-number-kinds
+use Rattle.cards.proofs.entry_number.Reads as entry-number-reads
 use Rattle.cards.proofs.entry_line.Kinds as entry-line-kinds
 use Rattle.cards.proofs.entry_line.Reads as entry-line-reads
 use Rattle.cards.proofs.parameter_line.Kinds as parameter-line-kinds
@@ -11,7 +13,7 @@ use Rattle.cards.proofs.length_ok.Reads as length-ok-reads
 use Rattle.oneline.proofs.step_line.Kinds as oneline-step-line-kinds
 use Rattle.oneline.proofs.step_line.Reads as oneline-step-line-reads
 use Rattle.demands.specs.Unique.{NoSecond}
-use Rattle.demands.proofs.Unique.{once}
+use Rattle.demands.proofs.Unique.{once, number-once}
 
 -- ---- sections
 
@@ -19,6 +21,9 @@ pub sections-cards : NoSecond sections-cards-kinds.ps sections-cards-kinds.r sec
 sections-cards κs a z z′ left left′ p q = (once (p .0) (q .0), refl)
 
 -- ---- cards
+
+pub entry-number : NoSecond entry-number-kinds.ps entry-number-kinds.r entry-number-reads.Post
+entry-number κs a z z′ left left′ p q = (number-once p q, refl)
 
 pub entry-line : NoSecond entry-line-kinds.ps entry-line-kinds.r entry-line-reads.Post
 entry-line κs a z z′ left left′ p q = (once (p .0) (q .0), refl)

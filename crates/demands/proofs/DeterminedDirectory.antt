@@ -29,7 +29,7 @@ use Rattle.dsection.proofs.put_first.Reads as dsection-put-first-reads
 use Rattle.dsection.proofs.put_second.Kinds as dsection-put-second-kinds
 use Rattle.dsection.proofs.put_second.Reads as dsection-put-second-reads
 use Rattle.demands.specs.Unique.{NoSecond}
-use Rattle.demands.proofs.Unique.{once, wrote-first}
+use Rattle.demands.proofs.Unique.{once, line-once, wrote-first}
 
 -- ---- dlines
 
@@ -40,7 +40,7 @@ pub dlines-type-at : NoSecond dlines-type-at-kinds.ps dlines-type-at-kinds.r dli
 dlines-type-at κs a z z′ left left′ p q = (once (p .0) (q .0), refl)
 
 pub dlines-pointer-at : NoSecond dlines-pointer-at-kinds.ps dlines-pointer-at-kinds.r dlines-pointer-at-reads.Post
-dlines-pointer-at κs a z z′ left left′ p q = (once (p .0) (q .0), refl)
+dlines-pointer-at κs a z z′ left left′ p q = (line-once (p .0) (q .0), refl)
 
 pub dlines-lines-at : NoSecond dlines-lines-at-kinds.ps dlines-lines-at-kinds.r dlines-lines-at-reads.Post
 dlines-lines-at κs a z z′ left left′ p q = (once (p .0) (q .0), refl)

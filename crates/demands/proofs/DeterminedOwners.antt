@@ -11,7 +11,7 @@ use Rattle.owners.proofs.places.from_at.Reads as places-from-at-reads
 use Rattle.owners.proofs.places.count_at.Kinds as places-count-at-kinds
 use Rattle.owners.proofs.places.count_at.Reads as places-count-at-reads
 use Rattle.demands.specs.Unique.{NoSecond}
-use Rattle.demands.proofs.Unique.{once}
+use Rattle.demands.proofs.Unique.{once, number-once, line-once}
 
 -- ---- owning
 
@@ -24,10 +24,10 @@ owning-line-of κs a z z′ left left′ p q = (once p q, refl)
 -- ---- owners::places
 
 pub places-owner-at : NoSecond places-owner-at-kinds.ps places-owner-at-kinds.r places-owner-at-reads.Post
-places-owner-at κs a z z′ left left′ p q = (once (p .0) (q .0), refl)
+places-owner-at κs a z z′ left left′ p q = (number-once p q, refl)
 
 pub places-from-at : NoSecond places-from-at-kinds.ps places-from-at-kinds.r places-from-at-reads.Post
-places-from-at κs a z z′ left left′ p q = (once (p .0) (q .0), refl)
+places-from-at κs a z z′ left left′ p q = (line-once p q, refl)
 
 pub places-count-at : NoSecond places-count-at-kinds.ps places-count-at-kinds.r places-count-at-reads.Post
-places-count-at κs a z z′ left left′ p q = (once (p .0) (q .0), refl)
+places-count-at κs a z z′ left left′ p q = (once p q, refl)

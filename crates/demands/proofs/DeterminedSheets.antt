@@ -4,7 +4,7 @@ use Prim.Native.Nat.{ℕ}
 use denote.Ref.{now}
 use Rattle.columns.specs.declared.Signed.{Signed}
 use Rattle.columns.specs.Columns.{columns}
-use Rattle.sheets.specs.Line.{numOf}
+use Rattle.sheets.specs.Folds.{entryFold}
 use Rattle.sheets.proofs.order.value_step.Kinds as order-value-step-kinds
 use Rattle.sheets.proofs.order.value_step.Reads as order-value-step-reads
 use Rattle.sheets.proofs.order.step_line.Kinds as order-step-line-kinds
@@ -77,7 +77,7 @@ plain-find κs a z z′ left left′ p q = (once (p .0) (q .0), refl)
 pub plain-tabbed-at : NoSecond plain-tabbed-at-kinds.ps plain-tabbed-at-kinds.r plain-tabbed-at-reads.Post
 plain-tabbed-at κs a z z′ left left′ p q =
     let e : z .end ≡ z′ .end = once (p .0) (q .0) in
-    (ap₂ (λ (x : Signed) (k : ℕ). record { number = x; end = k }) (p .1 .0 ∙ ap (λ (k : ℕ). numOf (a .1 .0) (columns (now (a .0)) (a .1 .1 .0) k)) e ∙ sym (q .1 .0)) e, refl)
+    (ap₂ (λ (x : Signed) (k : ℕ). record { number = x; end = k }) (p .1 .0 ∙ ap (λ (k : ℕ). entryFold (a .1 .0) (columns (now (a .0)) (a .1 .1 .0) k)) e ∙ sym (q .1 .0)) e, refl)
 
 -- ---- said
 

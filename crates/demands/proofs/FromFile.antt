@@ -19,9 +19,10 @@ use Rattle.cards.specs.declared.Counts.{Counts}
 use Rattle.cards.specs.Cards.{firstG, entries}
 use Rattle.cards.specs.Rules.{Meets}
 use Rattle.cards.proofs.Complete.{rules}
-use Rattle.layouts.specs.declared.Verdict.the-variants.{Good}
 use Rattle.layouts.specs.Known.{mostList, known}
-use Rattle.layouts.specs.Entities.{verdict, entityCheck}
+use Rattle.layouts.specs.Fits.{Keeps}
+use Rattle.layouts.specs.Entities.{entityCheck}
+use Rattle.layouts.proofs.Fits.{accepts-keeps}
 use Rattle.sheets.specs.Plain.{most}
 use Rattle.sheets.specs.WellFormed.{Each}
 use Rattle.model.specs.Model.{Carried, Model, typeOf, typesOf, entityOf, fieldsIn}
@@ -29,7 +30,7 @@ use Rattle.model.specs.Read.{Listed, Before, GlobalRead, globalText, two, first
 use Rattle.model.specs.Fit.{EntryFits, Fits}
 use Rattle.passes.specs.Listed.{entryOf}
 use Rattle.passes.proofs.Facts.{Passed, passed-all}
-use Rattle.rewrap.proofs.Sound.{first-is, good-entity}
+use Rattle.rewrap.proofs.Sound.{first-is}
 use Rattle.rows.proofs.Each.{each-also, each-both, each-from, each-keeps}
 use Rattle.demands.proofs.Printable.{text-prints}
 use Rattle.demands.proofs.Starts.{starts-fit, starts-some}
@@ -42,7 +43,7 @@ use Rattle.demands.proofs.Listed.{Told, Refers, ParametersPrint, ready}
 -- what its values were accepted with: the first is its type, the others keep to its layout, and those up to the last given are carried
 record Passing (list : ℕ) (types : List ℕ) (e : Listed) (vs : List Item) (y : Carried) : Type 0 where
   first : vs ≡ whole false (typeOf (e .fields)) ∷ drop 1 vs
-  layout : known list (typeOf (e .fields)) (e .fields .form .size) ≡ true → verdict types (entityOf (e .fields) (trimmed (drop 1 vs))) ≡ Good
+  layout : known list (typeOf (e .fields)) (e .fields .form .size) ≡ true → Keeps types (entityOf (e .fields) (trimmed (drop 1 vs)))
   is : carried e (trimmed (drop 1 vs)) ≡ y
 
 passing : (list : ℕ) (types : List ℕ) (p : ℕ) (e : Listed) (vs : List Item) (end : ℕ) (y : Carried) → byParameters list types p e (values vs end) ≡ accepted y
@@ -53,7 +54,7 @@ passing list types p e vs end y h =
     let s = b .second in
     record {
       first = first-is (typeOf (e .fields)) vs (demand-accepted _ FirstValue p (a .first));
-      layout = good-entity list types (entityOf (e .fields) (trimmed (drop 1 vs))) p (b .value) (b .first);
+      layout = accepts-keeps types (entityOf (e .fields) (trimmed (drop 1 vs))) list p (b .value) (b .first);
       is = (cc);
     }
 

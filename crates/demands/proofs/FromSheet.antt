@@ -12,9 +12,10 @@ use Rattle.values.specs.Value.{Item, seen}
 use Rattle.records.specs.Global.{globalFits}
 use Rattle.directory.specs.Fields.{entryOf}
 use Rattle.directory.specs.Rules.{referenceRule, references, allFit}
-use Rattle.layouts.specs.declared.Verdict.the-variants.{Good}
 use Rattle.layouts.specs.Known.{mostList, known}
-use Rattle.layouts.specs.Entities.{verdict, entityCheck, marks}
+use Rattle.layouts.specs.Fits.{Keeps}
+use Rattle.layouts.specs.Entities.{entityCheck, marks}
+use Rattle.layouts.proofs.Fits.{accepts-keeps}
 use Rattle.sheets.specs.Sheet.{Row, Sheet, row}
 use Rattle.sheets.specs.Order.{readSheet}
 use Rattle.sheets.specs.WellFormed.{Each, none, one, Closed, no-rows, a-row, RowSpelt}
@@ -22,7 +23,7 @@ use Rattle.sheets.proofs.Sheets.{written-read}
 use Rattle.model.specs.Model.{typeOf, rowOf, sheetOf, marked, valueIn, markIn, carriedOf, modelOf}
 use Rattle.model.specs.Write.{equal, allEqual, globalRule, rowRules, rowReferences, rowEntity, marksRight, rowEntityRules, rowTypes, rowSize, firstGlobal, firstRow, sheetRules, one as oneLine}
 use Rattle.model.specs.Fit.{InKind, EntryFits, Fits}
-use Rattle.rewrap.proofs.Sound.{Ruled, rules-of, good-entity}
+use Rattle.rewrap.proofs.Sound.{Ruled, rules-of}
 use Rattle.rows.proofs.Each.{each-made, each-accepted}
 use Rattle.demands.proofs.Trims.{given-ends}
 use Rattle.demands.proofs.Marks.{marked-own, equal-is, all-equal-is}
@@ -37,8 +38,8 @@ abbrev Refers : List ℕ → Row → Type 0
 Refers types r = allFit types (references (entryOf (r .fields))) ≡ true
 
 record LaidOut (list : ℕ) (types : List ℕ) (r : Row) : Type 0 where
-  layout : known list (typeOf (r .fields)) (r .fields .form .size) ≡ true → verdict types (rowEntity r) ≡ Good
-  marks-right : marksRight list types r ≡ true
+  layout : known list (typeOf (r .fields)) (r .fields .form .size) ≡ true → Keeps types (rowEntity r)
+  marks-right : marksRight list r ≡ true
 
 refers : (types : List ℕ) (p : ℕ) (r : Row) (u : Unit {0}) → rowReferences types p r ≡ accepted u → Refers types r
 unfolding referenceRule
@@ -47,13 +48,13 @@ refers types p r u h = demand-accepted _ Reference p h
 laid-out : (list : ℕ) (types : List ℕ) (p : ℕ) (r : Row) (u : Unit {0}) → rowEntityRules list types p r ≡ accepted u → LaidOut list types r
 laid-out list types p r u h =
     let b = then-accepted (entityCheck list types (rowEntity r) p) _ u h in
-    record { layout = good-entity list types (rowEntity r) p (b .value) (b .first); marks-right = demand-accepted (marksRight list types r) Mark p (b .second) }
+    record { layout = accepts-keeps types (rowEntity r) list p (b .value) (b .first); marks-right = demand-accepted (marksRight list r) Mark p (b .second) }
 
 -- its marks are the list's
-row-is : (list : ℕ) (types : List ℕ) (r : Row) → marksRight list types r ≡ true → rowOf list types (carriedOf r) ≡ r
+row-is : (list : ℕ) (r : Row) → marksRight list r ≡ true → rowOf list (carriedOf r) ≡ r
 unfolding rowOf
-row-is list types r h =
-    let b = both (equal (r .known) (known list (rowEntity r .typ) (rowEntity r .form))) (allEqual (map markIn (r .values)) (marks list types (rowEntity r))) h in
+row-is list r h =
+    let b = both (equal (r .known) (known list (rowEntity r .typ) (rowEntity r .form))) (allEqual (map markIn (r .values)) (marks list (rowEntity r))) h in
     ap₂ (λ (k : Bool) (ws : List (Bool × Item)). row k (r .fields) (r .label) ws) (sym (equal-is _ _ (b .0)))
     (ap (λ (bs : List Bool). marked bs (map valueIn (r .values))) (sym (all-equal-is _ _ (b .1))) ∙ marked-own (r .values))
 
@@ -75,9 +76,9 @@ module _ (list : ℕ) (types : List ℕ) where
         layout = l .layout;
       }) (rows-fit ss cs us fs ls)
 
-  rows-are : {rs : List Row} → Each (LaidOut list types) rs → map (rowOf list types) (map carriedOf rs) ≡ rs
+  rows-are : {rs : List Row} → Each (LaidOut list types) rs → map (rowOf list) (map carriedOf rs) ≡ rs
   rows-are none = refl
-  rows-are (one {x = r} l ls) = ap₂ (λ (q : Row) (qs : List Row). q ∷ qs) (row-is list types r (l .marks-right)) (rows-are ls)
+  rows-are (one {x = r} l ls) = ap₂ (λ (q : Row) (qs : List Row). q ∷ qs) (row-is list r (l .marks-right)) (rows-are ls)
 
 -- ---- the sheet
 

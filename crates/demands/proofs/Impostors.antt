@@ -1,95 +1,79 @@
--- What shuts out each impostor. Assumes nothing.
-use mathlib.Core.Path.{_≡_, refl, sym, ap, subst, _∙_}
+-- No impostor keeps demand 2: what is read of a file that meets the rules is the sheet of what it carries, which tells its model and ends with its count. Assumes nothing.
+use mathlib.Core.Path.{_≡_, refl, sym, ap, _∙_}
 use mathlib.Core.List.{List, [], _∷_, _++_}
 use Prim.Native.Nat.{ℕ, _≤_}
 use native.Mathlib.Omega.{arith}
-use lib.ListN.{length, getD, length-map}
+use lib.ListN.{length, getD, length-append, length-map}
 use Rattle.columns.specs.declared.Fault.{Fault}
 use Rattle.columns.specs.Refusal.{Outcome, accepted, refused}
 use Rattle.values.specs.Value.{Item, default, whole, real, text}
-use Rattle.cards.specs.Cards.{mostLines}
+use Rattle.cards.specs.Cards.{mostLines, entries}
 use Rattle.layouts.specs.Known.{mostList}
-use Rattle.sheets.specs.Sheet.{last, sheetText, linesIn}
+use Rattle.sheets.specs.Sheet.{Line, last, sheetText, piecesOf, lastPiece, saidByAll, linesIn}
 use Rattle.sheets.proofs.Sheets.{lines-written}
-use Rattle.model.specs.Model.{Model, typesOf, rowOf, sheetOf}
+use Rattle.model.specs.Model.{Model, rowOf, sheetOf}
 use Rattle.model.specs.Canonical.{lineTotal, canonical}
-use Rattle.model.specs.Read.{reads}
-use Rattle.model.specs.Write.{writes}
 use Rattle.model.specs.Fit.{Fits}
 use Rattle.rewrap.specs.Rules.{MeetsRules}
-use Rattle.rewrap.specs.Demands.{described}
+use Rattle.rewrap.specs.Content.{modelOf, sheetBy}
 use Rattle.rewrap.specs.Chair.{file, sheet, read-chair}
-use Rattle.rewrap.proofs.Exactly.{exactly-the-rules}
-use Rattle.demands.specs.Impostors.{Honest, AlikeAtFirst, Ends, NoRefuser, NoConstant, NoSilence, NoPretence, NoOtherCount, TheSheet, NothingLeftOut, CountTold}
+use Rattle.rewrap.proofs.Content.{length-below, reads-content, exactly-the-sheet}
+use Rattle.demands.specs.Demand.{Way, KeepsDemand}
+use Rattle.demands.specs.Impostors.{RefusesAll, ConstantSheet, WritesNothing, AlikeAtFirst, FirstEntryOnly, EndsWith, InventsCount, ShutsOut, NoImpostor}
+use Rattle.demands.proofs.FromFile.{read-fits}
 use Rattle.demands.proofs.ToSheet.{sheet-formed}
-use Rattle.demands.proofs.Written.{written-short}
-use Rattle.demands.proofs.Described.{described-sheet, written-sheet}
-use Rattle.demands.proofs.ThereAndBack.{read-writes, written-reads, sheets-exactly}
-use Rattle.demands.proofs.EmptyText.{empty-short, empty-refused}
+use Rattle.demands.proofs.Described.{one-told}
+use Rattle.demands.proofs.ThereAndBack.{reads-back}
+use Rattle.demands.proofs.Demand.{one-reader}
 use Rattle.demands.proofs.LastLine.{last-line, one-last}
 use Rattle.demands.proofs.Examples.{titled, titled-fits, titled-short, a-start, b-start, entry, paired, paired-fits, paired-lines, paired-lines′}
 
--- ---- of a canonical file nothing is left to invent
+-- ---- canonical files
 
-pub the-sheet : TheSheet
-the-sheet rd wr h list m f l =
-    let s : List ℕ = sheetText (sheetOf list m) in
-    let w = h .sheets list s .1 (record { model = m; fits = f; short = l; text = refl }) in
-    let e = h .demand .exactly list s (w .0) .0 (w .1) in
-    ap (rd list) (sym (e .0 ∙ ap canonical (described-sheet list m f))) ∙ e .1 .1
+module _ (rd wr : Way) (h : KeepsDemand rd wr) (list : ℕ) where
+  -- that of a model is read to its sheet
+  the-sheet : (m : Model) → Fits list m → lineTotal m ≤ mostLines → rd list (canonical m) ≡ accepted (sheetText (sheetOf list m))
+  the-sheet m f l = one-reader rd wr h list (canonical m) (sheetText (sheetOf list m)) .1 (reads-back list m f l)
 
-pub nothing-left-out : NothingLeftOut
-nothing-left-out rd wr h list m m′ f f′ l l′ same =
-    let a : rd list (canonical m) ≡ accepted (sheetText (sheetOf list m)) = the-sheet rd wr h list m f l in
-    let b : rd list (canonical m′) ≡ accepted (sheetText (sheetOf list m′)) = the-sheet rd wr h list m′ f′ l′ in
-    let e : sheetText (sheetOf list m) ≡ sheetText (sheetOf list m′) = cc in
-    sym (described-sheet list m f) ∙ ap described e ∙ described-sheet list m′ f′
+  -- two that are read alike are of one
+  one-read : (m k : Model) → Fits list m → Fits list k → lineTotal m ≤ mostLines → lineTotal k ≤ mostLines → rd list (canonical m) ≡ rd list (canonical k) → m ≡ k
+  one-read m k f g l l′ same =
+      let a : rd list (canonical m) ≡ accepted (sheetText (sheetOf list m)) = the-sheet m f l in
+      let b : rd list (canonical k) ≡ accepted (sheetText (sheetOf list k)) = the-sheet k g l′ in
+      one-told list m k f g (cc)
 
--- nothing is both accepted and refused
-never : {o : Outcome (List ℕ)} {s : List ℕ} {n : Fault} {place : ℕ} → o ≡ accepted s → o ≡ refused n place → ⊥
-never a r = let z : _≡_ {A = ℕ} 0 1 = cc in absurd (omega arith)
+-- ---- refuses everything: the chair's file is read
 
--- ---- refuses everything: the chair's file meets the rules
-
-pub no-refuser : NoRefuser
-no-refuser rd wr d h =
-    let a = d .files mostList file .1 (exactly-the-rules mostList file .0 (sheet, read-chair)) in
-    let b = h mostList file in
-    never (a .1) (b .1 .1)
+no-refuser : ShutsOut RefusesAll
+no-refuser rd wr h i = never (one-reader rd wr h mostList file sheet .1 read-chair) (i mostList file .1 .1)
+  where
+    never : {o : Outcome (List ℕ)} {s : List ℕ} {n : Fault} {place : ℕ} → o ≡ accepted s → o ≡ refused n place → ⊥
+    never a r = let z : _≡_ {A = ℕ} 0 1 = cc in absurd (omega arith)
 
 -- ---- constant sheet: two titles
 
-pub no-constant : NoConstant
+no-constant : (list : ℕ) → list ≤ mostList → (s : List ℕ) → ShutsOut (λ (rd : Way). ConstantSheet rd list s)
 no-constant list l s rd wr h c =
     let f : Fits list (titled 65) = titled-fits list 65 l a-start in
     let g : Fits list (titled 66) = titled-fits list 66 l b-start in
     let a = c (canonical (titled 65)) (_, the-sheet rd wr h list (titled 65) f (titled-short 65)) in
     let b = c (canonical (titled 66)) (_, the-sheet rd wr h list (titled 66) g (titled-short 66)) in
-    let e : titled 65 ≡ titled 66 = nothing-left-out rd wr h list (titled 65) (titled 66) f g (titled-short 65) (titled-short 66) (a ∙ sym b) in
+    let e : titled 65 ≡ titled 66 = one-read rd wr h list (titled 65) (titled 66) f g (titled-short 65) (titled-short 66) (a ∙ sym b) in
     let z : _≡_ {A = ℕ} 65 66 = ap (λ (m : Model). getD (getD (m .starts) 0 []) 0 0) e in
     absurd (omega arith)
-
--- ---- writes nothing: the file that an empty text describes has no S line
-
-pub no-silence : NoSilence
-no-silence rd wr d (list, (f, e)) =
-    let w = d .there-and-back list f [] e empty-short in
-    let g = d .exactly list [] (w .0) .0 (w .1 .0) in
-    let r : MeetsRules list (w .0) = d .files list (w .0) .0 ([], w .1 .1) in
-    empty-refused list (exactly-the-rules list (canonical (described [])) .1 (subst (MeetsRules list) (g .0) r))
 
 -- ---- reads the first entry and pretends for the rest: two files that differ in the value of their second entry
 
 alike : AlikeAtFirst (paired 1) (paired 2)
 alike = record { starts = refl; globals = refl; first = refl; fields = refl; labels = refl; lines = paired-lines ∙ sym paired-lines′ }
 
-pub no-pretence : NoPretence
+no-pretence : (list : ℕ) → list ≤ mostList → ShutsOut (λ (rd : Way). FirstEntryOnly rd list)
 no-pretence list l rd wr h p =
     let f : Fits list (paired 1) = paired-fits list 1 l (omega arith) in
     let g : Fits list (paired 2) = paired-fits list 2 l (omega arith) in
     let u : lineTotal (paired 1) ≤ mostLines = omega (arith, paired-lines) in
     let v : lineTotal (paired 2) ≤ mostLines = omega (arith, paired-lines′) in
-    let e : paired 1 ≡ paired 2 = nothing-left-out rd wr h list (paired 1) (paired 2) f g u v (p (paired 1) (paired 2) f g alike) in
+    let e : paired 1 ≡ paired 2 = one-read rd wr h list (paired 1) (paired 2) f g u v (p (paired 1) (paired 2) f g alike) in
     let z : _≡_ {A = ℕ} 1 2 = ap secondValue e in
     absurd (omega arith)
   where
@@ -102,50 +86,55 @@ no-pretence list l rd wr h p =
     secondValue : Model → ℕ
     secondValue m = size (getD (getD (m .entries) 1 (entry []) .values) 0 default)
 
--- ---- invents the Z count
+-- ---- the last line: Z with the count of the entries
 
--- the lines of a model's sheet end with the count of its entries
-count-told : (list : ℕ) (m : Model) → Fits list m → Ends (sheetText (sheetOf list m)) (length (m .entries))
+-- of a model's sheet
+model-count : (list : ℕ) (m : Model) → Fits list m → EndsWith (linesIn (sheetText (sheetOf list m))) (length (m .entries))
 unfolding sheetOf
-count-told list m f =
+model-count list m f =
     let a = last-line (sheetOf list m) in
-    let n : length (sheetOf list m .rows) ≡ length (m .entries) = length-map (m .entries) (rowOf list (typesOf (m .entries))) in
+    let n : length (sheetOf list m .rows) ≡ length (m .entries) = length-map (m .entries) (rowOf list) in
     (a .0, lines-written (sheet-formed list m f .spelt) ∙ a .1 ∙ ap (λ (k : ℕ). a .0 ++ (last k ∷ [])) n)
 
--- so do those of any sheet
-sheet-told : (list : ℕ) (s : List ℕ) (m : Model) → Fits list m → sheetText (sheetOf list m) ≡ s
-    → (sheetText (sheetOf list (described s)) ≡ s) × Ends s (length (described s .entries))
-sheet-told list s m f t =
-    let d : described s ≡ m = ap described (sym t) ∙ described-sheet list m f in
-    let a = count-told list m f in
-    let n : length (m .entries) ≡ length (described s .entries) = ap (λ (k : Model). length (k .entries)) (sym d) in
-    (ap (λ (k : Model). sheetText (sheetOf list k)) d ∙ t, (a .0, ap linesIn (sym t) ∙ a .1 ∙ ap (λ (k : ℕ). a .0 ++ (last k ∷ [])) n))
+-- of the sheet of a file that meets the rules
+the-count : (list : ℕ) (f : List ℕ) (r : MeetsRules list f) → EndsWith (linesIn (sheetBy r)) (entries (r .counts))
+unfolding modelOf
+the-count list f r =
+    let a = model-count list (modelOf r) (read-fits list f (modelOf r) (reads-content list f r)) in
+    (a .0, a .1 ∙ ap (λ (k : ℕ). a .0 ++ (last k ∷ [])) (length-below (entries (r .counts)) _))
 
-pub the-count : CountTold
-the-count rd wr h list f s e l =
-    let w = h .demand .there-and-back list f s e l in
-    let i = h .sheets list s .0 (w .0, w .1 .0) in
-    sheet-told list s (i .model) (i .fits) (i .text)
+-- ---- writes nothing: a text without lines has no last one
 
-pub no-other-count : NoOtherCount
-no-other-count rd wr h i =
-    let a : rd (i .list) (canonical (i .model)) ≡ accepted (sheetText (sheetOf (i .list) (i .model))) = the-sheet rd wr h (i .list) (i .model) (i .fits) (i .short) in
-    let r : rd (i .list) (canonical (i .model)) ≡ accepted (i .sheet) = i .read in
-    let e : i .sheet ≡ sheetText (sheetOf (i .list) (i .model)) = cc in
-    let b = count-told (i .list) (i .model) (i .fits) in
-    i .other (one-last (i .ends .0) (b .0) (i .count) (length (i .model .entries)) (sym (i .ends .1) ∙ ap linesIn e ∙ b .1))
+no-lines : linesIn [] ≡ []
+unfolding linesIn piecesOf saidByAll lastPiece
+no-lines = refl
 
--- ---- reading and writing are honest
+no-silence : ShutsOut WritesNothing
+no-silence rd wr h (list, (f, e)) =
+    let x = exactly-the-sheet list f [] .0 (one-reader rd wr h list f [] .0 e) in
+    let a = the-count list f (x .0) in
+    let z : _≡_ {A = List Line} [] (a .0 ++ (last (entries (x .0 .counts)) ∷ [])) = sym no-lines ∙ ap linesIn (sym (x .1)) ∙ a .1 in
+    absurd (omega (arith, ap length z, length-append (a .0) (last (entries (x .0 .counts)) ∷ [])))
 
-pub honest : Honest reads writes
-honest = record {
-  demand = record {
-    files = exactly-the-rules;
-    there-and-back = λ list f s h l. let w = read-writes list f s h l in (canonical (described s), (w, written-reads list s (canonical (described s)) w));
-    exactly = sheets-exactly;
-  };
-  sheets = λ list s. (
-    λ w. let a = written-sheet list s (w .0) (w .1) in record { model = described s; fits = a .fits; short = a .short; text = a .text },
-    λ i. (canonical (i .model), rw (← i .text) (written-short list (i .model) (i .fits) (i .short))),
-  );
+-- ---- invents the count
+
+no-count : ShutsOut InventsCount
+no-count rd wr h i =
+    let a : rd (i .list) (i .file) ≡ accepted (sheetBy (i .meets)) = h .content (i .list) (i .file) (i .meets) in
+    let r : rd (i .list) (i .file) ≡ accepted (i .sheet) = i .read in
+    let e : i .sheet ≡ sheetBy (i .meets) = cc in
+    let b = the-count (i .list) (i .file) (i .meets) in
+    i .other (one-last (i .ends .0) (b .0) (i .count) _ (sym (i .ends .1) ∙ ap linesIn e ∙ b .1))
+
+pub no-impostor : NoImpostor
+no-impostor = record {
+  refuses-everything = no-refuser;
+  constant-sheet = no-constant;
+  writes-nothing = no-silence;
+  first-for-the-rest = no-pretence;
+  invented-count = no-count;
+  canonical-only = λ rd wr h i.
+      let a : rd (i .list) (i .file) ≡ accepted (sheetBy (i .meets)) = h .content (i .list) (i .file) (i .meets) in
+      let r : rd (i .list) (i .file) ≡ accepted (i .sheet) = i .read in
+      i .other (cc);
 }

@@ -16,14 +16,15 @@ pub mod ThereAndBack
 pub mod Corollaries
 pub mod Unique
 pub mod UniqueClauses
-pub mod EmptyText
 pub mod LastLine
 pub mod Examples
+pub mod Demand
 pub mod Impostors
-pub mod LengthTold
 pub mod Calls
 pub mod Functions
-pub mod OneSheetOnly
+pub mod Letters
+pub mod Lists
+pub mod NoRoom
 pub mod DeterminedColumns
 pub mod DeterminedValues
 pub mod DeterminedRecords
@@ -42,3 +43,4 @@ pub mod DeterminedBlocks
 pub mod NextPlace
 pub mod DeterminedCanonical
 pub mod DeterminedRewrap
+pub mod RightOnlyThere

@@ -76,7 +76,7 @@ second-globals κs = record {
 
 pub second-block : SecondBlock
 second-block κs = record {
-  passed = (record { ptr = (0, 0); name = 0; now = [] }, (0, (record { ptr = (0, 0); name = 0; now = twoBytes }, (0, (1, (1, (1, tt)))))));
+  passed = (record { ptr = (0, 0); name = 0; now = [] }, (0, (record { ptr = (0, 0); name = 0; now = twoBytes }, (0, (1, (record { 0 = 1 }, (record { 0 = 1 }, tt)))))));
   asked = ((omega arith, omega arith, omega arith, omega (arith, record-short .0)), ((omega arith, omega (arith, record-short .1)), values-unbroken));
   left = ([], (tt, (tt, (tt, (tt, (tt, (tt, tt)))))));
   one = blockAt 0;

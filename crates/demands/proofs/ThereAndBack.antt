@@ -46,7 +46,7 @@ read-writes list f s h l =
 
 -- ---- with the file's side
 
-reads-back : (list : ℕ) (m : Model) → Fits list m → lineTotal m ≤ mostLines → reads list (canonical m) ≡ accepted (sheetText (sheetOf list m))
+pub reads-back : (list : ℕ) (m : Model) → Fits list m → lineTotal m ≤ mostLines → reads list (canonical m) ≡ accepted (sheetText (sheetOf list m))
 unfolding reads
 reads-back list m f h = rw (back list m f h)
 

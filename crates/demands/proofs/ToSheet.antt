@@ -1,6 +1,6 @@
 -- The sheet of a model that fits is written: its text is read as that sheet, which keeps the rules, and its model is the one it was made of. Assumes nothing.
-use mathlib.Core.Path.{_≡_, refl, ap}
-use mathlib.Core.Bool.{Bool, true, false, cond}
+use mathlib.Core.Path.{_≡_, ap}
+use mathlib.Core.Bool.{Bool, true}
 use mathlib.Core.List.{List, [], _∷_, map}
 use Prim.Native.Nat.{ℕ}
 use lib.ListN.{length-map}
@@ -13,7 +13,8 @@ use Rattle.values.specs.Value.{Item, seen}
 use Rattle.records.specs.Global.{globalFits}
 use Rattle.directory.specs.Rules.{rangesOk, entryRules, referenceRule}
 use Rattle.layouts.specs.Known.{mostList, known}
-use Rattle.layouts.specs.Entities.{fault, verdict, entityCheck, marks}
+use Rattle.layouts.specs.Entities.{entityCheck, marks}
+use Rattle.layouts.proofs.Fits.{keeps-accepts}
 use Rattle.sheets.specs.Sheet.{sheetText}
 use Rattle.sheets.specs.WellFormed.{Each, none, one, Closed, no-rows, a-row, RowSpelt, WellFormed}
 use Rattle.sheets.proofs.Sheets.{read-written}
@@ -33,13 +34,13 @@ each-value [] none = none
 each-value (w ∷ ws) (one p ps) = one p (each-value ws ps)
 
 module _ (list : ℕ) (types : List ℕ) where
-  rows-closed : {es : List Carried} → Each (EntryFits list types) es → Closed (map (rowOf list types) es)
+  rows-closed : {es : List Carried} → Each (EntryFits list types) es → Closed (map (rowOf list) es)
   rows-closed none = no-rows
-  rows-closed (one {x = e} f fs) = a-row (ends-given (rowOf list types e .values) (rw (row-values list types e) (f .last-given))) (rows-closed fs)
+  rows-closed (one {x = e} f fs) = a-row (ends-given (rowOf list e .values) (rw (row-values list e) (f .last-given))) (rows-closed fs)
 
-  row-spelt : (e : Carried) → EntryFits list types e → RowSpelt (rowOf list types e)
+  row-spelt : (e : Carried) → EntryFits list types e → RowSpelt (rowOf list e)
   unfolding rowOf
-  row-spelt e f = record { numbers = f .numbers; label = f .label; values = each-value (rowOf list types e .values) (rw (row-values list types e) (f .values)) }
+  row-spelt e f = record { numbers = f .numbers; label = f .label; values = each-value (rowOf list e .values) (rw (row-values list e) (f .values)) }
 
 pub sheet-formed : (list : ℕ) (m : Model) → Fits list m → WellFormed (sheetOf list m)
 unfolding sheetOf
@@ -48,8 +49,8 @@ sheet-formed list m f = record {
   spelt = record {
     starts = f .starts;
     globals = f .globals;
-    rows = each-made (rowOf list (typesOf (m .entries))) (row-spelt list (typesOf (m .entries))) (f .entries);
-    few = rw (length-map (m .entries) (rowOf list (typesOf (m .entries)))) (f .few);
+    rows = each-made (rowOf list) (row-spelt list (typesOf (m .entries))) (f .entries);
+    few = rw (length-map (m .entries) (rowOf list)) (f .few);
   };
 }
 
@@ -57,49 +58,39 @@ sheet-formed list m f = record {
 
 module _ (list : ℕ) (types : List ℕ) (e : Carried) (f : EntryFits list types e) (p : ℕ) where
   -- 9, 13
-  row-rules : rowRules p (rowOf list types e) ≡ accepted tt
+  row-rules : rowRules p (rowOf list e) ≡ accepted tt
   unfolding rowOf entryRules
   row-rules = rw (demand-true (rangesOk (e .fields)) Directory p (f .ranges), ne-eqb (typeOf (e .fields)) 306 (f .no-macro))
 
   -- 10
-  row-references : rowReferences types p (rowOf list types e) ≡ accepted tt
+  row-references : rowReferences types p (rowOf list e) ≡ accepted tt
   unfolding rowOf referenceRule
   row-references = demand-true _ Reference p (f .references-fit)
 
-  entity-is : rowEntity (rowOf list types e) ≡ entityOf (e .fields) (e .values)
+  entity-is : rowEntity (rowOf list e) ≡ entityOf (e .fields) (e .values)
   unfolding rowOf
-  entity-is = ap (entityOf (e .fields)) (row-values list types e)
+  entity-is = ap (entityOf (e .fields)) (row-values list e)
 
-  -- 14, 15
-  row-layout : entityCheck list types (entityOf (e .fields) (e .values)) p ≡ accepted tt
-  unfolding entityCheck
-  row-layout = pick (known list (typeOf (e .fields)) (e .fields .form .size)) refl
-    where
-      pick : (b : Bool) → known list (typeOf (e .fields)) (e .fields .form .size) ≡ b
-          → cond b (fault (verdict types (entityOf (e .fields) (e .values))) p) (accepted tt) ≡ accepted tt
-      pick true k = rw (f .layout k)
-      pick false k = refl
-
-  -- 18
-  marks-right : marksRight list types (rowOf list types e) ≡ true
+  marks-right : marksRight list (rowOf list e) ≡ true
   unfolding rowOf
   marks-right =
       both-true (equal-self (known list (typeOf (e .fields)) (e .fields .form .size)))
-      (rw (row-marks list types e, entity-is) (all-equal-self (marks list types (entityOf (e .fields) (e .values)))))
+      (rw (row-marks list e, entity-is) (all-equal-self (marks list (entityOf (e .fields) (e .values)))))
 
-  row-entity : rowEntityRules list types p (rowOf list types e) ≡ accepted tt
+  -- 14, 15, then 18
+  row-entity : rowEntityRules list types p (rowOf list e) ≡ accepted tt
   row-entity =
-      let check : entityCheck list types (rowEntity (rowOf list types e)) p ≡ accepted tt = rw entity-is row-layout in
-      rw check (demand-true (marksRight list types (rowOf list types e)) Mark p marks-right)
+      let check : entityCheck list types (rowEntity (rowOf list e)) p ≡ accepted tt = rw entity-is (keeps-accepts types (entityOf (e .fields) (e .values)) list p (f .layout)) in
+      rw check (demand-true (marksRight list (rowOf list e)) Mark p marks-right)
 
 -- 8; each entry 9, 13; all 10; each entry 14, 15, 18
 rules-kept : (list : ℕ) (m : Model) → Fits list m → sheetRules list (sheetOf list m) ≡ accepted tt
 unfolding sheetRules sheetOf
 rules-kept list m f =
     let globals = each-accepts oneLine globalRule globals-kept (firstGlobal (sheetOf list m)) (f .in-kind) in
-    let rules = made-accepts rowSize rowRules (rowOf list types) (λ p e k. row-rules list types e k p) (firstRow (sheetOf list m)) (f .entries) in
-    let refer = made-accepts rowSize (rowReferences types) (rowOf list types) (λ p e k. row-references list types e k p) (firstRow (sheetOf list m)) (f .entries) in
-    let entities = made-accepts rowSize (rowEntityRules list types) (rowOf list types) (λ p e k. row-entity list types e k p) (firstRow (sheetOf list m)) (f .entries) in
+    let rules = made-accepts rowSize rowRules (rowOf list) (λ p e k. row-rules list types e k p) (firstRow (sheetOf list m)) (f .entries) in
+    let refer = made-accepts rowSize (rowReferences types) (rowOf list) (λ p e k. row-references list types e k p) (firstRow (sheetOf list m)) (f .entries) in
+    let entities = made-accepts rowSize (rowEntityRules list types) (rowOf list) (λ p e k. row-entity list types e k p) (firstRow (sheetOf list m)) (f .entries) in
     rw (globals .1, rules .1, types-again list m, refer .1, entities .1)
   where
     types : List ℕ

@@ -2,24 +2,34 @@
 use mathlib.Core.Path.{_≡_, refl, sym, ap, _∙_}
 use mathlib.Core.List.{List}
 use Prim.Native.Nat.{ℕ}
+use Rattle.columns.specs.declared.DirectoryNumber.{DirectoryNumber}
+use Rattle.columns.specs.declared.ParameterLine.{ParameterLine}
 use Rattle.columns.specs.Laid.{Wrote}
 use Rattle.records.specs.Written.{Put}
 use Rattle.names.proofs.Once.{shown-once}
-use Rattle.demands.specs.Unique.{ReadDetermined, WriteDetermined, SzelmikraReadDetermined, SzelmikraWriteDetermined, ShowDetermined, NameDetermined, AnsweredOnce, WroteOnce, PutOnce}
+use Rattle.demands.specs.Unique.{ReadDetermined, WriteDetermined, SzelmikraReadDetermined, SzelmikraWriteDetermined, ShowDetermined, NameDetermined, AnsweredOnce, WroteOnce}
 
 -- two that are the same third are one
 pub once : {A : Type 0} {x y a : A} → x ≡ a → y ≡ a → x ≡ y
 once p q = p ∙ sym q
 
+-- a directory number and a parameter line are what their numbers are
+pub number-once : {x y : DirectoryNumber} {n : ℕ} → x .0 ≡ n → y .0 ≡ n → x ≡ y
+number-once p q = ap (λ (n : ℕ). record { 0 = n }) (once p q)
+
+pub line-once : {x y : ParameterLine} {n : ℕ} → x .0 ≡ n → y .0 ≡ n → x ≡ y
+line-once p q = ap (λ (n : ℕ). record { 0 = n }) (once p q)
+
 -- ---- the forms of a contract
 
 pub answered-once : AnsweredOnce
-answered-once A B o left r r′ b b′ p q = (once (p .0) (q .0), once (p .1) (q .1))
+answered-once A B room o left r r′ b b′ p q = (once (p .0) (q .0), once (p .1) (q .1))
 
 pub wrote-once : WroteOnce
 wrote-once o at bs o′ o″ r r′ p q = (once (p .next) (q .next), once (p .bytes) (q .bytes))
 
-pub put-once : PutOnce
+-- text laid into the columns of a file
+pub put-once : (base w : ℕ) (o : List ℕ) (p : ℕ) (bs o′ o″ : List ℕ) (r r′ : ℕ) → Put base w o p bs o′ r → Put base w o p bs o″ r′ → (r ≡ r′) × (o′ ≡ o″)
 put-once base w o p bs o′ o″ r r′ h k = (once (h .next) (k .next), once (h .bytes) (k .bytes))
 
 -- where the buffer is the first argument

@@ -1,6 +1,11 @@
+pub mod Demand
+pub mod Impostors
 pub mod Corollaries
+pub mod Calls
+pub mod Functions
+pub mod Letters
+pub mod Lists
+pub mod NoRoom
 pub mod Unique
 pub mod UniqueClauses
-pub mod Impostors
-pub mod Functions
 pub mod UniqueBlocks

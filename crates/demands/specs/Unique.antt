@@ -10,7 +10,6 @@ use borrow.Fn.Kind.{PK, RK}
 use borrow.Fn.Kinds.{Out, Dens, resT, endedOf}
 use Rattle.columns.specs.Refusal.{Outcome}
 use Rattle.columns.specs.Laid.{Wrote}
-use Rattle.records.specs.Written.{Put}
 use Rattle.rewrap.specs.declared.Answer.{Answer}
 use Rattle.rewrap.specs.Answers.{answerOf}
 use Rattle.unwrap.proofs.read.Kinds as read-kinds
@@ -57,18 +56,14 @@ NameDetermined = (κs : Lfts 2) (a : Dens κs name-kinds.ps) (z z′ : resT name
 
 -- ---- the forms of a contract
 
--- an answer, and what is left of what was lent, by an outcome: read and write, and the table
-abbrev pub Answered : {A B : Type 0} → Outcome (List A) → (Outcome (List A) → B) → Answer → B → Type 0
-Answered o left r b = (r ≡ answerOf o) × (b ≡ left o)
+-- an answer, and what is left of what was lent, by a room and an outcome: read and write, and the table
+abbrev pub Answered : {A B : Type 0} → ℕ → Outcome (List A) → (Outcome (List A) → B) → Answer → B → Type 0
+Answered room o left r b = (r ≡ answerOf room o) × (b ≡ left o)
 
 abbrev pub AnsweredOnce : Type 1
-AnsweredOnce = (A B : Type 0) (o : Outcome (List A)) (left : Outcome (List A) → B) (r r′ : Answer) (b b′ : B)
-    → Answered o left r b → Answered o left r′ b′ → (r ≡ r′) × (b ≡ b′)
+AnsweredOnce = (A B : Type 0) (room : ℕ) (o : Outcome (List A)) (left : Outcome (List A) → B) (r r′ : Answer) (b b′ : B)
+    → Answered room o left r b → Answered room o left r′ b′ → (r ≡ r′) × (b ≡ b′)
 
 -- bytes laid over a list
 abbrev pub WroteOnce : Type 0
 WroteOnce = (o : List ℕ) (at : ℕ) (bs o′ o″ : List ℕ) (r r′ : ℕ) → Wrote o at bs o′ r → Wrote o at bs o″ r′ → (r ≡ r′) × (o′ ≡ o″)
-
--- text laid into the columns of a file
-abbrev pub PutOnce : Type 0
-PutOnce = (base w : ℕ) (o : List ℕ) (p : ℕ) (bs o′ o″ : List ℕ) (r r′ : ℕ) → Put base w o p bs o′ r → Put base w o p bs o″ r′ → (r ≡ r′) × (o′ ≡ o″)
