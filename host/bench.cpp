@@ -95,6 +95,19 @@ Times measure(std::size_t lines) {
     return {lines, least[0], least[1], least[2], least[3], least[4], least[5]};
 }
 
+// How much longer a sheet of 132,000 entries takes than one of 66,000, each of which names two others at random. A file can hold
+// the 66,000, and they are written; the 132,000 are refused once all that they name was looked at.
+double growthOfEntries() {
+    const std::string few = tests::manyEntries(66'000, tests::Named::Random),
+                      many = tests::manyEntries(132'000, tests::Named::Random);
+    std::vector<std::uint8_t> output(SZELMIKRA_MOST_FILE);
+    const std::vector<double> least = leastTimes({
+        [&] { sink = szelmikra_write(allTypes, bytesOf(few), few.size(), output.data(), output.size()).number; },
+        [&] { sink = szelmikra_write(allTypes, bytesOf(many), many.size(), output.data(), output.size()).number; },
+    });
+    return least[1] / least[0];
+}
+
 void target(const char *what, double ratio, double limit) {
     std::printf("%-48s %6.2f   target at most %4.1f   %s\n", what, ratio, limit, ratio <= limit ? "met" : "not met");
 }
@@ -124,5 +137,6 @@ int main() {
     target("read, growth from 20,000 to 200,000 lines", last.read / middle.read, 12);
     target("write, growth from 20,000 to 200,000 lines", last.write / middle.write, 12);
     target("read, 200,000 lines, over the plain pass", last.read / last.pass, 6);
+    target("write, growth from 66,000 to 132,000 entries", growthOfEntries(), 2.4);
     return 0;
 }

@@ -1,5 +1,4 @@
 // szelmikra: the command line program over the archive.
-#include <algorithm>
 #include <cstdio>
 #include <exception>
 #include <limits>
@@ -25,11 +24,8 @@ using tool::Options;
 
 enum Status { Done = 0, Refused = 1, WrongUsage = 2, SystemFailed = 3 };
 
-constexpr std::size_t longestFile = 200'000 * 81;
-constexpr std::uint64_t outputTooShort = 16;
-
 // A file that is too long is refused whatever follows, so one byte more than the limit tells enough of it.
-constexpr std::size_t enoughOfFile = longestFile + 1;
+constexpr std::size_t enoughOfFile = SZELMIKRA_MOST_FILE + 1;
 constexpr std::size_t noLimit = std::numeric_limits<std::size_t>::max();
 
 // An empty vector may have a null pointer, which the archive must not be given.
@@ -44,33 +40,26 @@ void tellRefusal(const std::string &name, const szelmikra_answer &answer) {
 
 std::string nameGiven(const Options &options) { return options.names.empty() ? tool::standardStream : options.names[0]; }
 
-int deliver(const Options &options, const szelmikra_answer &answer, const Bytes &output) {
-    if (answer.number != 0) {
+// Asks with no room how much is needed, and then with that.
+template <class Function>
+int deliver(const Options &options, Function function, const Bytes &input) {
+    szelmikra_answer answer = function(options.list, dataOf(input), input.size(), &nothing, 0);
+    Bytes output;
+    if (answer.number == SZELMIKRA_ROOM) {
+        output.resize(static_cast<std::size_t>(answer.length));
+        answer = function(options.list, dataOf(input), input.size(), output.data(), output.size());
+    }
+    if (answer.number != SZELMIKRA_ACCEPTED) {
         tellRefusal(nameGiven(options), answer);
         return Refused;
     }
-    tool::writeAll(options.output, output.data(), static_cast<std::size_t>(answer.length));
+    tool::writeAll(options.output, output.data(), output.size());
     return Done;
 }
 
-int sheet(const Options &options) {
-    const Bytes file = tool::readAll(nameGiven(options), enoughOfFile);
-    constexpr std::size_t leastRoom = 1 << 16;
-    Bytes output(std::max(leastRoom, 2 * file.size()));
-    szelmikra_answer answer = szelmikra_read(options.list, dataOf(file), file.size(), output.data(), output.size());
-    while (answer.number == outputTooShort) {
-        output.resize(2 * output.size());
-        answer = szelmikra_read(options.list, dataOf(file), file.size(), output.data(), output.size());
-    }
-    return deliver(options, answer, output);
-}
+int sheet(const Options &options) { return deliver(options, szelmikra_read, tool::readAll(nameGiven(options), enoughOfFile)); }
 
-int wrap(const Options &options) {
-    const Bytes sheet = tool::readAll(nameGiven(options), noLimit);
-    Bytes output(longestFile);
-    const szelmikra_answer answer = szelmikra_write(options.list, dataOf(sheet), sheet.size(), output.data(), output.size());
-    return deliver(options, answer, output);
-}
+int wrap(const Options &options) { return deliver(options, szelmikra_write, tool::readAll(nameGiven(options), noLimit)); }
 
 void print(const std::string &text) {
     tool::writeAll(tool::standardStream, reinterpret_cast<const std::uint8_t *>(text.data()), text.size());
@@ -96,7 +85,7 @@ private:
 // Room is looked at last of all, so with no room at all a good file answers 16 and no sheet needs to be printed.
 szelmikra_answer checkFile(std::uint64_t list, const Bytes &file) {
     szelmikra_answer answer = szelmikra_read(list, dataOf(file), file.size(), &nothing, 0);
-    if (answer.number == outputTooShort) answer.number = 0;
+    if (answer.number == SZELMIKRA_ROOM) answer.number = SZELMIKRA_ACCEPTED;
     return answer;
 }
 
@@ -110,7 +99,7 @@ int check(const Options &options) {
             progress.at(i + 1, name);
             try {
                 const szelmikra_answer answer = checkFile(options.list, tool::readAll(name, enoughOfFile));
-                if (answer.number == 0) continue;
+                if (answer.number == SZELMIKRA_ACCEPTED) continue;
                 ++refused;
                 progress.clear();
                 tellRefusal(name, answer);

@@ -18,8 +18,43 @@ extern "C" {
  * 142, 144, 308, 314, 402 form 7, 406 form 15, 408. */
 #define SZELMIKRA_ALL_TYPES 16383
 
+/* The longest file: 200,000 lines of 81 bytes. So much room is enough for any written file. */
+#define SZELMIKRA_MOST_FILE 16200000
+
+/* Why an input is refused: the numbers of an answer. SZELMIKRA_ACCEPTED is no refusal. */
+enum {
+    SZELMIKRA_ACCEPTED = 0,
+    SZELMIKRA_LIST_OR_LENGTH = 1,
+    SZELMIKRA_BYTE = 2,
+    SZELMIKRA_SECTION = 3,
+    SZELMIKRA_SEQUENCE = 4,
+    SZELMIKRA_TERMINATE = 5,
+    SZELMIKRA_SPELLING = 6,
+    SZELMIKRA_LIMIT = 7,
+    SZELMIKRA_GLOBAL = 8,
+    SZELMIKRA_DIRECTORY = 9,
+    SZELMIKRA_REFERENCE = 10,
+    SZELMIKRA_OWNERSHIP = 11,
+    SZELMIKRA_FIRST_VALUE = 12,
+    SZELMIKRA_MACRO = 13,
+    SZELMIKRA_LAYOUT = 14,
+    SZELMIKRA_LAYOUT_REFERENCE = 15,
+    SZELMIKRA_ROOM = 16,
+    SZELMIKRA_SHEET_LINE = 17,
+    SZELMIKRA_MARK = 18,
+    SZELMIKRA_TOO_LONG = 19
+};
+
 /* Accepted: number is 0, place is 0, and length bytes of the output were written; what is behind them is untouched.
- * Refused: number says why, place says where, length is 0; no byte of the output was changed. */
+ * Refused: number says why, place says where; no byte of the output was changed. Of a refusal 16 length is how many bytes are
+ * needed, of any other it is 0. So ask once with no room, then once with enough:
+ *
+ *     szelmikra_answer asked = szelmikra_read(list, file, file_len, &any_byte, 0);
+ *     if (asked.number != SZELMIKRA_ROOM) .. refused, whatever the room
+ *     uint8_t *sheet = malloc(asked.length);
+ *     szelmikra_answer read = szelmikra_read(list, file, file_len, sheet, asked.length);    number is 0, length is asked.length
+ *
+ * Neither a sheet nor a file is ever empty, so with no room nothing is accepted. */
 typedef struct {
     uint64_t number;
     uint64_t place;

@@ -9,7 +9,8 @@
 
 namespace plain {
 
-// number 0: accepted, and bytes has the output. Any other number is a refusal, place is its line, and bytes is empty.
+// number 0: accepted, and bytes has the output. Any other number is a refusal, place is its line, and bytes is empty; of 16 length
+// is what is needed, of any other refusal 0.
 struct Answer {
     std::uint64_t number = 0;
     std::uint64_t place = 0;

@@ -3,9 +3,10 @@
 //     differential [--seed N] [--first N] [--count N] [--keep FOLDER]
 //     differential --large [--keep FOLDER]
 //
-// Each random case has its own seed, made of --seed and its number, so `--first N --count 1` runs one again; --keep saves inputs on which
-// the two sides differ. It fails on any difference; a whole run, which starts at 0 and has the usual count or more, also fails if a
-// refusal number that can be reached was never seen. Refusal 19 of writing takes a large sheet: it is among the large cases.
+// Each random case has its own seed, made of --seed and its number, so `--first N --count 1` runs one again; --keep saves inputs on
+// which the two sides differ. It fails on any difference; a whole run, which starts at 0 and has the usual count or more, also
+// fails if a refusal number that can be reached was never seen. Refusal 19 of writing takes a large sheet: it is among the large
+// cases.
 #include <cstdio>
 #include <cstdlib>
 #include <cstring>
@@ -16,6 +17,7 @@
 #include "harness.hpp"
 #include "large.hpp"
 #include "random_files.hpp"
+#include "szelmikra.h"
 
 namespace {
 
@@ -24,7 +26,7 @@ using harness::Outcome;
 using harness::Side;
 using tests::Random;
 
-constexpr std::uint64_t allTypes = 16'383;
+constexpr std::uint64_t allTypes = SZELMIKRA_ALL_TYPES;
 constexpr std::size_t noLimit = static_cast<std::size_t>(-1);
 constexpr std::size_t numbers = 20;
 
@@ -154,6 +156,29 @@ Outcome thereAndBack(Comparison &comparison, const char *name, const std::string
     return written;
 }
 
+// A sheet is answered with this number, on both sides.
+void written(Comparison &comparison, const std::string &sheet, std::size_t room, std::uint64_t number, const char *what) {
+    comparison.expect(comparison.compare(Operation::Write, allTypes, sheet, room).number == number, what);
+}
+
+// Sheets of more entries than a file can hold: every reference is owed its answer before 19.
+void manyEntries(Comparison &comparison) {
+    using tests::Last;
+    using tests::Named;
+    comparison.label("many entries");
+    for (const std::size_t entries : std::initializer_list<std::size_t>{70'000, 500'000})
+        for (const Named named : {Named::Rising, Named::Falling, Named::Random})
+            written(comparison, tests::manyEntries(entries, named), 0, SZELMIKRA_TOO_LONG, "many entries are refused for length");
+    struct Late {
+        Last last;
+        std::uint64_t number;
+    };
+    for (const Late late : {Late{Last::Reference, SZELMIKRA_REFERENCE}, Late{Last::LayoutReference, SZELMIKRA_LAYOUT_REFERENCE},
+                            Late{Last::Mark, SZELMIKRA_MARK}})
+        written(comparison, tests::manyEntries(140'000, Named::Random, late.last), 0, late.number,
+                "what is wrong with the last of many entries is told before their number");
+}
+
 void largeCases(Comparison &comparison) {
     const std::string full = tests::largeFile(200'000);
     comparison.expect(thereAndBack(comparison, "200,000 lines", full).bytes == full, "the canonical file is written back");
@@ -172,10 +197,11 @@ void largeCases(Comparison &comparison) {
     }
     comparison.label("too many lines");
     comparison.compare(Operation::Read, allTypes, full + full.substr(0, 81), 0);
-    comparison.expect(comparison.compare(Operation::Write, allTypes, tests::startLinesOnly(200'000), 16'200'000).number == 0,
-                      "200,000 lines are written");
-    comparison.expect(comparison.compare(Operation::Write, allTypes, tests::startLinesOnly(200'001), 16'200'000).number == 19,
-                      "200,001 lines are refused");
+    written(comparison, tests::startLinesOnly(200'000), SZELMIKRA_MOST_FILE, SZELMIKRA_ACCEPTED, "200,000 lines are written");
+    written(comparison, tests::startLinesOnly(200'001), SZELMIKRA_MOST_FILE, SZELMIKRA_TOO_LONG, "200,001 lines are refused");
+    manyEntries(comparison);
+    comparison.label("100 MB of S lines");
+    written(comparison, tests::fullStartLines(100'000'000), 0, SZELMIKRA_TOO_LONG, "100 MB of S lines are refused");
 }
 
 std::uint64_t numberOf(const char *word) {
@@ -189,8 +215,9 @@ std::uint64_t numberOf(const char *word) {
 }
 
 [[noreturn]] void usage() {
-    std::fprintf(stderr, "usage: differential [--seed N] [--first N] [--count N] [--keep FOLDER]\n"
-                         "       differential --large [--keep FOLDER]\n");
+    std::fprintf(stderr,
+                 "usage: differential [--seed N] [--first N] [--count N] [--keep FOLDER]\n"
+                 "       differential --large [--keep FOLDER]\n");
     std::exit(2);
 }
 

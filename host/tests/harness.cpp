@@ -33,8 +33,8 @@ Outcome callArchive(Operation operation, std::uint64_t list, std::string_view in
     const auto function = operation == Operation::Read ? szelmikra_read : szelmikra_write;
     const szelmikra_answer answer = function(list, bytesOf(input), input.size(), output, room);
     Outcome outcome{answer.number, answer.place, answer.length, {}, false};
-    if (answer.length > room) return outcome;
-    const auto length = static_cast<std::size_t>(answer.length);
+    const std::size_t length = answer.number == 0 ? static_cast<std::size_t>(answer.length) : 0;
+    if (length > room) return outcome;
     outcome.kept = allPaint(lent.data(), fence) && allPaint(output + length, room - length + fence);
     outcome.bytes.assign(output, output + length);
     return outcome;

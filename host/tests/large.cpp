@@ -164,4 +164,31 @@ std::string startLinesOnly(std::size_t lines) {
     return sheet + "Z\t0\n";
 }
 
+std::string manyEntries(std::size_t entries, Named named, Last last) {
+    Random random(entries);
+    const auto target = [&](std::size_t i) {
+        const std::size_t index = named == Named::Rising ? i : named == Named::Falling ? entries - 1 - i : random.below(entries);
+        return 2 * index + 1;
+    };
+    std::string sheet = "S\tMANY\n";
+    for (std::size_t i = 0; i < entries; ++i) {
+        const Last what = i + 1 == entries ? last : Last::Good;
+        const std::size_t nobody = 2 * entries + 1;
+        const std::size_t view = what == Last::Reference ? nobody : target(i);
+        const std::size_t symbol = what == Last::LayoutReference ? nobody : target(i);
+        sheet += "E\t" + std::to_string(2 * i + 1) + "\t116\t0\t0\t0\t0\t" + std::to_string(view) +
+                 "\t0\t0\t00000000\t0\t0\t0\t        \nV\t1.\nV\t0.\nV\t1.\n" + (what == Last::Mark ? "V\t" : "R\t") +
+                 std::to_string(symbol) + "\n";
+    }
+    return sheet + "Z\t" + std::to_string(entries) + "\n";
+}
+
+std::string fullStartLines(std::size_t bytes) {
+    const std::string line = "S\t" + std::string(72, '*') + "\n";
+    std::string sheet;
+    sheet.reserve(bytes + line.size());
+    while (sheet.size() < bytes) sheet += line;
+    return sheet + "Z\t0\n";
+}
+
 }  // namespace tests

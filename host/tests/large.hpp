@@ -21,4 +21,16 @@ std::string manyReferences(std::size_t references);
 // A sheet of nothing but S lines, whose file has just that many lines.
 std::string startLinesOnly(std::size_t lines);
 
+// Which entries the entries of a sheet name, one after the other.
+enum class Named { Rising, Falling, Random };
+
+// What the last entry of a sheet is refused for: nothing, its directory reference (10), its layout's reference (15), its mark (18).
+enum class Last { Good, Reference, LayoutReference, Mark };
+
+// A sheet of that many points, each of which names two others.
+std::string manyEntries(std::size_t entries, Named named, Last last = Last::Good);
+
+// A sheet of S lines alone, full ones, that has at least so many bytes.
+std::string fullStartLines(std::size_t bytes);
+
 }  // namespace tests

@@ -1,13 +1,15 @@
 // Runs the archive and plain over the vectors: inputs with the answer that document 01 gives, worked out apart from both.
 //
-// The vectors stand in one file, which the proved program `vectors` reads too; host/pack.py makes it. For each seven numbers of eight digits (0 to
-// read and 1 to write; list; number and place of the answer; how long its name, its input and its output are), a line feed, and those three.
+// The vectors stand in one file, which the proved program `vectors` reads too; host/pack.py makes it. For each seven numbers of
+// eight digits (0 to read and 1 to write; list; number and place of the answer; how long its name, its input and its output are), a
+// line feed, and those three.
 #include <cstdio>
 #include <cstdlib>
 #include <string>
 #include <vector>
 
 #include "harness.hpp"
+#include "szelmikra.h"
 
 namespace {
 
@@ -66,15 +68,17 @@ bool answers(Side side, const Case &one, std::size_t room, const Outcome &expect
     return false;
 }
 
-// Room to spare, just enough, and one byte too little; a refusal does not depend on room.
+// Room to spare, just enough, one byte too little and none, which both tell the length that is needed; a refusal does not depend on
+// room.
 bool passes(Side side, const Case &one) {
     const std::size_t length = one.expected.bytes.size();
     constexpr std::size_t spare = 1000;
     if (one.expected.number != 0) return answers(side, one, spare, one.expected) && answers(side, one, 0, one.expected);
     Outcome tooShort;
-    tooShort.number = 16;
+    tooShort.number = SZELMIKRA_ROOM;
+    tooShort.length = length;
     return answers(side, one, length + spare, one.expected) && answers(side, one, length, one.expected) &&
-           answers(side, one, length - 1, tooShort);
+           answers(side, one, length - 1, tooShort) && answers(side, one, 0, tooShort);
 }
 
 }  // namespace
