@@ -1,12 +1,14 @@
 # make sample      the sheet of the sample file
 # make tools       the command line program, target/host/szelmikra
-# make check-host  vectors, archive against plain, command line
-# make test        all of that; then every crate is proved from nothing, every must-fail edit refused, every program's output compared
+# make check-host  vectors, archive against plain, command line, the list of what has to be believed
+# make test        every crate is proved from nothing, every must-fail edit refused, every program's output compared; then all of that
 # make install     header, archive, program, pkg-config and CMake files under PREFIX
 # make check-install  installs to a temporary folder and builds the example there with pkg-config and CMake
 # make bench       times; make stack: stack depth; make example: the C++ example on the sample file
 VERSION = 0.1.0
 PREFIX ?= /usr/local
+SHELL = /bin/bash
+.SHELLFLAGS = -eu -o pipefail -c
 ARCHIVE ?= target/staticlib/libszelmikra.a
 OUT = target/host
 CXXFLAGS ?= -O2 -Wall -Wextra -Wpedantic -Wconversion
@@ -21,7 +23,7 @@ endif
 
 include host/host.mk
 
-.PHONY: test fmt lib tools sample check-host check-vectors check-random check-large check-cli check-install bench stack example install
+.PHONY: test fmt lib tools sample check-host check-vectors check-random check-large check-cli check-believed check-install bench stack example install
 .DELETE_ON_ERROR:
 .DEFAULT_GOAL = tools
 
@@ -41,8 +43,8 @@ FLOORS = $(shell awk '/^[a-z]/ { sub(":", ""); name[++n] = $$1; line[n] = $$0 } 
     for (i = n; i > 0; i--) if (need[name[i]]) { k = split(line[i], to, " "); for (j = 2; j <= k; j++) need[to[j]] = 1 } \
     for (i = 1; i <= n; i++) if (need[name[i]] && name[i] != "szelmikra") print name[i] }' crates.txt)
 
-# What the prover prints is kept aside; it is shown if it refuses.
-target/staticlib/libszelmikra.a: $(shell find crates -name '*.rt')
+# What the prover prints is kept aside; it is shown if it refuses. What is proved already is not proved again.
+target/staticlib/libszelmikra.a: crates.txt $(shell find crates -name '*.rt' -o -name '*.antt')
 	@mkdir -p target
 	@echo 'proving the library, which takes some minutes; target/szelmikra.log tells how far it is' >&2
 	@{ rt check $(FLOORS) && rt staticlib szelmikra; } >target/szelmikra.log 2>&1 || { cat target/szelmikra.log; exit 1; }
@@ -61,7 +63,7 @@ PROGRAMS = $(OUT)/szelmikra $(OUT)/bench $(TESTS)/vectors $(TESTS)/differential 
 $(PROGRAMS): $(ARCHIVE) | $(CROSS_LIBM)
 	@$(HOST_CXX) $(CXXFLAGS) -pthread $(HOST_LINK) -o $@ $(filter %.o,$^) $(ARCHIVE)
 
-check-host: check-large check-random check-vectors check-cli
+check-host: check-large check-random check-vectors check-cli check-believed
 
 check-vectors: $(TESTS)/vectors
 	@$(HOST_RUN) $< crates/vectors/stdin
@@ -74,6 +76,9 @@ check-large: $(TESTS)/differential
 
 check-cli: $(OUT)/szelmikra
 	@host/tests/cli.sh $(HOST_RUN) $<
+
+check-believed:
+	@host/tests/believed.sh
 
 check-install: tools
 	@host/tests/install.sh "$(HOST_CXX)" "$(HOST_RUN)" $(MAKE) -s ARCHIVE=$(ARCHIVE)
@@ -104,5 +109,6 @@ install: tools
 fmt:
 	@rt fmt
 
-test: check-host
-	@rt ci
+# The archive is made of what was just proved. The verdict stands last, and only if all went well.
+test:
+	@log=$$(mktemp); trap 'rm -f "$$log"' EXIT; rt ci 2>&1 | tee "$$log"; $(MAKE) -s check-host; tail -n 1 "$$log"

@@ -1,5 +1,5 @@
 # The archive is for x86-64. On other machines the programs are built by a cross compiler and run by an emulator; this file is the
-# only place that knows. `toolchain` installs what is missing (Debian and Ubuntu).
+# only place that knows. `toolchain` installs what is missing (Debian and Ubuntu); what that says is shown if it fails.
 #
 # Elsewhere the programs are linked statically. The libm.a of Debian 12's cross package is a script that names files of another folder;
 # a copy of it without the folders finds them where they are. The emulator is told of the libraries for programs that are linked by others
@@ -26,5 +26,8 @@ endif
 .PHONY: toolchain
 toolchain:
 	@for need in $(HOST_NEEDS); do \
-	    command -v "$${need%%:*}" >/dev/null || { apt-get update -q && apt-get install -y -q "$${need#*:}"; } >&2 || exit 1; \
+	    command -v "$${need%%:*}" >/dev/null && continue; \
+	    log=$$(mktemp); \
+	    { apt-get update -q && apt-get install -y -q "$${need#*:}"; } >"$$log" 2>&1 || { cat "$$log" >&2; exit 1; }; \
+	    rm -f "$$log"; \
 	done
