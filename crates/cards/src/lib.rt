@@ -1,5 +1,5 @@
 // The lines of a file: their bytes, section letters, sequence numbers, and the T line; and where each section starts.
-// Crate `oneline` looks at one line, `sections` goes over all.
+// Crate `cards_line` looks at one line, `cards_pass` goes over all.
 
 use columns::DirectoryNumber;
 use columns::Fault;

@@ -15,10 +15,10 @@ use Rattle.columns.specs.Refusal.{Outcome, accepted, refused, number}
 use Rattle.columns.specs.Laid.{laid, laid-eq}
 use Rattle.model.specs.Read.{reads}
 use Rattle.model.specs.Write.{writes}
-use Rattle.rewrap.specs.declared.Answer.{Answer}
-use Rattle.rewrap.specs.Answers.{answer, answerOf, leftIn}
-use Rattle.rewrap.specs.Content.{sheetBy}
-use Rattle.rewrap.proofs.Content.{reads-sheet}
+use Rattle.desk.specs.declared.Answer.{Answer}
+use Rattle.desk.specs.Answers.{answer, answerOf, leftIn}
+use Rattle.desk.specs.Content.{sheetBy}
+use Rattle.desk.proofs.Content.{reads-sheet}
 use Rattle.demands.specs.Functions.{KeptRest}
 use Rattle.demands.specs.Calls.{ReadCall, WriteCall, read, szelmikra-read, write, szelmikra-write, given, RoomSeen}
 

@@ -4,7 +4,7 @@ use Rattle.columns.specs.Refusal.{accepted}
 use Rattle.model.specs.Read.{reads}
 use Rattle.model.specs.Write.{writes}
 use Rattle.demands.specs.Corollaries.{CanonicalRead, ModelKept, OneModel, OneSheet, ReadsBack, WrittenAgain}
-use Rattle.back.proofs.Whole.{back}
+use Rattle.demands_back.proofs.Whole.{back}
 use Rattle.demands.proofs.FromFile.{read-fits}
 use Rattle.demands.proofs.ThereAndBack.{read-to, tells-model, written-reads}
 

@@ -2,10 +2,10 @@
 use mathlib.Core.Path.{_≡_, ap, _∙_}
 use Rattle.columns.specs.Refusal.{accepted}
 use Rattle.model.specs.Canonical.{canonical}
-use Rattle.rewrap.specs.Demands.{described}
-use Rattle.rewrap.specs.Content.{modelOf, sheetBy}
-use Rattle.rewrap.proofs.Exactly.{exactly-the-rules}
-use Rattle.rewrap.proofs.Content.{reads-content, reads-sheet, exactly-the-sheet}
+use Rattle.desk.specs.Demands.{described}
+use Rattle.desk.specs.Content.{modelOf, sheetBy}
+use Rattle.desk.proofs.Exactly.{exactly-the-rules}
+use Rattle.desk.proofs.Content.{reads-content, reads-sheet, exactly-the-sheet}
 use Rattle.demands.specs.Demand.{Kept, OneReader, OneWriter, NothingLeftOut}
 use Rattle.demands.proofs.FromFile.{read-fits}
 use Rattle.demands.proofs.Described.{one-told}

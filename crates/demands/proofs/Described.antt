@@ -16,7 +16,7 @@ use Rattle.model.specs.Model.{Model, sheetOf, modelOf}
 use Rattle.model.specs.Canonical.{lineTotal, canonical}
 use Rattle.model.specs.Write.{sheetRules, writeModel, writes}
 use Rattle.model.specs.Fit.{Fits}
-use Rattle.rewrap.specs.Demands.{described}
+use Rattle.desk.specs.Demands.{described}
 use Rattle.demands.proofs.Rows.{model-again}
 use Rattle.demands.proofs.ToSheet.{sheet-formed}
 use Rattle.demands.proofs.FromSheet.{sheet-fits}

@@ -1,15 +1,15 @@
 -- No second result fits the contract of a public function of crates tally and canonical. Assumes nothing.
 use mathlib.Core.Path.{refl}
-use Rattle.tally.proofs.tally_said.Kinds as tally-tally-said-kinds
-use Rattle.tally.proofs.tally_said.Reads as tally-tally-said-reads
-use Rattle.tally.proofs.behind_value.Kinds as tally-behind-value-kinds
-use Rattle.tally.proofs.behind_value.Reads as tally-behind-value-reads
-use Rattle.tally.proofs.with_values.Kinds as tally-with-values-kinds
-use Rattle.tally.proofs.with_values.Reads as tally-with-values-reads
-use Rattle.tally.proofs.lines_of.Kinds as tally-lines-of-kinds
-use Rattle.tally.proofs.lines_of.Reads as tally-lines-of-reads
-use Rattle.canonical.proofs.file.put_file.Kinds as file-put-file-kinds
-use Rattle.canonical.proofs.file.put_file.Reads as file-put-file-reads
+use Rattle.file_tally.proofs.tally_said.Kinds as tally-tally-said-kinds
+use Rattle.file_tally.proofs.tally_said.Reads as tally-tally-said-reads
+use Rattle.file_tally.proofs.behind_value.Kinds as tally-behind-value-kinds
+use Rattle.file_tally.proofs.behind_value.Reads as tally-behind-value-reads
+use Rattle.file_tally.proofs.with_values.Kinds as tally-with-values-kinds
+use Rattle.file_tally.proofs.with_values.Reads as tally-with-values-reads
+use Rattle.file_tally.proofs.lines_of.Kinds as tally-lines-of-kinds
+use Rattle.file_tally.proofs.lines_of.Reads as tally-lines-of-reads
+use Rattle.file_canonical.proofs.file.put_file.Kinds as file-put-file-kinds
+use Rattle.file_canonical.proofs.file.put_file.Reads as file-put-file-reads
 use Rattle.demands.specs.Unique.{NoSecond}
 use Rattle.demands.proofs.Unique.{once, wrote-first}
 
@@ -27,7 +27,7 @@ tally-with-values κs a z z′ left left′ p q = (once (p .0) (q .0), refl)
 pub tally-lines-of : NoSecond tally-lines-of-kinds.ps tally-lines-of-kinds.r tally-lines-of-reads.Post
 tally-lines-of κs a z z′ left left′ p q = (once p q, refl)
 
--- ---- canonical::file
+-- ---- file_canonical::file
 
 pub file-put-file : NoSecond file-put-file-kinds.ps file-put-file-kinds.r file-put-file-reads.Post
 file-put-file κs a z z′ left left′ p q = wrote-first (left .1) (p .0) (q .0)

@@ -1,7 +1,7 @@
 -- No second result fits the contract of a public function of crates sections, cards and oneline. Assumes nothing.
 use mathlib.Core.Path.{refl}
-use Rattle.sections.proofs.cards.Kinds as sections-cards-kinds
-use Rattle.sections.proofs.cards.Reads as sections-cards-reads
+use Rattle.cards_pass.proofs.cards.Kinds as sections-cards-kinds
+use Rattle.cards_pass.proofs.cards.Reads as sections-cards-reads
 use Rattle.cards.proofs.entry_number.Kinds as entry-number-kinds
 use Rattle.cards.proofs.entry_number.Reads as entry-number-reads
 use Rattle.cards.proofs.entry_line.Kinds as entry-line-kinds
@@ -10,8 +10,8 @@ use Rattle.cards.proofs.parameter_line.Kinds as parameter-line-kinds
 use Rattle.cards.proofs.parameter_line.Reads as parameter-line-reads
 use Rattle.cards.proofs.length_ok.Kinds as length-ok-kinds
 use Rattle.cards.proofs.length_ok.Reads as length-ok-reads
-use Rattle.oneline.proofs.step_line.Kinds as oneline-step-line-kinds
-use Rattle.oneline.proofs.step_line.Reads as oneline-step-line-reads
+use Rattle.cards_line.proofs.step_line.Kinds as oneline-step-line-kinds
+use Rattle.cards_line.proofs.step_line.Reads as oneline-step-line-reads
 use Rattle.demands.specs.Unique.{NoSecond}
 use Rattle.demands.proofs.Unique.{once, number-once}
 

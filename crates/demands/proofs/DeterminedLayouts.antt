@@ -1,39 +1,39 @@
 -- No second result fits the contract of a public function of crates typelists, machine, layoutrows and takes. Assumes nothing.
 use mathlib.Core.Path.{refl}
-use Rattle.typelists.proofs.bit_of.Kinds as typelists-bit-of-kinds
-use Rattle.typelists.proofs.bit_of.Reads as typelists-bit-of-reads
-use Rattle.typelists.proofs.known.Kinds as typelists-known-kinds
-use Rattle.typelists.proofs.known.Reads as typelists-known-reads
-use Rattle.typelists.proofs.is_list.Kinds as typelists-is-list-kinds
-use Rattle.typelists.proofs.is_list.Reads as typelists-is-list-reads
-use Rattle.machine.proofs.with_left.Kinds as machine-with-left-kinds
-use Rattle.machine.proofs.with_left.Reads as machine-with-left-reads
-use Rattle.machine.proofs.runs_on.Kinds as machine-runs-on-kinds
-use Rattle.machine.proofs.runs_on.Reads as machine-runs-on-reads
-use Rattle.machine.proofs.step.Kinds as machine-step-kinds
-use Rattle.machine.proofs.step.Reads as machine-step-reads
-use Rattle.machine.proofs.end.Kinds as machine-end-kinds
-use Rattle.machine.proofs.end.Reads as machine-end-reads
-use Rattle.machine.proofs.start.Kinds as machine-start-kinds
-use Rattle.machine.proofs.start.Reads as machine-start-reads
-use Rattle.machine.proofs.is_reference.Kinds as machine-is-reference-kinds
-use Rattle.machine.proofs.is_reference.Reads as machine-is-reference-reads
-use Rattle.layoutrows.proofs.look.Kinds as layoutrows-look-kinds
-use Rattle.layoutrows.proofs.look.Reads as layoutrows-look-reads
-use Rattle.layoutrows.proofs.rests_in.Kinds as layoutrows-rests-in-kinds
-use Rattle.layoutrows.proofs.rests_in.Reads as layoutrows-rests-in-reads
-use Rattle.takes.proofs.takes_in.Kinds as takes-takes-in-kinds
-use Rattle.takes.proofs.takes_in.Reads as takes-takes-in-reads
-use Rattle.layoutrows.proofs.told.real_in.Kinds as layoutrows-told-real-in-kinds
-use Rattle.layoutrows.proofs.told.real_in.Reads as layoutrows-told-real-in-reads
-use Rattle.layoutrows.proofs.told.above_in.Kinds as layoutrows-told-above-in-kinds
-use Rattle.layoutrows.proofs.told.above_in.Reads as layoutrows-told-above-in-reads
-use Rattle.layoutrows.proofs.told.text_in.Kinds as layoutrows-told-text-in-kinds
-use Rattle.layoutrows.proofs.told.text_in.Reads as layoutrows-told-text-in-reads
-use Rattle.layoutrows.proofs.told.within_in.Kinds as layoutrows-told-within-in-kinds
-use Rattle.layoutrows.proofs.told.within_in.Reads as layoutrows-told-within-in-reads
-use Rattle.layoutrows.proofs.told.size_in.Kinds as layoutrows-told-size-in-kinds
-use Rattle.layoutrows.proofs.told.size_in.Reads as layoutrows-told-size-in-reads
+use Rattle.layouts_lists.proofs.bit_of.Kinds as typelists-bit-of-kinds
+use Rattle.layouts_lists.proofs.bit_of.Reads as typelists-bit-of-reads
+use Rattle.layouts_lists.proofs.known.Kinds as typelists-known-kinds
+use Rattle.layouts_lists.proofs.known.Reads as typelists-known-reads
+use Rattle.layouts_lists.proofs.is_list.Kinds as typelists-is-list-kinds
+use Rattle.layouts_lists.proofs.is_list.Reads as typelists-is-list-reads
+use Rattle.layouts_machine.proofs.with_left.Kinds as machine-with-left-kinds
+use Rattle.layouts_machine.proofs.with_left.Reads as machine-with-left-reads
+use Rattle.layouts_machine.proofs.runs_on.Kinds as machine-runs-on-kinds
+use Rattle.layouts_machine.proofs.runs_on.Reads as machine-runs-on-reads
+use Rattle.layouts_machine.proofs.step.Kinds as machine-step-kinds
+use Rattle.layouts_machine.proofs.step.Reads as machine-step-reads
+use Rattle.layouts_machine.proofs.end.Kinds as machine-end-kinds
+use Rattle.layouts_machine.proofs.end.Reads as machine-end-reads
+use Rattle.layouts_machine.proofs.start.Kinds as machine-start-kinds
+use Rattle.layouts_machine.proofs.start.Reads as machine-start-reads
+use Rattle.layouts_machine.proofs.is_reference.Kinds as machine-is-reference-kinds
+use Rattle.layouts_machine.proofs.is_reference.Reads as machine-is-reference-reads
+use Rattle.layouts_rows.proofs.look.Kinds as layoutrows-look-kinds
+use Rattle.layouts_rows.proofs.look.Reads as layoutrows-look-reads
+use Rattle.layouts_rows.proofs.rests_in.Kinds as layoutrows-rests-in-kinds
+use Rattle.layouts_rows.proofs.rests_in.Reads as layoutrows-rests-in-reads
+use Rattle.layouts_takes.proofs.takes_in.Kinds as takes-takes-in-kinds
+use Rattle.layouts_takes.proofs.takes_in.Reads as takes-takes-in-reads
+use Rattle.layouts_rows.proofs.told.real_in.Kinds as layoutrows-told-real-in-kinds
+use Rattle.layouts_rows.proofs.told.real_in.Reads as layoutrows-told-real-in-reads
+use Rattle.layouts_rows.proofs.told.above_in.Kinds as layoutrows-told-above-in-kinds
+use Rattle.layouts_rows.proofs.told.above_in.Reads as layoutrows-told-above-in-reads
+use Rattle.layouts_rows.proofs.told.text_in.Kinds as layoutrows-told-text-in-kinds
+use Rattle.layouts_rows.proofs.told.text_in.Reads as layoutrows-told-text-in-reads
+use Rattle.layouts_rows.proofs.told.within_in.Kinds as layoutrows-told-within-in-kinds
+use Rattle.layouts_rows.proofs.told.within_in.Reads as layoutrows-told-within-in-reads
+use Rattle.layouts_rows.proofs.told.size_in.Kinds as layoutrows-told-size-in-kinds
+use Rattle.layouts_rows.proofs.told.size_in.Reads as layoutrows-told-size-in-reads
 use Rattle.demands.specs.Unique.{NoSecond}
 use Rattle.demands.proofs.Unique.{once}
 
@@ -81,7 +81,7 @@ layoutrows-rests-in κs a z z′ left left′ p q = (once p q, refl)
 pub takes-takes-in : NoSecond takes-takes-in-kinds.ps takes-takes-in-kinds.r takes-takes-in-reads.Post
 takes-takes-in κs a z z′ left left′ p q = (once p q, refl)
 
--- ---- layoutrows::told
+-- ---- layouts_rows::told
 
 pub layoutrows-told-real-in : NoSecond layoutrows-told-real-in-kinds.ps layoutrows-told-real-in-kinds.r layoutrows-told-real-in-reads.Post
 layoutrows-told-real-in κs a z z′ left left′ p q = (once p q, refl)

@@ -1,9 +1,9 @@
 -- No second result fits the contract of a public function of crates owning and owners. Assumes nothing.
 use mathlib.Core.Path.{refl}
-use Rattle.owning.proofs.owners.Kinds as owning-owners-kinds
-use Rattle.owning.proofs.owners.Reads as owning-owners-reads
-use Rattle.owning.proofs.line_of.Kinds as owning-line-of-kinds
-use Rattle.owning.proofs.line_of.Reads as owning-line-of-reads
+use Rattle.owners_pass.proofs.owners.Kinds as owning-owners-kinds
+use Rattle.owners_pass.proofs.owners.Reads as owning-owners-reads
+use Rattle.owners_pass.proofs.line_of.Kinds as owning-line-of-kinds
+use Rattle.owners_pass.proofs.line_of.Reads as owning-line-of-reads
 use Rattle.owners.proofs.places.owner_at.Kinds as places-owner-at-kinds
 use Rattle.owners.proofs.places.owner_at.Reads as places-owner-at-reads
 use Rattle.owners.proofs.places.from_at.Kinds as places-from-at-kinds

@@ -1,11 +1,11 @@
 -- No second result fits the contract of a public function of crates dpass, gpass and before. Assumes nothing.
 use mathlib.Core.Path.{refl}
-use Rattle.dpass.proofs.entries.Kinds as dpass-entries-kinds
-use Rattle.dpass.proofs.entries.Reads as dpass-entries-reads
-use Rattle.gpass.proofs.globals.Kinds as gpass-globals-kinds
-use Rattle.gpass.proofs.globals.Reads as gpass-globals-reads
-use Rattle.before.proofs.before.Kinds as before-before-kinds
-use Rattle.before.proofs.before.Reads as before-before-reads
+use Rattle.read_directory.proofs.entries.Kinds as dpass-entries-kinds
+use Rattle.read_directory.proofs.entries.Reads as dpass-entries-reads
+use Rattle.read_global.proofs.globals.Kinds as gpass-globals-kinds
+use Rattle.read_global.proofs.globals.Reads as gpass-globals-reads
+use Rattle.read_before.proofs.before.Kinds as before-before-kinds
+use Rattle.read_before.proofs.before.Reads as before-before-reads
 use Rattle.demands.specs.Unique.{NoSecond}
 use Rattle.demands.proofs.Unique.{once}
 

@@ -1,13 +1,13 @@
 -- No second result fits the contract of a public function of crates weighing and reading. Assumes nothing.
 use mathlib.Core.Path.{refl}
-use Rattle.weighing.proofs.last_pass.Kinds as weighing-last-pass-kinds
-use Rattle.weighing.proofs.last_pass.Reads as weighing-last-pass-reads
-use Rattle.weighing.proofs.check.Kinds as weighing-check-kinds
-use Rattle.weighing.proofs.check.Reads as weighing-check-reads
-use Rattle.weighing.proofs.weigh.Kinds as weighing-weigh-kinds
-use Rattle.weighing.proofs.weigh.Reads as weighing-weigh-reads
-use Rattle.reading.proofs.entity_at.Kinds as entity-at-kinds
-use Rattle.reading.proofs.entity_at.Reads as entity-at-reads
+use Rattle.read_check.proofs.last_pass.Kinds as weighing-last-pass-kinds
+use Rattle.read_check.proofs.last_pass.Reads as weighing-last-pass-reads
+use Rattle.read_check.proofs.check.Kinds as weighing-check-kinds
+use Rattle.read_check.proofs.check.Reads as weighing-check-reads
+use Rattle.read_check.proofs.weigh.Kinds as weighing-weigh-kinds
+use Rattle.read_check.proofs.weigh.Reads as weighing-weigh-reads
+use Rattle.read_weights.proofs.entity_at.Kinds as entity-at-kinds
+use Rattle.read_weights.proofs.entity_at.Reads as entity-at-reads
 use Rattle.demands.specs.Unique.{NoSecond}
 use Rattle.demands.proofs.Unique.{once}
 

@@ -1,7 +1,7 @@
 -- No second result fits the contract of a public function of crate rewrap. Assumes nothing.
 use mathlib.Core.Path.{refl}
-use Rattle.rewrap.proofs.answers.refusal.Kinds as answers-refusal-kinds
-use Rattle.rewrap.proofs.answers.refusal.Reads as answers-refusal-reads
+use Rattle.desk.proofs.answers.refusal.Kinds as answers-refusal-kinds
+use Rattle.desk.proofs.answers.refusal.Reads as answers-refusal-reads
 use Rattle.demands.specs.Unique.{NoSecond}
 use Rattle.demands.proofs.Unique.{once}
 

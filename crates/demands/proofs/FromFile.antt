@@ -28,10 +28,10 @@ use Rattle.sheets.specs.WellFormed.{Each}
 use Rattle.model.specs.Model.{Carried, Model, typeOf, typesOf, entityOf, fieldsIn}
 use Rattle.model.specs.Read.{Listed, Before, GlobalRead, globalText, two, firstEntry, isType, carried, byParameters, parametersOf, entityIn, listedType, lastPass, modelWith, before, readModel}
 use Rattle.model.specs.Fit.{EntryFits, Fits}
-use Rattle.passes.specs.Listed.{entryOf}
-use Rattle.passes.proofs.Facts.{Passed, passed-all}
-use Rattle.rewrap.proofs.Sound.{first-is}
-use Rattle.rows.proofs.Each.{each-also, each-both, each-from, each-keeps}
+use Rattle.read_passes.specs.Listed.{entryOf}
+use Rattle.read_passes.proofs.Facts.{Passed, passed-all}
+use Rattle.desk.proofs.Sound.{first-is}
+use Rattle.sheets_rows.proofs.Each.{each-also, each-both, each-from, each-keeps}
 use Rattle.demands.proofs.Printable.{text-prints}
 use Rattle.demands.proofs.Starts.{starts-fit, starts-some}
 use Rattle.demands.proofs.Values.{rest-held}

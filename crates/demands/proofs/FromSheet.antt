@@ -23,8 +23,8 @@ use Rattle.sheets.proofs.Sheets.{written-read}
 use Rattle.model.specs.Model.{typeOf, rowOf, sheetOf, marked, valueIn, markIn, carriedOf, modelOf}
 use Rattle.model.specs.Write.{equal, allEqual, globalRule, rowRules, rowReferences, rowEntity, marksRight, rowEntityRules, rowTypes, rowSize, firstGlobal, firstRow, sheetRules, one as oneLine}
 use Rattle.model.specs.Fit.{InKind, EntryFits, Fits}
-use Rattle.rewrap.proofs.Sound.{Ruled, rules-of}
-use Rattle.rows.proofs.Each.{each-made, each-accepted}
+use Rattle.desk.proofs.Sound.{Ruled, rules-of}
+use Rattle.sheets_rows.proofs.Each.{each-made, each-accepted}
 use Rattle.demands.proofs.Trims.{given-ends}
 use Rattle.demands.proofs.Marks.{marked-own, equal-is, all-equal-is}
 

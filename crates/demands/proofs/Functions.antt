@@ -12,13 +12,13 @@ use Rattle.cards.specs.Cards.{mostLines}
 use Rattle.model.specs.Canonical.{lineTotal, canonical}
 use Rattle.model.specs.Read.{reads}
 use Rattle.model.specs.Write.{writes}
-use Rattle.rewrap.specs.declared.Answer.{Answer}
-use Rattle.rewrap.specs.Answers.{answer}
-use Rattle.rewrap.specs.Demands.{described}
-use Rattle.rewrap.specs.Content.{sheetBy}
-use Rattle.rewrap.proofs.Exactly.{exactly-the-rules}
-use Rattle.rewrap.proofs.Content.{reads-sheet}
-use Rattle.rewrap.proofs.NeverRoom.{reads-never, writes-never}
+use Rattle.desk.specs.declared.Answer.{Answer}
+use Rattle.desk.specs.Answers.{answer}
+use Rattle.desk.specs.Demands.{described}
+use Rattle.desk.specs.Content.{sheetBy}
+use Rattle.desk.proofs.Exactly.{exactly-the-rules}
+use Rattle.desk.proofs.Content.{reads-sheet}
+use Rattle.desk.proofs.NeverRoom.{reads-never, writes-never}
 use Rattle.demands.specs.Calls.{ReadCall, WriteCall, given, mostBytes}
 use Rattle.demands.specs.Functions.{ReadsExactly, SheetTold, WritesExactly, ReadWriteRead, SheetWritten, WrittenRead, WriteReadWrite, KeepsRest, AskedFirst, NoneForNothing}
 use Rattle.demands.proofs.Demand.{kept}

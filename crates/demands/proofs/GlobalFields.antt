@@ -16,7 +16,7 @@ use Rattle.records.specs.Global.{firstField, lastField, kindOf, isKind, globalF
 use Rattle.sheets.specs.WellFormed.{Rising, no-more, higher, Each, none, one, Held, Filled}
 use Rattle.model.specs.Read.{GlobalRead, given, fieldFits}
 use Rattle.model.specs.Fit.{InKind}
-use Rattle.passes.proofs.Facts.{Said, alone, more}
+use Rattle.read_passes.proofs.Facts.{Said, alone, more}
 use Rattle.demands.proofs.Values.{values-held}
 
 -- values from field n on, each of its field's kind

@@ -14,10 +14,10 @@ use Rattle.sheets.proofs.Sheets.{lines-written}
 use Rattle.model.specs.Model.{Model, rowOf, sheetOf}
 use Rattle.model.specs.Canonical.{lineTotal, canonical}
 use Rattle.model.specs.Fit.{Fits}
-use Rattle.rewrap.specs.Rules.{MeetsRules}
-use Rattle.rewrap.specs.Content.{modelOf, sheetBy}
-use Rattle.rewrap.specs.Chair.{file, sheet, read-chair}
-use Rattle.rewrap.proofs.Content.{length-below, reads-content, exactly-the-sheet}
+use Rattle.desk.specs.Rules.{MeetsRules}
+use Rattle.desk.specs.Content.{modelOf, sheetBy}
+use Rattle.desk.specs.Chair.{file, sheet, read-chair}
+use Rattle.desk.proofs.Content.{length-below, reads-content, exactly-the-sheet}
 use Rattle.demands.specs.Demand.{Way, KeepsDemand}
 use Rattle.demands.specs.Impostors.{RefusesAll, ConstantSheet, WritesNothing, AlikeAtFirst, FirstEntryOnly, EndsWith, InventsCount, ShutsOut, NoImpostor}
 use Rattle.demands.proofs.FromFile.{read-fits}

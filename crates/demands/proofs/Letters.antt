@@ -11,7 +11,7 @@ use Rattle.directory.specs.Fields.{inOrder}
 use Rattle.sheets.specs.Plain.{sized}
 use Rattle.sheets.specs.Line.{numberCount, spells, entryLine}
 use Rattle.sheets.specs.Sheet.{Row, Sheet, Line, start, global, entry, value, last, startLines, globalLines, valueLines, rowLines, linesOf, lineOf, textOf, sheetText}
-use Rattle.rewrap.specs.Demands.{unmarked, same as same-row, marks-only, AllAlike, none as no-rows, more, SheetsAlike}
+use Rattle.desk.specs.Demands.{unmarked, same as same-row, marks-only, AllAlike, none as no-rows, more, SheetsAlike}
 use Rattle.demands.specs.Letters.{LettersOnly, none, same, known, reference}
 
 pub letters-length : {s t : List ℕ} → LettersOnly s t → length s ≡ length t

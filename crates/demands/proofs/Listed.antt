@@ -27,11 +27,11 @@ use Rattle.directory.proofs.Round.{spelt-within}
 use Rattle.sheets.specs.Line.{isLabel}
 use Rattle.sheets.specs.WellFormed.{Each, none, one, Proper, Numbered}
 use Rattle.model.specs.Read.{Listed, Before, byEntry, entryIn, entryLineIn, two, firstEntry, entriesIn, listedType, referencesOf, referencesIn, parametersOf}
-use Rattle.passes.specs.Listed.{entryOf, allEntries}
-use Rattle.passes.proofs.Listing.{entries-are}
-use Rattle.passes.proofs.Facts.{Passed, passed-entry}
-use Rattle.rewrap.proofs.Sound.{taken, Ruled, rules-of}
-use Rattle.rows.proofs.Each.{each-made, each-up, each-accepted, each-from}
+use Rattle.read_passes.specs.Listed.{entryOf, allEntries}
+use Rattle.read_passes.proofs.Listing.{entries-are}
+use Rattle.read_passes.proofs.Facts.{Passed, passed-entry}
+use Rattle.desk.proofs.Sound.{taken, Ruled, rules-of}
+use Rattle.sheets_rows.proofs.Each.{each-made, each-up, each-accepted, each-from}
 use Rattle.demands.proofs.Printable.{line-prints, line-wide, text-prints}
 
 -- ---- its numbers and its label

@@ -15,12 +15,12 @@ use Rattle.model.specs.Model.{Model, sheetOf}
 use Rattle.model.specs.Canonical.{lineTotal, canonical}
 use Rattle.model.specs.Read.{readModel, reads}
 use Rattle.model.specs.Write.{writes}
-use Rattle.rewrap.specs.declared.Answer.{Answer}
-use Rattle.rewrap.specs.Answers.{answer}
-use Rattle.rewrap.specs.Demands.{OneInside, EarlierEntry}
-use Rattle.rewrap.proofs.Content.{exactly-the-sheet}
-use Rattle.rewrap.proofs.Lists.{smaller-accepts}
-use Rattle.rewrap.proofs.Entries.{larger-refuses}
+use Rattle.desk.specs.declared.Answer.{Answer}
+use Rattle.desk.specs.Answers.{answer}
+use Rattle.desk.specs.Demands.{OneInside, EarlierEntry}
+use Rattle.desk.proofs.Content.{exactly-the-sheet}
+use Rattle.desk.proofs.Lists.{smaller-accepts}
+use Rattle.desk.proofs.Entries.{larger-refuses}
 use Rattle.demands.specs.Calls.{ReadCall, given}
 use Rattle.demands.specs.Lists.{SmallerReads, SameWritten, EarlierAnswer, LargerAnswers}
 use Rattle.demands.proofs.Calls.{Ends, whole, short, stopped, got, gives, refuses, read-ends, write-ends}

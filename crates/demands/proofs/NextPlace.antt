@@ -11,9 +11,9 @@ use Rattle.records.specs.Flow.{lineCount, flow, piece, gap, firm}
 use Rattle.records.specs.Global.{canonicalOpening}
 use Rattle.sheets.specs.Sheet.{isMark, into, piecesOf, lastPiece, saidByAll, linesIn}
 use Rattle.model.specs.Canonical.{globalText}
-use Rattle.rows.specs.Rows.{valuesFirst}
-use Rattle.blocks.specs.declared.Block.{Block}
-use Rattle.blocks.specs.Blocks.{globalsFirst, behindGlobals, behindValues, Unbroken, itemsFirst, recordText}
+use Rattle.sheets_rows.specs.Rows.{valuesFirst}
+use Rattle.file_blocks.specs.declared.Block.{Block}
+use Rattle.file_blocks.specs.Blocks.{globalsFirst, behindGlobals, behindValues, Unbroken, itemsFirst, recordText}
 use Rattle.demands.specs.UniqueBlocks.{GlobalsDetermined, BlockDetermined, SecondGlobals, SecondBlock}
 use Rattle.demands.proofs.Unique.{once, left-first}
 

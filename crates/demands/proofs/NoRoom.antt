@@ -9,10 +9,10 @@ use Rattle.columns.specs.Refusal.{accepted, refused}
 use Rattle.layouts.specs.Known.{mostList}
 use Rattle.layouts.proofs.Demand.{all-types}
 use Rattle.model.specs.Read.{reads}
-use Rattle.rewrap.specs.declared.Answer.{Answer}
-use Rattle.rewrap.specs.Answers.{answerOf, leftIn}
-use Rattle.rewrap.specs.Demands.{OneInside}
-use Rattle.rewrap.proofs.Entries.{refused-at-entry}
+use Rattle.desk.specs.declared.Answer.{Answer}
+use Rattle.desk.specs.Answers.{answerOf, leftIn}
+use Rattle.desk.specs.Demands.{OneInside}
+use Rattle.desk.proofs.Entries.{refused-at-entry}
 use Rattle.demands.specs.Calls.{ReadCall, read}
 use Rattle.demands.specs.Lists.{EarlierAnswer, RoomNeeded}
 use Rattle.demands.specs.NoRoom.{surface, sheet, no-room}

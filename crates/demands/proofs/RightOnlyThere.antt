@@ -29,12 +29,12 @@ use Rattle.model.specs.Canonical.{startLines, globalText, globalLines, director
 use Rattle.model.specs.Read.{globalRead, startsIn, noStray, globalIn, entriesIn, referencesIn, lastPass, before, readModel, reads}
 use Rattle.model.specs.Write.{writes}
 use Rattle.model.specs.Fit.{Fits}
-use Rattle.rewrap.specs.Words.{Accepts, Iff}
-use Rattle.rewrap.specs.Rules.{MeetsRules}
-use Rattle.rewrap.specs.Demands.{described}
-use Rattle.rewrap.specs.Content.{sheetBy}
-use Rattle.rewrap.proofs.Exactly.{exactly-the-rules}
-use Rattle.rewrap.proofs.Content.{reads-sheet}
+use Rattle.desk.specs.Words.{Accepts, Iff}
+use Rattle.desk.specs.Rules.{MeetsRules}
+use Rattle.desk.specs.Demands.{described}
+use Rattle.desk.specs.Content.{sheetBy}
+use Rattle.desk.proofs.Exactly.{exactly-the-rules}
+use Rattle.desk.proofs.Content.{reads-sheet}
 use Rattle.demands.specs.Demand.{Way}
 use Rattle.demands.specs.Impostors.{RightOnlyThere}
 use Rattle.demands.proofs.Written.{written-short}

@@ -12,8 +12,8 @@ use Rattle.model.specs.Model.{sheetOf}
 use Rattle.model.specs.Canonical.{lineTotal, canonical}
 use Rattle.model.specs.Write.{writes}
 use Rattle.model.specs.Fit.{Fits}
-use Rattle.rewrap.specs.Demands.{SameBytes}
-use Rattle.rewrap.proofs.Lists.{smaller-accepts}
+use Rattle.desk.specs.Demands.{SameBytes}
+use Rattle.desk.proofs.Lists.{smaller-accepts}
 use Rattle.demands.proofs.FromFile.{read-fits}
 use Rattle.demands.proofs.Written.{written-short, written-long}
 

@@ -11,8 +11,8 @@ use Rattle.model.specs.Canonical.{lineTotal, canonical}
 use Rattle.model.specs.Read.{readModel, reads}
 use Rattle.model.specs.Write.{writes}
 use Rattle.model.specs.Fit.{Fits}
-use Rattle.rewrap.specs.Demands.{ThereAndBack, SheetsExactly, described}
-use Rattle.back.proofs.Whole.{back}
+use Rattle.desk.specs.Demands.{ThereAndBack, SheetsExactly, described}
+use Rattle.demands_back.proofs.Whole.{back}
 use Rattle.demands.proofs.FromFile.{read-fits}
 use Rattle.demands.proofs.Written.{written-short}
 use Rattle.demands.proofs.Described.{described-sheet, written-sheet}

@@ -21,7 +21,7 @@ use Rattle.sheets.proofs.Sheets.{read-written}
 use Rattle.model.specs.Model.{Carried, Model, typeOf, typesOf, entityOf, rowOf, sheetOf, valueIn}
 use Rattle.model.specs.Write.{globalRule, rowRules, rowReferences, rowEntity, marksRight, rowEntityRules, rowSize, firstGlobal, firstRow, sheetRules, writeModel, one as oneLine}
 use Rattle.model.specs.Fit.{InKind, EntryFits, Fits}
-use Rattle.rows.proofs.Each.{each-made, each-accepts, made-accepts}
+use Rattle.sheets_rows.proofs.Each.{each-made, each-accepts, made-accepts}
 use Rattle.demands.proofs.Trims.{ends-given}
 use Rattle.demands.proofs.Marks.{equal-self, all-equal-self}
 use Rattle.demands.proofs.Rows.{row-values, row-marks, model-again, types-again}

@@ -6,7 +6,7 @@ use Rattle.columns.specs.declared.DirectoryNumber.{DirectoryNumber}
 use Rattle.columns.specs.declared.ParameterLine.{ParameterLine}
 use Rattle.columns.specs.Laid.{Wrote}
 use Rattle.records.specs.Written.{Put}
-use Rattle.names.proofs.Once.{shown-once}
+use Rattle.desk_name.proofs.Once.{shown-once}
 use Rattle.demands.specs.Unique.{ReadDetermined, WriteDetermined, SzelmikraReadDetermined, SzelmikraWriteDetermined, ShowDetermined, NameDetermined, AnsweredOnce, WroteOnce}
 
 -- two that are the same third are one

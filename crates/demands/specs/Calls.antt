@@ -10,19 +10,19 @@ use denote.Triple.Clauses.{Lasts, atExit}
 use borrow.Fn.Kinds.{Dens, endedOf}
 use Rattle.columns.specs.Columns.{lineBytes}
 use Rattle.cards.specs.Cards.{mostLines}
-use Rattle.rewrap.specs.declared.Answer.{Answer}
-use Rattle.rewrap.specs.Rules.{MeetsRules}
-use Rattle.rewrap.specs.Content.{sheetBy}
-use Rattle.unwrap.proofs.read.Kinds as read-kinds
-use Rattle.unwrap.proofs.read.Reads as read-reads
-use Rattle.wrap.proofs.write.Kinds as write-kinds
-use Rattle.wrap.proofs.write.Reads as write-reads
+use Rattle.desk.specs.declared.Answer.{Answer}
+use Rattle.desk.specs.Rules.{MeetsRules}
+use Rattle.desk.specs.Content.{sheetBy}
+use Rattle.read_file.proofs.read.Kinds as read-kinds
+use Rattle.read_file.proofs.read.Reads as read-reads
+use Rattle.write_sheet.proofs.write.Kinds as write-kinds
+use Rattle.write_sheet.proofs.write.Reads as write-reads
 use Rattle.szelmikra.proofs.szelmikra_read.Kinds as szelmikra-read-kinds
 use Rattle.szelmikra.proofs.szelmikra_read.Reads as szelmikra-read-reads
 use Rattle.szelmikra.proofs.szelmikra_write.Kinds as szelmikra-write-kinds
 use Rattle.szelmikra.proofs.szelmikra_write.Reads as szelmikra-write-reads
 
--- of `unwrap::read`, or of `szelmikra_read`
+-- of `read_file::read`, or of `szelmikra_read`
 pub data ReadCall : ℕ → List ℕ → List ℕ → Answer → List ℕ → Type 0 where
   read : (κs : Lfts 2) (a : Dens κs read-kinds.ps) (z : Answer) (left : Lasts (endedOf 2 read-kinds.ps read-kinds.r) κs a)
       → read-reads.Post κs a z (atExit (endedOf 2 read-kinds.ps read-kinds.r) κs a left)
@@ -32,7 +32,7 @@ pub data ReadCall : ℕ → List ℕ → List ℕ → Answer → List ℕ → Ty
       → szelmikra-read-reads.Post κs a z (atExit (endedOf 2 szelmikra-read-kinds.ps szelmikra-read-kinds.r) κs a left)
       → ReadCall (a .0) (now (a .1 .0)) (now (a .1 .1 .0)) z (left .1 .1 .0)
 
--- of `wrap::write`, or of `szelmikra_write`
+-- of `write_sheet::write`, or of `szelmikra_write`
 pub data WriteCall : ℕ → List ℕ → List ℕ → Answer → List ℕ → Type 0 where
   write : (κs : Lfts 2) (a : Dens κs write-kinds.ps) (z : Answer) (left : Lasts (endedOf 2 write-kinds.ps write-kinds.r) κs a)
       → write-reads.Post κs a z (atExit (endedOf 2 write-kinds.ps write-kinds.r) κs a left)

@@ -8,17 +8,17 @@ use Rattle.cards.specs.Cards.{mostLines}
 use Rattle.model.specs.Canonical.{lineTotal, canonical}
 use Rattle.model.specs.Read.{reads}
 use Rattle.model.specs.Write.{writes}
-use Rattle.rewrap.specs.Words.{Accepts, Iff}
-use Rattle.rewrap.specs.Rules.{MeetsRules}
-use Rattle.rewrap.specs.Demands.{described}
-use Rattle.rewrap.specs.Content.{modelOf, sheetBy}
+use Rattle.desk.specs.Words.{Accepts, Iff}
+use Rattle.desk.specs.Rules.{MeetsRules}
+use Rattle.desk.specs.Demands.{described}
+use Rattle.desk.specs.Content.{modelOf, sheetBy}
 
 -- a reader or a writer: of a list and bytes
 abbrev pub Way : Type 0
 Way = ℕ → List ℕ → Outcome (List ℕ)
 
 -- what is accepted, and that it goes there and back (that each parameter line then belongs to exactly one entity speaks of the rules
--- alone: `rewrap/Demands.OneOwner`)
+-- alone: `desk/Demands.OneOwner`)
 pub record AcceptsAndReturns (rd wr : Way) : Type 0 where
   -- "a file is accepted exactly if it meets those rules"
   pub files : (list : ℕ) (f : List ℕ) → Iff (Accepts (rd list f)) (MeetsRules list f)

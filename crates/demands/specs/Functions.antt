@@ -7,12 +7,12 @@ use Prim.Native.Nat.{ℕ, _≤_, _<_}
 use lib.ListN.{length, drop}
 use Rattle.cards.specs.Cards.{mostLines}
 use Rattle.model.specs.Canonical.{lineTotal, canonical}
-use Rattle.rewrap.specs.declared.Answer.{Answer}
-use Rattle.rewrap.specs.Answers.{answer}
-use Rattle.rewrap.specs.Words.{Iff}
-use Rattle.rewrap.specs.Rules.{MeetsRules}
-use Rattle.rewrap.specs.Demands.{described}
-use Rattle.rewrap.specs.Content.{sheetBy}
+use Rattle.desk.specs.declared.Answer.{Answer}
+use Rattle.desk.specs.Answers.{answer}
+use Rattle.desk.specs.Words.{Iff}
+use Rattle.desk.specs.Rules.{MeetsRules}
+use Rattle.desk.specs.Demands.{described}
+use Rattle.desk.specs.Content.{sheetBy}
 use Rattle.demands.specs.Calls.{ReadCall, WriteCall, given, RoomFor, mostBytes}
 
 -- ---- what is accepted

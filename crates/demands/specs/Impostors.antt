@@ -12,9 +12,9 @@ use Rattle.sheets.specs.Sheet.{Line, last, sheetText, linesIn}
 use Rattle.model.specs.Model.{Carried, Model, fieldsIn, sheetOf}
 use Rattle.model.specs.Canonical.{lineTotal, canonical}
 use Rattle.model.specs.Fit.{Fits}
-use Rattle.rewrap.specs.Words.{Accepts}
-use Rattle.rewrap.specs.Rules.{MeetsRules}
-use Rattle.rewrap.specs.Content.{sheetBy}
+use Rattle.desk.specs.Words.{Accepts}
+use Rattle.desk.specs.Rules.{MeetsRules}
+use Rattle.desk.specs.Content.{sheetBy}
 use Rattle.demands.specs.Demand.{Way, AcceptsAndReturns, KeepsDemand}
 
 -- ---- refuses everything

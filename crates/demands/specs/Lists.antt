@@ -8,9 +8,9 @@ use Rattle.columns.specs.declared.Fault.{Fault}
 use Rattle.columns.specs.Refusal.{number}
 use Rattle.layouts.specs.Larger.{Late}
 use Rattle.sheets.specs.Sheet.{Sheet, sheetText}
-use Rattle.rewrap.specs.declared.Answer.{Answer}
-use Rattle.rewrap.specs.Answers.{answer}
-use Rattle.rewrap.specs.Demands.{OneInside, SheetsAlike, EarlierEntry}
+use Rattle.desk.specs.declared.Answer.{Answer}
+use Rattle.desk.specs.Answers.{answer}
+use Rattle.desk.specs.Demands.{OneInside, SheetsAlike, EarlierEntry}
 use Rattle.demands.specs.Calls.{ReadCall, WriteCall, given, RoomFor, mostBytes}
 use Rattle.demands.specs.Letters.{LettersOnly}
 

@@ -32,7 +32,7 @@ use Rattle.sheets.specs.Line.{spell, spells, entryLine}
 use Rattle.sheets.specs.Sheet.{startLines as sheets-startLines, globalLines as sheets-globalLines, valueLines, rowLines, linesOf as sheets-linesOf, lineOf as sheets-lineOf, textOf as sheets-textOf, sheetText}
 use Rattle.model.specs.Model.{marked, rowOf, sheetOf as model-sheetOf}
 use Rattle.model.specs.Read.{startsIn, noStray, given, globalIn, entryIn, entriesIn, referencesIn, entityIn, lastPass, before, readModel, reads}
-use Rattle.rewrap.specs.Answers.{answer, answerOf}
+use Rattle.desk.specs.Answers.{answer, answerOf}
 
 abbrev line : List ℕ → List ℕ
 line l = l ++ (10 ∷ [])

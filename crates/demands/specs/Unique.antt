@@ -10,20 +10,20 @@ use borrow.Fn.Kind.{PK, RK}
 use borrow.Fn.Kinds.{Out, Dens, resT, endedOf}
 use Rattle.columns.specs.Refusal.{Outcome}
 use Rattle.columns.specs.Laid.{Wrote}
-use Rattle.rewrap.specs.declared.Answer.{Answer}
-use Rattle.rewrap.specs.Answers.{answerOf}
-use Rattle.unwrap.proofs.read.Kinds as read-kinds
-use Rattle.unwrap.proofs.read.Reads as read-reads
-use Rattle.wrap.proofs.write.Kinds as write-kinds
-use Rattle.wrap.proofs.write.Reads as write-reads
+use Rattle.desk.specs.declared.Answer.{Answer}
+use Rattle.desk.specs.Answers.{answerOf}
+use Rattle.read_file.proofs.read.Kinds as read-kinds
+use Rattle.read_file.proofs.read.Reads as read-reads
+use Rattle.write_sheet.proofs.write.Kinds as write-kinds
+use Rattle.write_sheet.proofs.write.Reads as write-reads
 use Rattle.szelmikra.proofs.szelmikra_read.Kinds as szelmikra-read-kinds
 use Rattle.szelmikra.proofs.szelmikra_read.Reads as szelmikra-read-reads
 use Rattle.szelmikra.proofs.szelmikra_write.Kinds as szelmikra-write-kinds
 use Rattle.szelmikra.proofs.szelmikra_write.Reads as szelmikra-write-reads
-use Rattle.names.proofs.name.Kinds as name-kinds
-use Rattle.names.proofs.name.Reads as name-reads
-use Rattle.showing.proofs.show.Kinds as show-kinds
-use Rattle.showing.proofs.show.Reads as show-reads
+use Rattle.desk_name.proofs.name.Kinds as name-kinds
+use Rattle.desk_name.proofs.name.Reads as name-reads
+use Rattle.desk_show.proofs.show.Kinds as show-kinds
+use Rattle.desk_show.proofs.show.Reads as show-reads
 
 -- Of a function with these parameters and this result: two results, each with last values of all that was lent by `&mut`, that both are as `Post`
 -- has it for the same arguments, are the same, and so are the last values.

@@ -11,11 +11,11 @@ use denote.Triple.Clauses.{Lasts, atExit}
 use borrow.Fn.Kind.{PK, RK}
 use borrow.Fn.Kinds.{In, Out, Dens, resT, endedOf}
 use Rattle.sheets.specs.Sheet.{Line, linesIn}
-use Rattle.blocks.specs.declared.Block.{Block}
-use Rattle.gsection.proofs.put_globals.Kinds as put-globals-kinds
-use Rattle.gsection.proofs.put_globals.Reads as put-globals-reads
-use Rattle.psection.proofs.put_block.Kinds as put-block-kinds
-use Rattle.psection.proofs.put_block.Reads as put-block-reads
+use Rattle.file_blocks.specs.declared.Block.{Block}
+use Rattle.file_globals.proofs.put_globals.Kinds as put-globals-kinds
+use Rattle.file_globals.proofs.put_globals.Reads as put-globals-reads
+use Rattle.file_parameters.proofs.put_block.Kinds as put-block-kinds
+use Rattle.file_parameters.proofs.put_block.Reads as put-block-reads
 
 -- the lines that stand behind a block
 abbrev pub linesBehind : List ℕ → Block → List Line

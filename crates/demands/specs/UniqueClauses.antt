@@ -11,8 +11,8 @@ use contract.Monad.{fact, Fun}
 use contract.Lifetimes.{Lfts}
 use denote.Triple.Entry.{Args, Res}
 use denote.Triple.Clauses.{Ended, Clauses, Lasts, atExit}
-use Rattle.unwrap.proofs.read as read
-use Rattle.tables.proofs.directory as directory
+use Rattle.read_file.proofs.read as read
+use Rattle.desk_table.proofs.directory as directory
 
 -- two results with last values that both are as the clauses have it for the same arguments are the same
 abbrev pub NoSecondIn : {M : Type 1} (𝓤 : URA M) (T : Ended) → Clauses 𝓤 T → Type 1

@@ -1,5 +1,5 @@
 // Directory entries: the numbers of two D lines, what they mean, and what rules 9, 13 and 10 ask of them.
-// Crate `entryrules` says what the numbers mean and asks the rules, `dlines` reads the two lines, `dsection` lays them, `classes` looks up what a
+// Crate `directory_rules` says what the numbers mean and asks the rules, `directory_read` reads the two lines, `directory_lay` lays them, `directory_lookup` looks up what a
 // directory number names.
 
 use columns::DirectoryNumber;

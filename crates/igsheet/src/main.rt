@@ -4,6 +4,6 @@ fn main() {
     // A file that is too long is seen to be so: the buffer holds more than the most that is read.
     let n = io::read_full(0, &mut file);
     let mut out = io::large_buffer();
-    let m = showing::show(&file[..n], &mut out);
+    let m = desk_show::show(&file[..n], &mut out);
     io::write_all(1, &out[..m]);
 }

@@ -40,7 +40,7 @@ fn size_at(file: &[u8], line: usize, a: usize) -> u32
     ensures { λ r. ⌜ r ≡ sizeAt (lineAt (now (file .entry)) line) a ⌝ }
 {
     let at = LINE_BYTES * line + a;
-    let f = fixed::read_signed(file, at, at + 8);
+    let f = columns_fixed::read_signed(file, at, at + 8);
     size_or_0(f)
 }
 
@@ -53,7 +53,7 @@ fn name_at(file: &[u8], line: usize) -> DirectoryNumber
     if file[at + 64] != 32 {
         return DirectoryNumber(0);
     }
-    let f = fixed::read_field(file, at + 65, at + 72);
+    let f = columns_fixed::read_field(file, at + 65, at + 72);
     DirectoryNumber(number_or_0(f))
 }
 

@@ -1,10 +1,10 @@
-// What C and C++ call; include/szelmikra.h declares it. Each function is the proved one of `unwrap` or `wrap` under a plain name.
-use rewrap::Answer;
+// What C and C++ call; include/szelmikra.h declares it. Each function is the proved one of `read_file` or `write_sheet` under a plain name.
+use desk::Answer;
 ghost use mathlib.Core.Path.{_≡_};
 ghost use lib.ListN.{length};
 ghost use Rattle.model.specs.Read.{reads};
 ghost use Rattle.model.specs.Write.{writes};
-ghost use Rattle.rewrap.specs.Answers.{answerOf, leftIn};
+ghost use Rattle.desk.specs.Answers.{answerOf, leftIn};
 
 // Reads a file to its sheet.
 #[no_mangle]
@@ -12,7 +12,7 @@ pub extern "C" fn szelmikra_read(list: u64, file: &[u8], sheet: &mut [u8]) -> An
     ensures { λ r. ⌜ r ≡ answerOf (length (now (sheet .entry))) (reads list (now (file .entry))) ⌝ }
     ensures { λ r. ⌜ now (sheet .exit) ≡ leftIn (now (sheet .entry)) (reads list (now (file .entry))) ⌝ }
 {
-    unwrap::read(list, file, sheet)
+    read_file::read(list, file, sheet)
 }
 
 // Writes a sheet to its canonical file.
@@ -21,5 +21,5 @@ pub extern "C" fn szelmikra_write(list: u64, sheet: &[u8], file: &mut [u8]) -> A
     ensures { λ r. ⌜ r ≡ answerOf (length (now (file .entry))) (writes list (now (sheet .entry))) ⌝ }
     ensures { λ r. ⌜ now (file .exit) ≡ leftIn (now (file .entry)) (writes list (now (sheet .entry))) ⌝ }
 {
-    wrap::write(list, sheet, file)
+    write_sheet::write(list, sheet, file)
 }

@@ -1,4 +1,4 @@
--- What the functions of `strict` go by, one law for each need. Assumes nothing.
+-- What the functions of `values_strict` go by, one law for each need. Assumes nothing.
 use mathlib.Core.Path.{_≡_, refl, sym, ap, _∙_}
 use mathlib.Core.Bool.{Bool, true, false, cond, _&&_, _||_, and-false}
 use mathlib.Core.List.{List, [], _∷_}

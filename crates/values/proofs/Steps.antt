@@ -1,4 +1,4 @@
--- What the functions of `digits`, `limits` and `numbers` are asked, one law for each need. Assumes nothing.
+-- What the functions of `values_digits`, `values_limits` and `values_read` are asked, one law for each need. Assumes nothing.
 use mathlib.Core.Path.{_≡_, sym, ap, _∙_}
 use mathlib.Core.Bool.{Bool, true, false}
 use mathlib.Core.List.{List}

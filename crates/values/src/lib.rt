@@ -1,5 +1,5 @@
 // One value of free format: an integer, a real, a string or a default.
-// Crate `numbers` reads a number or a string's head from the rest of a line, `spell` writes a value in its one spelling, `strict` reads
+// Crate `values_read` reads a number or a string's head from the rest of a line, `values_spell` writes a value in its one spelling, `values_strict` reads
 // that spelling alone.
 
 ghost use mathlib.Core.Path.{_≡_};

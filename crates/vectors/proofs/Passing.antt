@@ -8,10 +8,10 @@ use lib.ListN.{length, take, drop, length-replicate}
 use lib.Dec.{eqb}
 use borrow.Author.Tests.{le-leb, lt-leb, eq-eqb, ne-eqb, not-true, not-false}
 use Rattle.columns.specs.Columns.{sameBytes}
-use Rattle.rewrap.specs.declared.Answer.{Answer}
+use Rattle.desk.specs.declared.Answer.{Answer}
 use Rattle.model.specs.Read.{reads}
 use Rattle.model.specs.Write.{writes}
-use Rattle.rewrap.specs.Answers.{answerOf, leftIn}
+use Rattle.desk.specs.Answers.{answerOf, leftIn}
 use Rattle.vectors.specs.Passing.{filler, ready, untouched, isAnswer, holds, ran, gives, wantsRoom, passes, scored}
 use Rattle.vectors.proofs.Rooms.{take-ready, drop-ready}
 

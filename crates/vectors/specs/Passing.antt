@@ -7,10 +7,10 @@ use lib.Dec.{leb, eqb}
 use Rattle.columns.specs.declared.Fault.the-variants.{Room}
 use Rattle.columns.specs.Columns.{sameBytes}
 use Rattle.columns.specs.Refusal.{Outcome, number}
-use Rattle.rewrap.specs.declared.Answer.{Answer}
+use Rattle.desk.specs.declared.Answer.{Answer}
 use Rattle.model.specs.Read.{reads}
 use Rattle.model.specs.Write.{writes}
-use Rattle.rewrap.specs.Answers.{answerOf, leftIn}
+use Rattle.desk.specs.Answers.{answerOf, leftIn}
 
 -- a byte that no sheet and no file has
 abbrev pub filler : ℕ

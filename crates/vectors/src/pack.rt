@@ -3,7 +3,7 @@
 use crate::Packed;
 use columns::Field;
 use columns::wide;
-use fixed::read_field;
+use columns_fixed::read_field;
 ghost use mathlib.Core.Path.{_≡_};
 ghost use Prim.Native.Nat.{_+_, _^_, _≤_, _<_};
 ghost use lib.ListN.{length};

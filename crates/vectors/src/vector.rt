@@ -2,10 +2,10 @@
 use crate::room::fill;
 use crate::room::untouched;
 use columns::look::same;
-use rewrap::Answer;
+use desk::Answer;
 ghost use mathlib.Core.Path.{_≡_};
 ghost use lib.ListN.{length};
-ghost use Rattle.rewrap.specs.Answers.{answerOf, leftIn};
+ghost use Rattle.desk.specs.Answers.{answerOf, leftIn};
 ghost use Rattle.vectors.specs.Passing.{isAnswer, holds, ran, gives, wantsRoom};
 
 // What a vector asks for: to be read, or else to be written.
@@ -45,9 +45,9 @@ fn run(op: u64, list: u64, input: &[u8], out: &mut [u8]) -> Answer
     ensures { λ _. ⌜ length (now (out .exit)) ≡ length (now (out .entry)) ⌝ }
 {
     if op == READ {
-        return unwrap::read(list, input, out);
+        return read_file::read(list, input, out);
     }
-    wrap::write(list, input, out)
+    write_sheet::write(list, input, out)
 }
 
 // Whether the answer and the bytes are the expected ones; a refusal has no bytes.

@@ -4,7 +4,7 @@ use lib.ListN.{replicate}
 use Rattle.directory.specs.declared.Attribute.the-variants.{Number}
 use Rattle.directory.specs.Fields.{named}
 use Rattle.directory.specs.Lines.{parameterLine, slotColumns}
-use Rattle.rewrap.specs.declared.Record.{Record}
+use Rattle.desk.specs.declared.Record.{Record}
 
 -- nines in all its fields, and a label of nines (57)
 abbrev pub nines : Record

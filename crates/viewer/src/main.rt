@@ -1,12 +1,12 @@
 // Prints the table of the file at standard input, slot by slot, and the names for the directory numbers 0 to 6.
 use columns::DirectoryNumber;
 use columns::ParameterLine;
+use desk::Record;
 use directory::Attribute;
 use directory::Entry;
-use rewrap::Record;
 ghost use mathlib.Core.Path.{_≡_};
 ghost use lib.ListN.{length};
-ghost use Rattle.rewrap.specs.Answers.{listedIn, slotsLeft};
+ghost use Rattle.desk.specs.Answers.{listedIn, slotsLeft};
 ghost use Rattle.viewer.specs.Unused.{nines};
 
 // The list of all types.
@@ -50,7 +50,7 @@ fn listed(list: u64, file: &[u8], rows: [Record; 4]) -> [Record; 4]
     ensures { λ r. ⌜ r ≡ slotsLeft rows (listedIn list (now (file .entry))) ⌝ }
 {
     let mut table = rows;
-    tables::directory(list, file, &mut table);
+    desk_table::directory(list, file, &mut table);
     table
 }
 
@@ -98,7 +98,7 @@ fn print_slot(slot: Record) {
 }
 
 fn print_name<'f, 's: 'f>(file: &'f [u8], stand_in: &'s [u8], number: DirectoryNumber) {
-    let name = names::name(LIST, file, stand_in, number);
+    let name = desk_name::name(LIST, file, stand_in, number);
     print_part(number.0);
     io::write_all(1, b"[");
     io::write_all(1, name);

@@ -1,6 +1,6 @@
 -- The buffers are as long as they are asked to be, and what is printed is within its own.
 use borrow.Author.Needs.{needs}
-use Rattle.showing.proofs.Shown.{counted}
+use Rattle.desk_show.proofs.Shown.{counted}
 use Rattle.igsheet.proofs.main.Statement.{statement}
 use Rattle.igsheet.proofs.main.Tie as tie
 

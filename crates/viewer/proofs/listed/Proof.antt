@@ -47,17 +47,17 @@ use denote.Exit.{yes}
 use denote.Signature.{plain}
 use denote.Signature.Array.{arrayOf}
 use borrow.Rule.Slice.Shared.{parts-cells}
-use Rattle.rewrap.specs.declared.Answer.{Answer}
-use Rattle.rewrap.specs.declared.Record.{Record}
-use Rattle.rewrap.specs.Answers.{answerOf, listedIn, slotsLeft}
-use Rattle.rewrap.proofs.Record as T
-use Rattle.rewrap.proofs.Record.Laws as T′
-use Rattle.rewrap.proofs.Answer as R
-use Rattle.rewrap.proofs.Answer.Laws as R′
-use Rattle.tables.proofs.directory as directory
-use Rattle.tables.proofs.directory.Symbol as directory-def
-use Rattle.tables.proofs.directory.Symbol.{name as #tables·directory}
-use Rattle.tables.proofs.directory.Met as directory-thm
+use Rattle.desk.specs.declared.Answer.{Answer}
+use Rattle.desk.specs.declared.Record.{Record}
+use Rattle.desk.specs.Answers.{answerOf, listedIn, slotsLeft}
+use Rattle.desk.proofs.Record as T
+use Rattle.desk.proofs.Record.Laws as T′
+use Rattle.desk.proofs.Answer as R
+use Rattle.desk.proofs.Answer.Laws as R′
+use Rattle.desk_table.proofs.directory as directory
+use Rattle.desk_table.proofs.directory.Symbol as directory-def
+use Rattle.desk_table.proofs.directory.Symbol.{name as #desk_table·directory}
+use Rattle.desk_table.proofs.directory.Met as directory-thm
 use Rattle.viewer.proofs.listed.Key.{name as #viewer·listed}
 use Rattle.viewer.proofs.listed as listed
 use Rattle.viewer.proofs.listed.Statement as stated
@@ -168,7 +168,7 @@ module _ {M : Type 1} (𝓤 : URA M) (H : Heap 𝓤) (A : Atoms 𝓤) (W : Given
   room : Room T.the-row 4
   room = (lit< tt, lit< tt)
 
-  module _ (list-fits : list < 2 ^ 64) (room-s : Room u8 (length ss)) (is : Is (Array T.the-row 4) xs (whole-of xs ∷ [])) (𝓣 : Tables 𝓤 H) (known : Triple 𝓤 (𝓣 .C #tables·directory) (Directory 𝓤 H A mem run)) where
+  module _ (list-fits : list < 2 ^ 64) (room-s : Room u8 (length ss)) (is : Is (Array T.the-row 4) xs (whole-of xs ∷ [])) (𝓣 : Tables 𝓤 H) (known : Triple 𝓤 (𝓣 .C #desk_table·directory) (Directory 𝓤 H A mem run)) where
     walk : ent 𝓤 (onEntry 𝓤 H A listed.signature (κ, tt) (q, tt) a vals) (WpFn 𝓤 H (𝓣 .C) (𝓣 .Λ) code.function (vint w64 list ∷ u₁ ∷ whole-of xs ∷ []) Post)
     walk =
         qed W ((‵ (flft κ q) ⊛ ‵ ftrue) ∷ ‵ (owns (u64 ∷ ShrSlice (named 0) κ u8 ∷ Array T.the-row 4 ∷ []) a vals) ∷ []) ∵ split ! $ move ! (2 ∷ []) $ fsplit ! $ move ! (1 ∷ []) $ fsplit ! $ keep ! (0 ∷ 3 ∷ []) $
@@ -209,7 +209,7 @@ module _ {M : Type 1} (𝓤 : URA M) (H : Heap 𝓤) (A : Atoms 𝓤) (W : Given
         move ! (16 ∷ 17 ∷ []) $ free1 ! $ move ! (14 ∷ 15 ∷ []) $ free1 ! $ move ! (12 ∷ 13 ∷ []) $ free1 ! $ move ! (10 ∷ 11 ∷ []) $ free1 ! $ move ! (0 ∷ 9 ∷ []) $ free1 ! $ move ! (6 ∷ 7 ∷ []) $ free1 ! $ move ! (4 ∷ 5 ∷ []) $ free1 ! $ move ! (2 ∷ 3 ∷ []) $ free1 ! $ free0 ! $
         by ! (exits list-fits (zs .1 .1 .0) is-z (e .1)))))))))))))))))))
 
-module _ {M : Type 1} (𝓤 : URA M) (H : Heap 𝓤) (A : Atoms 𝓤) (W : Given 𝓤 H A) (mem : Memory → SProp 𝓤) (run : Routine → Fun 𝓤) (𝓣 : Tables 𝓤 H) (known : Triple 𝓤 (𝓣 .C #tables·directory) (Directory 𝓤 H A mem run)) where
+module _ {M : Type 1} (𝓤 : URA M) (H : Heap 𝓤) (A : Atoms 𝓤) (W : Given 𝓤 H A) (mem : Memory → SProp 𝓤) (run : Routine → Fun 𝓤) (𝓣 : Tables 𝓤 H) (known : Triple 𝓤 (𝓣 .C #desk_table·directory) (Directory 𝓤 H A mem run)) where
   listed-walks : Walks 𝓤 H A listed.ended stayed (WpFn 𝓤 H (𝓣 .C) (𝓣 .Λ) code.function) (listed.clauses 𝓤 H A mem run)
   listed-walks = walked 𝓤 H A listed.ended stayed (listed.clauses 𝓤 H A mem run) (WpFn 𝓤 H (𝓣 .C) (𝓣 .Λ) code.function)
       (λ κs. (uint-vals w64, (slice-vals, (array-vals vals-of, tt)))) (λ κs. (uint-tells w64, (shr-slice-tells (named 0) (κs .0) u8, (array-tells T.the-row vals-of (LL.tells T.the-type T′.the-laws) 4, tt))))
@@ -226,4 +226,4 @@ listed-spec 𝓤 H 𝓜 𝓖 𝓡 =
     entered 𝓤 H (tripleOf 𝓤 H (𝓖 .A) listed.signature (listed.spec 𝓤 H (𝓖 .A) (𝓜 .mem) (𝓡 .run)))
     (tables 𝓤 H 𝓜 𝓡 code.env .C) (tables 𝓤 H 𝓜 𝓡 code.env .Λ) #viewer·listed code.function (code.unfolded 𝓤 H 𝓜 𝓡)
     (listed-meets 𝓤 H (𝓖 .A) (givenOf 𝓤 H 𝓜 𝓖) (𝓜 .mem) (𝓡 .run) (tablesOf 𝓤 H 𝓜 (tables 𝓤 H 𝓜 𝓡 code.env))
-    (cited 𝓤 H (Directory 𝓤 H (𝓖 .A) (𝓜 .mem) (𝓡 .run)) 𝓜 𝓡 code.env #tables·directory directory-def.routine code.calls-tables·directory (directory-thm.met 𝓤 H 𝓜 𝓖 𝓡)))
+    (cited 𝓤 H (Directory 𝓤 H (𝓖 .A) (𝓜 .mem) (𝓡 .run)) 𝓜 𝓡 code.env #desk_table·directory directory-def.routine code.calls-desk-table·directory (directory-thm.met 𝓤 H 𝓜 𝓖 𝓡)))

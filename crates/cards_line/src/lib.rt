@@ -1,0 +1,90 @@
+// One line: its bytes, where it stands, its number.
+use cards::Counts;
+use cards::LINE_BYTES;
+use cards::Placed;
+use cards::Step;
+use columns::Fault;
+ghost use mathlib.Core.Path.{_≡_};
+ghost use Prim.Native.Nat.{_+_, _*_, _<_, _≤_};
+ghost use lib.ListN.{length};
+ghost use Rattle.columns.specs.Columns.{columns, lineBytes, lineAt};
+ghost use Rattle.cards.specs.Cards.{mostLines, lineOk, counts, here, placeOf, stepOf, total};
+
+// Whether the line from `at` on has 80 bytes from 32 to 126, then LF.
+fn line_ok(file: &[u8], at: usize) -> bool
+    requires { ⌜ at + lineBytes ≤ length (now file) ⌝ }
+    ensures { λ r. ⌜ r ≡ lineOk (columns (now (file .entry)) at (at + lineBytes)) ⌝ }
+{
+    if file[at + 80] != 10 {
+        return false;
+    }
+    columns::look::is_printable(file, at, at + 80)
+}
+
+// A line that needs the section before it, and nothing of a later section.
+fn here_if(before: u32, later: u32, counts: Counts, number: u32) -> Placed
+    ensures { λ r. ⌜ r ≡ here before later counts number ⌝ }
+{
+    if before == 0 {
+        return Placed::Nowhere;
+    }
+    if later != 0 {
+        return Placed::Nowhere;
+    }
+    Placed::Here { counts, number }
+}
+
+fn counted(s: u32, g: u32, d: u32, p: u32, t: u32) -> Counts
+    ensures { λ r. ⌜ r ≡ counts s g d p t ⌝ }
+{
+    Counts { s, g, d, p, t }
+}
+
+// Where a line of this letter stands, of which `left` more lines follow.
+fn place(c: Counts, left: usize, letter: u8) -> Placed
+    requires { ⌜ total c < mostLines ⌝ }
+    ensures { λ r. ⌜ r ≡ placeOf c left letter ⌝ }
+{
+    let s = c.s;
+    let g = c.g;
+    let d = c.d;
+    let p = c.p;
+    let t = c.t;
+    if letter == 84 {
+        return here_if(g, t, counted(s, g, d, p, t + 1), t + 1);
+    }
+    if left == 0 {
+        return Placed::Nowhere;
+    }
+    if letter == 83 {
+        return here_if(1, g + d + p + t, counted(s + 1, g, d, p, t), s + 1);
+    }
+    if letter == 71 {
+        return here_if(s, d + p + t, counted(s, g + 1, d, p, t), g + 1);
+    }
+    if letter == 68 {
+        return here_if(g, p + t, counted(s, g, d + 1, p, t), d + 1);
+    }
+    if letter == 80 {
+        return here_if(g, t, counted(s, g, d, p + 1, t), p + 1);
+    }
+    Placed::Nowhere
+}
+
+// What line k does, of which `left` more lines follow.
+pub fn step_line(file: &[u8], k: usize, left: usize, c: Counts) -> Step
+    requires { ⌜ (lineBytes * k + lineBytes ≤ length (now file)) × (total c < mostLines) ⌝ }
+    ensures { λ r. ⌜ r ≡ stepOf c left (lineAt (now (file .entry)) k) ⌝ }
+{
+    let at = LINE_BYTES * k;
+    if !line_ok(file, at) {
+        return Step::Wrong(Fault::Byte);
+    }
+    let Placed::Here { counts, number } = place(c, left, file[at + 72]) else {
+        return Step::Wrong(Fault::Section);
+    };
+    if columns_fixed::holds(file, at + 73, at + 80, number) {
+        return Step::Next(counts);
+    }
+    Step::Wrong(Fault::Sequence)
+}

@@ -1,0 +1,55 @@
+// The T line, the last of a file: it tells the counts of the sections.
+use cards::Counts;
+use cards::LINE_BYTES;
+ghost use mathlib.Core.Path.{_≡_};
+ghost use mathlib.Core.Bool.{false, _&&_};
+ghost use Prim.Native.Nat.{_+_, _*_, _≤_};
+ghost use lib.ListN.{length};
+ghost use Rattle.columns.specs.Columns.{lineBytes, lineAt};
+ghost use Rattle.cards.specs.Cards.{tells, closes};
+
+// Whether a letter stands at `at`, and then n.
+fn tells_at(s: &[u8], at: usize, letter: u8, n: u32) -> bool
+    requires { ⌜ at + 8 ≤ length (now s) ⌝ }
+    ensures { λ r. ⌜ r ≡ tells (now (s .entry)) at letter n ⌝ }
+{
+    if s[at] != letter {
+        return false;
+    }
+    columns_fixed::holds(s, at + 1, at + 8, n)
+}
+
+fn all_five(a: bool, b: bool, c: bool, d: bool, e: bool) -> bool
+    ensures { λ r. ⌜ r ≡ a && (b && (c && (d && e))) ⌝ }
+{
+    if !a {
+        return false;
+    }
+    if !b {
+        return false;
+    }
+    if !c {
+        return false;
+    }
+    if !d {
+        return false;
+    }
+    e
+}
+
+// Whether line k is the T line of these counts.
+pub fn closes_at(file: &[u8], k: usize, c: Counts) -> bool
+    requires { ⌜ lineBytes * k + lineBytes ≤ length (now file) ⌝ }
+    ensures { λ r. ⌜ r ≡ closes c (lineAt (now (file .entry)) k) ⌝ }
+{
+    let at = LINE_BYTES * k;
+    if c.d % 2 != 0 {
+        return false;
+    }
+    let s = tells_at(file, at, 83, c.s);
+    let g = tells_at(file, at + 8, 71, c.g);
+    let d = tells_at(file, at + 16, 68, c.d);
+    let p = tells_at(file, at + 24, 80, c.p);
+    let b = columns::look::is_blank(file, at + 32, at + 72);
+    all_five(s, g, d, p, b)
+}

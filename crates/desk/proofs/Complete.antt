@@ -1,0 +1,128 @@
+-- A file that meets the rules meets all that is asked of it before the last pass; the last pass: `Content`. Assumes nothing.
+use mathlib.Core.Path.{_≡_, refl, sym, ap, _∙_}
+use mathlib.Core.Bool.{Bool, true, false, cond, not, _&&_}
+use mathlib.Core.List.{List}
+use Prim.Native.Nat.{ℕ, zero, suc, _+_, _*_, _≤_, _<_}
+use native.Mathlib.Omega.{arith}
+use lib.Seq.{ext-getD}
+use lib.Dec.{leb}
+use borrow.Author.Tests.{ne-eqb, leb-true}
+use Rattle.columns.specs.declared.SignedField.{SignedField}
+use Rattle.columns.specs.declared.SignedField.the-variants.{Number, Bad}
+use Rattle.columns.specs.Fixed.{signedOf}
+use Rattle.columns.specs.Refusal.{accepted}
+use Rattle.values.specs.Value.{Item}
+use Rattle.records.specs.Global.{firstField}
+use Rattle.records.proofs.Globals.{delimits, parameter-above, record-above}
+use Rattle.cards.specs.declared.Counts.{Counts}
+use Rattle.cards.specs.Cards.{entries, entryLine}
+use Rattle.cards.proofs.Complete.{rules}
+use Rattle.directory.specs.Lines.{slotIn, pointer, lines, positive, sizeOf, labelAt, parameterLine as lineNumber}
+use Rattle.directory.specs.Rules.{entryRules, referenceRule}
+use Rattle.owners.specs.InFile.{sizeOr0, ownerIn, fromIn, countIn}
+use Rattle.owners.specs.Rules.{Owns}
+use Rattle.owners.proofs.Round.{owns-passes}
+use Rattle.model.specs.Read.{GlobalRead, globalRead, given, entryIn, entriesIn, listedType, referencesOf, referencesIn, firstEntry, before}
+use Rattle.read_passes.specs.declared.Pass.{Pass}
+use Rattle.read_passes.specs.declared.Pass.the-variants.{Good as Passes}
+use Rattle.read_passes.specs.Passes.{passOf}
+use Rattle.read_passes.specs.Listed.{listedOf, listedAt, entryOf, allEntries, allTypes}
+use Rattle.read_passes.specs.Walks.{firstOf, entryCheck}
+use Rattle.read_passes.proofs.Facts.{pointer-same, lines-same}
+use Rattle.read_passes.proofs.Spellings.{stood, types-length, types-at}
+use Rattle.read_passes.proofs.Walks.{row-walk, entries-walk}
+use Rattle.read_passes.proofs.Whole.{good-entries}
+use Rattle.desk.specs.Rules.{GlobalIs, no-fields, fields, MeetsRules}
+use Rattle.desk.proofs.GlobalRules.{global-complete}
+use Rattle.desk.proofs.Sound.{taken}
+
+-- where each passes, all do
+all-good : (check : ℕ → Pass) (n i : ℕ) → ((j : ℕ) → i ≤ j → j < i + n → check j ≡ Passes) → firstOf check i n ≡ Passes
+unfolding firstOf
+all-good check zero i h = refl
+all-good check (suc n) i h = rw (h i (omega arith) (omega arith)) (all-good check n (i + 1) (λ j lo hi. h j (omega arith) (omega arith)))
+
+-- delimiters are no blanks
+pub above : (t : List ℕ) (p d : ℕ) (vs : List Item) → GlobalIs t p d vs → (0 < p) × (0 < d)
+above t p d vs (no-fields e b) =
+    let a = parameter-above 8 e (delimits t) in
+    let c = record-above 8 e (delimits t) in
+    (omega arith, omega arith)
+above t p d vs (fields e s b) =
+    let a = parameter-above 8 e (delimits t) in
+    let c = record-above 8 e (delimits t) in
+    (omega arith, omega arith)
+
+size-same : (x : SignedField) → positive x ≡ true → (sizeOf x ≡ sizeOr0 x) × (1 ≤ sizeOf x)
+unfolding sizeOr0
+size-same (Number x) h = by (x .neg) (leb 1 (x .size)) refl h
+  where
+    by : (n b : Bool) → leb 1 (x .size) ≡ b → not n && b ≡ true → (x .size ≡ cond n 0 (x .size)) × (1 ≤ x .size)
+    by false true e h = (refl, leb-true 1 (x .size) e)
+    by false false e h = let z : _≡_ {A = ℕ} 0 1 = cc in absurd (omega arith)
+    by true b e h = let z : _≡_ {A = ℕ} 0 1 = cc in absurd (omega arith)
+size-same Bad h = let z : _≡_ {A = ℕ} 0 1 = cc in absurd (omega arith)
+
+module _ (list : ℕ) (f : List ℕ) (r : MeetsRules list f) where
+  abbrev c : Counts
+  c = r .counts
+
+  abbrev pub g : GlobalRead
+  g = globalRead (r .parameter) (r .closing) (given firstField (r .globals))
+
+  -- entry i is what its lines say
+  pub listed : (i : ℕ) → i < entries c → entryOf f c i ≡ record { fields = r .entry i .fields; label = labelAt f (entryLine c i); pointer = r .entry i .pointer; lines = r .entry i .lines }
+  unfolding listedAt
+  listed i h = ap (listedOf (labelAt f (entryLine c i))) (r .entry-meets i h .spelt)
+
+  pub types-same : r .types ≡ allTypes f c
+  types-same =
+      ext-getD 0 (r .types) (allTypes f c) (r .types-length ∙ sym (types-length f c))
+      (λ i h. let l : i < entries c = omega (arith, r .types-length) in r .types-are i l ∙ (sym (ap listedType (listed i l)) ∙ sym (types-at f c i l)))
+
+  range-is : (i : ℕ) → i < entries c → (r .entry i .pointer ≡ fromIn f c i) × ((r .entry i .lines ≡ countIn f c i) × (1 ≤ r .entry i .pointer))
+  unfolding fromIn countIn
+  range-is i h =
+      let w = stood f (entryLine c i) (r .entry i .fields) (lineNumber (r .entry i .pointer)) (r .entry i .lines) (r .entry-meets i h .spelt) in
+      let a = size-same (signedOf (slotIn f (entryLine c i) pointer)) (w .from-some) in
+      let b = size-same (signedOf (slotIn f (entryLine c i) lines)) (w .count-some) in
+      let some = a .1 in
+      let from = w .from-is in
+      (w .from-is ∙ (a .0 ∙ sym (pointer-same f c i)), (w .count-is ∙ (b .0 ∙ sym (lines-same f c i)), omega arith))
+
+  owns : Owns (ownerIn f c) (fromIn f c) (countIn f c) (entries c) (c .p)
+  owns = record {
+    starts = λ i h. let q = range-is i h in let a = q .0 in let l = q .1 .1 in omega arith;
+    stays = λ i h. let q = range-is i h in let a = q .0 in let b = q .1 .0 in let s = r .entry-meets i h .inside in omega arith;
+    names = λ i k x. let q = range-is i (x .is) in let a = q .0 in let b = q .1 .0 in let lo = x .after in let hi = x .before in r .entry-meets i (x .is) .names k (omega arith, omega arith);
+    lines = λ k lo hi.
+        let o = r .owned k lo hi in
+        let q = range-is (o .0) (o .1 .0) in
+        let a = q .0 in
+        let b = q .1 .0 in
+        let low = o .1 .1 .1 .0 in
+        let high = o .1 .1 .1 .1 in
+        record { entry = o .0; name = o .1 .1 .0; has = record { is = o .1 .0; after = omega arith; before = omega arith } };
+  }
+
+  rules-pass : (i : ℕ) → i < entries c → entryCheck f c i ≡ Passes
+  unfolding entryCheck entryIn entryRules
+  rules-pass i h =
+      let m = r .entry-meets i h in
+      rw (m .spelt, m .ranges, ne-eqb (r .entry i .fields .entity .size) 306 (m .no-macro))
+
+  entries-pass : passOf (entriesIn f c) ≡ Passes
+  entries-pass = entries-walk f c ∙ all-good (entryCheck f c) (entries c) 0 (λ j lo hi. rules-pass j (omega arith))
+
+  references-pass : passOf (referencesIn c (allEntries f c)) ≡ Passes
+  unfolding referencesIn referenceRule
+  references-pass =
+      row-walk (referencesOf (allTypes f c)) (entryOf f c) (firstEntry c) (entries c) 0 (firstEntry c) (omega arith)
+      ∙ all-good (λ j. passOf (referencesOf (allTypes f c) (firstEntry c + 2 * j) (entryOf f c j))) (entries c) 0
+      (λ j lo hi. let h : j < entries c = omega arith in rw (listed j h, ← types-same, r .entry-meets j h .references-fit))
+
+  pub before-accepts : before f ≡ accepted (record { counts = c; global = g; listed = allEntries f c })
+  unfolding before
+  before-accepts =
+      let u = taken (referencesIn c (allEntries f c)) references-pass in
+      rw (rules f c .1 (r .lines), global-complete f c (r .lines .holds) (r .parameter) (r .closing) (r .globals) (r .global) (r .global-fits), good-entries f c entries-pass, u .1, owns-passes f c owns)

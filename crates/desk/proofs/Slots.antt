@@ -1,0 +1,113 @@
+-- The slots of a file's table have the fields of its sheet's entry lines: the last pass carries an entry's numbers and label as its D lines tell them. Assumes nothing.
+use mathlib.Core.Path.{_≡_, refl, sym, ap, _∙_}
+use mathlib.Core.Bool.{Bool}
+use mathlib.Core.List.{List, [], _∷_, map}
+use Prim.Native.Nat.{ℕ, _+_, _*_}
+use native.Mathlib.Omega.{arith}
+use lib.ListN.{getD, drop}
+use lib.Dec.{leb}
+use Rattle.columns.specs.declared.Fault.the-variants.{ListOrLength, FirstValue}
+use Rattle.columns.specs.Refusal.{accepted, demand, eachAt}
+use Rattle.columns.proofs.Outcomes.{then-accepted}
+use Rattle.values.specs.Value.{Item, default}
+use Rattle.records.specs.Record.{Values, values, wrong, trimmed, valuesAt}
+use Rattle.cards.specs.declared.Counts.{Counts}
+use Rattle.directory.specs.declared.Fields.{Fields}
+use Rattle.directory.specs.Fields.{entryOf}
+use Rattle.layouts.specs.Entities.{entityCheck}
+use Rattle.layouts.specs.Known.{mostList, known}
+use Rattle.sheets.specs.Sheet.{Line, startLines, globalLines, valueLines, rowLines, linesOf}
+use Rattle.model.specs.Model.{Carried, Model, typeOf, entityOf, rowOf, sheetOf}
+use Rattle.model.specs.Read.{Listed, Before, GlobalRead, two, isType, byParameters, parametersOf, entityIn, lastPass, before, readModel}
+use Rattle.desk.specs.Answers.{recordsFrom, listedIn}
+use Rattle.desk.specs.Slots.{LineFields, slotFields, entryFields, SlotsOfSheet, FilledFromSheet}
+
+-- ---- lines that are no entry lines have none of the fields
+
+past-starts : (ts : List (List ℕ)) (ls : List Line) → entryFields (startLines ts ls) ≡ entryFields ls
+unfolding startLines entryFields
+past-starts [] ls = refl
+past-starts (t ∷ ts) ls = past-starts ts ls
+
+past-globals : (gs : List (ℕ × Item)) (ls : List Line) → entryFields (globalLines gs ls) ≡ entryFields ls
+unfolding globalLines entryFields
+past-globals [] ls = refl
+past-globals (g ∷ gs) ls = past-globals gs ls
+
+past-values : (vs : List (Bool × Item)) (ls : List Line) → entryFields (valueLines vs ls) ≡ entryFields ls
+unfolding valueLines entryFields
+past-values [] ls = refl
+past-values (v ∷ vs) ls = past-values vs ls
+
+-- ---- what the last pass carries
+
+-- an entry's numbers and label
+record Keeps (e : Listed) (y : Carried) : Type 0 where
+  fields : y .fields ≡ e .fields
+  label : y .label ≡ e .label
+
+parameters-keep : (list : ℕ) (types : List ℕ) (p : ℕ) (e : Listed) (vs : Values) (y : Carried) → byParameters list types p e vs ≡ accepted y → Keeps e y
+parameters-keep list types p e (wrong n start at) y h = let z : _≡_ {A = ℕ} 0 1 = cc in absurd (omega arith)
+parameters-keep list types p e (values vs end) y h =
+    let a = then-accepted (demand (isType (typeOf (e .fields)) (getD vs 0 default)) FirstValue p) _ y h in
+    let b = then-accepted (entityCheck list types (entityOf (e .fields) (trimmed (drop 1 vs))) p) _ y (a .second) in
+    let s = b .second in
+    record { fields = cc; label = cc }
+
+-- ---- entry by entry
+
+-- the fields of the line of an entry with these numbers and this label
+abbrev onLine : ℕ → ℕ → Fields → List ℕ → LineFields
+onLine list k x label = record { known = known list (typeOf x) (x .form .size); number = 2 * k + 1; entry = entryOf x; label = label }
+
+row-first : (list : ℕ) (k : ℕ) (y : Carried) (ys : List Carried)
+    → entryFields (rowLines k (map (rowOf list) (y ∷ ys))) ≡ onLine list k (y .fields) (y .label) ∷ entryFields (rowLines (k + 1) (map (rowOf list) ys))
+unfolding rowLines rowOf entryFields
+row-first list k y ys = ap (λ (l : List LineFields). onLine list k (y .fields) (y .label) ∷ l) (past-values _ _)
+
+module _ (list : ℕ) (f : List ℕ) (c : Counts) (g : GlobalRead) (ts : List ℕ) where
+  slots-rows : (es : List Listed) (ys : List Carried) (p k : ℕ) → eachAt two (entityIn list f c g ts) p es ≡ accepted ys
+      → map slotFields (recordsFrom list k es) ≡ entryFields (rowLines k (map (rowOf list) ys))
+  unfolding eachAt entityIn recordsFrom entryFields rowLines
+  slots-rows [] ys p k h = let q : ys ≡ [] = cc in rw q
+  slots-rows (e ∷ es) ys p k h =
+      let a = then-accepted (entityIn list f c g ts p e) _ ys h in
+      let b = then-accepted (eachAt two (entityIn list f c g ts) (p + 2) es) _ ys (a .second) in
+      let s = b .second in
+      let q : ys ≡ a .value ∷ b .value = cc in
+      let y = parameters-keep list ts p e (valuesAt 64 (g .parameter) (g .record-end) (parametersOf f c e) 0) (a .value) (a .first) in
+      rw (q, row-first list k (a .value) (b .value), y .fields, y .label) (ap (λ (l : List LineFields). onLine list k (e .fields) (e .label) ∷ l) (slots-rows es (b .value) (p + 2) (k + 1) (b .first)))
+
+-- ---- the file
+
+sheet-fields : (list : ℕ) (m : Model) → entryFields (linesOf (sheetOf list m)) ≡ entryFields (rowLines 0 (map (rowOf list) (m .entries)))
+unfolding sheetOf linesOf
+sheet-fields list m = past-starts (m .starts) _ ∙ past-globals (m .globals) _
+
+listed-are : (list : ℕ) (f : List ℕ) (m : Model) (b : Before) → readModel list f ≡ accepted m → before f ≡ accepted b → listedIn list f ≡ accepted (recordsFrom list 0 (b .listed))
+unfolding listedIn
+listed-are list f m b h e = rw (h, e)
+
+pub slots-of-sheet : SlotsOfSheet
+unfolding readModel lastPass
+slots-of-sheet list f m h =
+    let a = then-accepted (demand (leb list mostList) ListOrLength 0) _ m h in
+    let b = then-accepted (before f) _ m (a .second) in
+    let d = then-accepted (lastPass list f (b .value .counts) (b .value .global) (b .value .listed)) _ m (b .second) in
+    let s = d .second in
+    let q : d .value ≡ m .entries = cc in (
+      recordsFrom list 0 (b .value .listed),
+      (
+        listed-are list f m (b .value) h (b .first),
+        slots-rows list f (b .value .counts) (b .value .global) _ (b .value .listed) (m .entries) _ 0 (d .first ∙ ap accepted q) ∙ sym (sheet-fields list m),
+      ),
+    )
+
+pub filled-from-sheet : FilledFromSheet
+unfolding listedIn
+filled-from-sheet list f rs h =
+    let m = then-accepted (readModel list f) _ rs h in
+    let t = slots-of-sheet list f (m .value) (m .first) in
+    let k = t .1 .0 in
+    let q : rs ≡ t .0 = cc in
+    (m .value, (m .first, ap (map slotFields) q ∙ t .1 .1))

@@ -1,0 +1,58 @@
+-- The code's form: values with their delimiters before the record ends, the ends of lines, and what the line at a place says.
+use mathlib.Core.Path.{_≡_}
+use mathlib.Core.Bool.{false}
+use mathlib.Core.List.{List, [], _∷_, _++_}
+use Prim.Native.Nat.{ℕ, zero, suc, _+_, _-_, _≤_, _<_}
+use lib.ListN.{length, take, drop}
+use Rattle.columns.specs.Columns.{lineBytes}
+use Rattle.columns.specs.Decimal.{dec, padded}
+use Rattle.columns.specs.Laid.{laid}
+use Rattle.values.specs.declared.Value.{Value}
+use Rattle.values.specs.Value.{Item, itemOf}
+use Rattle.records.specs.Flow.{piece}
+use Rattle.records.specs.Global.{lastField}
+use Rattle.records.specs.Reading.{Writable}
+use Rattle.sheets.specs.Sheet.{linesIn}
+use Rattle.file_blocks.specs.declared.GlobalLine.{GlobalLine}
+use Rattle.file_blocks.specs.declared.GlobalLine.the-variants.{Field, Otherwise}
+use Rattle.file_blocks.specs.Blocks.{globalsFirst, behindGlobals, tailOf}
+
+-- ---- a record before it ends
+
+-- the values from position p on, with ',' behind each: the last of these is written over when no value is left
+unfoldable pub parted : ℕ → ℕ → List Item → List ℕ
+parted w p [] = []
+parted w p (v ∷ vs) = piece w p v false ++ parted w (p + length (piece w p v false)) vs
+
+-- ---- the ends of lines
+
+-- the columns 65 to 72 of a P line: a blank, and the directory number
+abbrev pub ownerOf : ℕ → List ℕ
+ownerOf number = 32 ∷ padded 7 (dec number)
+
+-- the ends of so many lines, the first of them at q with number n: m stands before the letter
+unfoldable pub tailed : List ℕ → ℕ → List ℕ → ℕ → ℕ → ℕ → List ℕ
+tailed o q m b n zero = o
+tailed o q m b n (suc k) = tailed (laid o q (m ++ tailOf b n)) (q + lineBytes) m b (n + 1) k
+
+-- ---- the line at a place
+
+-- a G line with this number stands at this place
+pub record FieldStands (t : List ℕ) (at number from end : ℕ) (v : Value) : Type 0 where
+  pub low : at ≤ from
+  pub inside : from ≤ end
+  pub high : end < length t
+  pub field : number ≤ lastField
+  pub writable : Writable (end - from) v
+  pub fields : globalsFirst (linesIn (drop at t)) ≡ (number, itemOf (take (end - from) (drop from t)) v) ∷ globalsFirst (linesIn (drop (end + 1) t))
+  pub behind : behindGlobals (linesIn (drop at t)) ≡ behindGlobals (linesIn (drop (end + 1) t))
+
+-- no G line stands at this place
+pub record FieldsEnd (t : List ℕ) (at : ℕ) : Type 0 where
+  pub fields : globalsFirst (linesIn (drop at t)) ≡ []
+  pub behind : behindGlobals (linesIn (drop at t)) ≡ linesIn (drop at t)
+
+-- there is a G line, or they end
+abbrev pub FieldAt : List ℕ → ℕ → GlobalLine → Type 0
+FieldAt t at (Field number from end v) = FieldStands t at number from end v
+FieldAt t at Otherwise = FieldsEnd t at

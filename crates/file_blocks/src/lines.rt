@@ -1,0 +1,104 @@
+// The lines of which each is written whole: S, D and T.
+use crate::DIRECTORY;
+use crate::GLOBAL;
+use crate::PARAMETER;
+use crate::START;
+use crate::TERMINATE;
+use cards::Counts;
+use columns::DirectoryNumber;
+use columns::ParameterLine;
+use columns::wide;
+use directory::Fields;
+ghost use mathlib.Core.Path.{_≡_};
+ghost use mathlib.Core.List.{_∷_, _++_};
+ghost use Prim.Native.Nat.{_+_, _^_, _≤_, _<_};
+ghost use lib.ListN.{length};
+ghost use Rattle.columns.specs.Columns.{joined};
+ghost use Rattle.columns.specs.Decimal.{toLeft};
+ghost use Rattle.columns.specs.Laid.{Wrote};
+ghost use Rattle.directory.specs.Lines.{entryLines};
+ghost use Rattle.cards.specs.Written.{zeros, lineOf, section, totalsOf};
+ghost use Rattle.file_blocks.specs.Blocks.{tailOf};
+
+// The columns of a line's text, and those of its number.
+const TEXT: usize = 72;
+
+const DIGITS: usize = 7;
+
+// The blank columns of the T line.
+const REST: usize = 40;
+
+// A section's letter and a number in seven columns with leading zeros.
+fn put_count(out: &mut [u8], at: usize, letter: u8, n: usize) -> usize
+    requires { ⌜ (at < 2 ^ 60) × (n ≤ 9999999) ⌝ }
+    ensures { λ r. ⌜ Wrote (now (out .entry)) at (letter ∷ zeros n) (now (out .exit)) r ⌝ }
+    ensures { λ r. ⌜ r ≡ at + 8 ⌝ }
+{
+    let a = columns_emit::put(out, at, letter);
+    columns_decimals::put_right(out, a, 48, DIGITS, n as u64)
+}
+
+// The columns 73 to 80 and LF: a line's letter and its number in its section.
+pub fn put_tail(out: &mut [u8], at: usize, letter: u8, n: usize) -> usize
+    requires { ⌜ (at < 2 ^ 60) × (n ≤ 9999999) ⌝ }
+    ensures { λ r. ⌜ Wrote (now (out .entry)) at (tailOf letter n) (now (out .exit)) r ⌝ }
+    ensures { λ r. ⌜ r ≡ at + 9 ⌝ }
+{
+    let a = put_count(out, at, letter, n);
+    columns_emit::put(out, a, 10)
+}
+
+// S line n with this text.
+pub fn put_start_line(out: &mut [u8], at: usize, text: &[u8], n: usize) -> usize
+    requires { ⌜ (at < 2 ^ 59) × (length (now text) ≤ 72) × (n ≤ 9999999) ⌝ }
+    ensures { λ r. ⌜ Wrote (now (out .entry)) at (lineOf (toLeft 72 (now (text .entry))) 83 n) (now (out .exit)) r ⌝ }
+    ensures { λ r. ⌜ r ≡ at + 81 ⌝ }
+{
+    let a = columns_decimals::put_left(out, at, TEXT, text);
+    put_tail(out, a, START, n)
+}
+
+// The D lines of the entry with this directory number, which is also the number of the first of them: its fields, its first P line, how
+// many it has, and its label.
+pub fn put_entry_lines(
+    out: &mut [u8],
+    at: usize,
+    x: Fields,
+    from: ParameterLine,
+    count: u32,
+    label: &[u8],
+    number: DirectoryNumber,
+) -> usize
+    requires { ⌜ (at < 2 ^ 58) × (length (now label) ≤ 8) × (number .0 + 1 ≤ 9999999) ⌝ }
+    ensures { λ r. ⌜ Wrote (now (out .entry)) at (joined (section 68 (number .0) (entryLines x (from .0) count (now (label .entry))))) (now (out .exit)) r ⌝ }
+    ensures { λ r. ⌜ r ≤ at + 522 ⌝ }
+{
+    let n = number.0 as usize;
+    let a = directory_lay::put_first(out, at, x, from);
+    let b = put_tail(out, a, DIRECTORY, n);
+    let c = directory_lay::put_second(out, b, x, count, label);
+    put_tail(out, c, DIRECTORY, n + 1)
+}
+
+// The columns of T.
+fn put_totals(out: &mut [u8], at: usize, c: Counts) -> usize
+    requires { ⌜ (at < 2 ^ 59) × (c .s ≤ 9999999) × (c .g ≤ 9999999) × (c .d ≤ 9999999) × (c .p ≤ 9999999) ⌝ }
+    ensures { λ r. ⌜ Wrote (now (out .entry)) at ((83 ∷ zeros (c .s)) ++ ((71 ∷ zeros (c .g)) ++ ((68 ∷ zeros (c .d)) ++ (80 ∷ zeros (c .p))))) (now (out .exit)) r ⌝ }
+    ensures { λ r. ⌜ r ≡ at + 32 ⌝ }
+{
+    let e = put_count(out, at, START, wide(c.s));
+    let f = put_count(out, e, GLOBAL, wide(c.g));
+    let g = put_count(out, f, DIRECTORY, wide(c.d));
+    put_count(out, g, PARAMETER, wide(c.p))
+}
+
+// The T line: how many lines each section has.
+pub fn put_last_line(out: &mut [u8], at: usize, c: Counts) -> usize
+    requires { ⌜ (at < 2 ^ 59) × (c .s ≤ 9999999) × (c .g ≤ 9999999) × (c .d ≤ 9999999) × (c .p ≤ 9999999) ⌝ }
+    ensures { λ r. ⌜ Wrote (now (out .entry)) at (lineOf (totalsOf c) 84 1) (now (out .exit)) r ⌝ }
+    ensures { λ r. ⌜ r ≡ at + 81 ⌝ }
+{
+    let a = put_totals(out, at, c);
+    let b = columns_emit::put_run(out, a, 32, REST);
+    put_tail(out, b, TERMINATE, 1)
+}

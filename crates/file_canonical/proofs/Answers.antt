@@ -1,0 +1,110 @@
+-- What writes a sheet needs to know: a sheet that passes its checks has its file, or too many lines for one. Assumes nothing.
+use mathlib.Core.Path.{_≡_, refl, sym, ap, _∙_}
+use mathlib.Core.Bool.{Bool, true, false}
+use mathlib.Core.List.{List}
+use Prim.Native.Nat.{ℕ, _*_, _≤_, _<_}
+use native.Mathlib.Omega.{arith}
+use lib.ListN.{length, length-map}
+use lib.Dec.{leb}
+use borrow.Author.Tests.{le-leb, lt-leb, leb-true, leb-false}
+use Rattle.columns.specs.declared.Fault.the-variants.{ListOrLength, Directory, TooLong}
+use Rattle.columns.specs.Refusal.{accepted, refused, demand, eachAt, _then_}
+use Rattle.columns.proofs.Outcomes.{then-accepted, demand-accepted}
+use Rattle.cards.specs.declared.Counts.{Counts}
+use Rattle.cards.specs.Cards.{mostLines, total}
+use Rattle.directory.specs.Rules.{rangesOk, entryRules}
+use Rattle.layouts.specs.Known.{mostList}
+use Rattle.sheets.specs.declared.Verdict.{Verdict}
+use Rattle.sheets.specs.declared.Verdict.the-variants.{Good, Wrong}
+use Rattle.sheets.specs.Sheet.{Row, Sheet, linesIn, sheetOf}
+use Rattle.sheets.specs.Order.{verdictOf, outcome, readSheet}
+use Rattle.sheets.specs.WellFormed.{Each}
+use Rattle.sheets.proofs.Sheets.{good-written}
+use Rattle.sheets_rows.proofs.Each.{each-accepted}
+use Rattle.model.specs.Model.{Model, carriedOf, modelOf}
+use Rattle.model.specs.Canonical.{lineTotal, canonical}
+use Rattle.model.specs.Write.{one as oneLine, rowSize, firstGlobal, firstRow, globalRule, rowRules, sheetRules, writeModel, writes}
+use Rattle.file_canonical.specs.declared.Lines.the-variants.{Are, TooMany}
+use Rattle.file_canonical.specs.Counting.{linesOfSheet}
+use Rattle.file_canonical.specs.Laying.{Ranged}
+use Rattle.file_canonical.proofs.Good.{few-lines}
+use Rattle.file_canonical.proofs.Readied.{counts-are, file-length}
+
+-- ---- the checks
+
+-- rule 9 of one row
+row-ranged : (place : ℕ) (r : Row) (y : Unit {0}) → rowRules place r ≡ accepted y → Ranged r
+unfolding entryRules
+row-ranged place r y h = demand-accepted (rangesOk (r .fields)) Directory place (then-accepted (demand (rangesOk (r .fields)) Directory place) _ y h .first)
+
+-- of all rows
+sheet-ranged : (list : ℕ) (s : Sheet) (y : Unit {0}) → sheetRules list s ≡ accepted y → Each Ranged (s .rows)
+unfolding sheetRules
+sheet-ranged list s y h =
+    let a = then-accepted (eachAt oneLine globalRule (firstGlobal s) (s .globals)) _ y h in
+    let b = then-accepted (eachAt rowSize rowRules (firstRow s) (s .rows)) _ y (a .second) in
+    each-accepted rowSize rowRules row-ranged (firstRow s) (s .rows) (b .value) (b .first)
+
+-- what is read of a sheet
+read-good : (t : List ℕ) (s : Sheet) (v : Verdict) → verdictOf t ≡ v → outcome (sheetOf (linesIn t)) v ≡ accepted s → (n : ℕ) × (verdictOf t ≡ Good n) × (s ≡ sheetOf (linesIn t))
+read-good t s (Good n) e h = (n, e, cc)
+read-good t s (Wrong w) e h = let z : _≡_ {A = ℕ} 0 1 = cc in absurd (omega arith)
+
+-- a sheet that passes all checks but 19
+pub record Passed (t : List ℕ) (m : Model) : Type 0 where
+  pub good : verdictOf t ≡ Good (length (m .entries))
+  pub model : m ≡ modelOf (sheetOf (linesIn t))
+  pub ranged : Each Ranged (sheetOf (linesIn t) .rows)
+
+entries-count : (t : List ℕ) (n : ℕ) → verdictOf t ≡ Good n → n ≡ length (modelOf (sheetOf (linesIn t)) .entries)
+unfolding modelOf
+entries-count t n g = good-written t n g .count ∙ sym (length-map (sheetOf (linesIn t) .rows) carriedOf)
+
+pub passed : (list : ℕ) (t : List ℕ) (m : Model) → writeModel list t ≡ accepted m → Passed t m
+unfolding writeModel readSheet
+passed list t m h =
+    let a = then-accepted (demand (leb list mostList) ListOrLength 0) _ m h in
+    let b = then-accepted (readSheet t) (λ s. sheetRules list s then λ _. accepted (modelOf s)) m (a .second) in
+    let c = then-accepted (sheetRules list (b .value)) (λ _. accepted (modelOf (b .value))) m (b .second) in
+    let g = read-good t (b .value) (verdictOf t) refl (b .first) in
+    let e : m ≡ modelOf (sheetOf (linesIn t)) = same (c .second) ∙ ap modelOf (g .2) in
+    record {
+      good = g .1 ∙ ap Good (entries-count t (g .0) (g .1) ∙ ap (λ (x : Model). length (x .entries)) (sym e));
+      model = e;
+      ranged = rw (← g .2) (sheet-ranged list (b .value) (c .value) (c .first));
+    }
+  where
+    same : {x y : Model} → accepted x ≡ accepted y → y ≡ x
+    same q = cc
+
+-- ---- 19, by the count
+
+module _ (list : ℕ) (t : List ℕ) (m : Model) (h : writeModel list t ≡ accepted m) where
+  known : Passed t m
+  known = passed list t m h
+
+  -- a file may have the lines: the answer is the file that is laid
+  pub answer-file : (c : Counts) → linesOfSheet (linesIn t) ≡ Are c → writes list t ≡ accepted (canonical (modelOf (sheetOf (linesIn t))))
+  unfolding writes
+  answer-file c e =
+      let k = known in
+      let f : lineTotal m ≤ mostLines = rw (k .model) (counts-are t (length (m .entries)) c (k .good) e .1) in
+      rw h (simp (le-leb (lineTotal m) mostLines f) (ap (λ (x : Model). accepted (canonical x)) (k .model)))
+
+  -- it has 81 bytes to a line
+  pub answer-length : (c : Counts) → linesOfSheet (linesIn t) ≡ Are c → length (canonical (modelOf (sheetOf (linesIn t)))) ≡ 81 * total c
+  answer-length c e = let k = known in file-length t (length (m .entries)) c (k .good) e (k .ranged)
+
+  -- they are too many: 19
+  pub answer-long : linesOfSheet (linesIn t) ≡ TooMany → writes list t ≡ refused TooLong 0
+  unfolding writes
+  answer-long e = rw h (simp (lt-leb (lineTotal m) mostLines (pick (leb (lineTotal m) mostLines) refl)))
+    where
+      never : {c : Counts} → TooMany ≡ Are c → ⊥
+      never q = let z : _≡_ {A = ℕ} 0 1 = cc in omega arith
+
+      pick : (b : Bool) → leb (lineTotal m) mostLines ≡ b → mostLines < lineTotal m
+      pick true q =
+          let k = known in
+          absurd (never (sym e ∙ few-lines t (length (m .entries)) (k .good) (rw (← k .model) (leb-true (lineTotal m) mostLines q))))
+      pick false q = leb-false (lineTotal m) mostLines q

@@ -1,0 +1,23 @@
+-- Where the P lines stand in the file, so does the record.
+use borrow.Author.Needs.{needs}
+use Rattle.print_sheet.proofs.Rowed.{row}
+use Rattle.print_sheet.proofs.rows.put_spelt.Statement.{statement}
+use Rattle.print_sheet.proofs.rows.put_spelt.Tie as tie
+
+pub put-spelt-spec : {M : Type 1} → statement M
+put-spelt-spec =
+    tie.close
+    (tie.spec
+    (λ c κs. search (needs, row))
+    (λ c κs. search (needs, row))
+    (λ c. search (needs, row))
+    (λ c. search (needs, row))
+    (λ c. search (needs, row))
+    (λ c. search (needs, row))
+    (λ c. search (needs, row))
+    (λ c. search (needs, row))
+    (λ c. search (needs, row))
+    (λ c κs. search (needs, row))
+    (λ c κs. (search (needs, row), search needs, search needs, search needs, search needs, search needs, search (needs, row)))
+    (λ c. search (needs, row))
+    (λ c. search (needs, row)))

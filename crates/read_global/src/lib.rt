@@ -1,0 +1,220 @@
+// G: 6 and 7 in text order, stray text, then 8.
+use cards::Counts;
+use cards::LINE_BYTES;
+use columns::Fault;
+use columns::FileLine;
+use columns::wide;
+use read_passes::GlobalAnswer;
+use read_passes::Pass;
+use records::Check;
+use records::Got;
+use records::Opening;
+use values::Value;
+ghost use mathlib.Core.Path.{_≡_};
+ghost use Prim.Native.Nat.{_*_, _<_, _≤_};
+ghost use Rattle.cards.specs.Rules.{Holds};
+ghost use Rattle.records.specs.Record.{startOf, behind};
+ghost use Rattle.model.specs.Read.{globalText, globalLine, spellingLine, noStray, globalIn};
+ghost use Rattle.read_passes.specs.Passes.{fileLine, passOf, answerOf, globalAnswer};
+ghost use Rattle.read_passes.specs.Walks.{orElse, gotValue, fieldsFit, valuesOutcome};
+
+// The columns of a G line that are text, and the first field behind the delimiters.
+const WIDE: usize = 72;
+
+const FIRST_FIELD: u32 = 3;
+
+// The file line of position p of G's text.
+fn global_line(c: Counts, p: usize) -> FileLine
+    requires { ⌜ p ≤ 16000000 ⌝ }
+    ensures { λ r. ⌜ r ≡ fileLine (globalLine c p) ⌝ }
+{
+    FileLine(wide(c.s) + p / WIDE + 1)
+}
+
+// Where a value is wrong that starts at `start`: `at` cannot continue it.
+fn spelling_line(file: &[u8], c: Counts, start: usize, at: usize) -> FileLine
+    requires { ⌜ Holds (now file) c × (start ≤ 16000000) ⌝ }
+    ensures { λ r. ⌜ r ≡ fileLine (spellingLine c (globalText (now (file .entry)) c) start at) ⌝ }
+{
+    let s = wide(c.s);
+    let g = wide(c.g);
+    if at == g * WIDE {
+        return FileLine(s + g);
+    }
+    global_line(c, start)
+}
+
+// Behind the record, which ends at `end`, is nothing but blanks.
+fn no_stray(file: &[u8], c: Counts, end: usize) -> Pass
+    requires { ⌜ Holds (now file) c × (end ≤ c .g * 72) ⌝ }
+    ensures { λ r. ⌜ r ≡ passOf (noStray c (globalText (now (file .entry)) c) end) ⌝ }
+{
+    let lines = wide(c.g);
+    let q = records_global::stray(file, LINE_BYTES * wide(c.s), WIDE, lines, end);
+    if q == lines * WIDE {
+        return Pass::Good;
+    }
+    let line = global_line(c, q);
+    Pass::Refused {
+        fault: Fault::Spelling,
+        line,
+    }
+}
+
+fn value_of(g: Got) -> Value
+    ensures { λ r. ⌜ r ≡ gotValue g ⌝ }
+{
+    match g {
+        Got::Found {
+            value,
+            start: _,
+            next: _,
+            last: _,
+        } => value,
+        Got::Refused {
+            fault: _,
+            start: _,
+            at: _,
+        } => Value::Default,
+    }
+}
+
+fn start_of(g: Got) -> usize
+    ensures { λ r. ⌜ r ≡ startOf g ⌝ }
+{
+    match g {
+        Got::Found {
+            value: _,
+            start,
+            next: _,
+            last: _,
+        } => start,
+        Got::Refused {
+            fault: _,
+            start,
+            at: _,
+        } => start,
+    }
+}
+
+fn behind_of(g: Got) -> usize
+    ensures { λ r. ⌜ r ≡ behind g ⌝ }
+{
+    match g {
+        Got::Found {
+            value: _,
+            start: _,
+            next,
+            last: _,
+        } => next,
+        Got::Refused {
+            fault: _,
+            start: _,
+            at,
+        } => at,
+    }
+}
+
+// Rule 8, field by field: the values from position `from` on, n of them.
+fn fields_fit(file: &[u8], c: Counts, parameter: u8, closing: u8, from: usize, n: usize) -> Pass
+    requires { ⌜ Holds (now file) c × (from ≤ c .g * 72) × (n ≤ 16000000) × (0 < parameter) × (0 < closing) ⌝ }
+    ensures { λ r. ⌜ r ≡ passOf (fieldsFit c parameter closing (globalText (now (file .entry)) c) from n) ⌝ }
+{
+    let base = LINE_BYTES * wide(c.s);
+    let lines = wide(c.g);
+    let mut k = 0;
+    let mut q = from;
+    while k < n {
+        let g = records_read::value_at(file, base, WIDE, lines, parameter, closing, q);
+        let value = value_of(g);
+        let start = start_of(g);
+        let next = behind_of(g);
+        if !records_global::global_fits(FIRST_FIELD + k as u32, value) {
+            let line = global_line(c, start);
+            return Pass::Refused {
+                fault: Fault::Global,
+                line,
+            };
+        }
+        q = next;
+        k += 1;
+    }
+    Pass::Good
+}
+
+// Behind n values from `from` on, where the record ends at `end`: stray text, then rule 8.
+fn done_pass(
+    file: &[u8],
+    c: Counts,
+    parameter: u8,
+    closing: u8,
+    from: usize,
+    n: usize,
+    end: usize,
+) -> Pass
+    requires { ⌜ Holds (now file) c × (from ≤ c .g * 72) × (n ≤ 16000000) × (end ≤ c .g * 72) × (0 < parameter) × (0 < closing) ⌝ }
+    ensures { λ r. ⌜ r ≡ orElse (passOf (noStray c (globalText (now (file .entry)) c) end)) (passOf (fieldsFit c parameter closing (globalText (now (file .entry)) c) from n)) ⌝ }
+{
+    let found = no_stray(file, c, end);
+    match found {
+        Pass::Refused { fault, line } => Pass::Refused { fault, line },
+        Pass::Good => fields_fit(file, c, parameter, closing, from, n),
+    }
+}
+
+// The record from `from` on.
+fn values_pass(file: &[u8], c: Counts, parameter: u8, closing: u8, from: usize) -> Pass
+    requires { ⌜ Holds (now file) c × (from ≤ c .g * 72) × (0 < parameter) × (0 < closing) ⌝ }
+    ensures { λ r. ⌜ r ≡ passOf (valuesOutcome c (globalText (now (file .entry)) c) parameter closing from) ⌝ }
+{
+    let lines = wide(c.g);
+    let base = LINE_BYTES * wide(c.s);
+    let check = records_read::check_from(file, base, WIDE, lines, parameter, closing, from);
+    match check {
+        Check::Wrong { fault, start, at } => {
+            let line = spelling_line(file, c, start, at);
+            Pass::Refused { fault, line }
+        }
+        Check::Done {
+            count,
+            kept: _,
+            end,
+        } => done_pass(file, c, parameter, closing, from, count, end),
+    }
+}
+
+fn answer_of(found: Pass, parameter: u8, closing: u8) -> GlobalAnswer
+    ensures { λ r. ⌜ r ≡ answerOf found parameter closing ⌝ }
+{
+    match found {
+        Pass::Good => GlobalAnswer::Good { parameter, closing },
+        Pass::Refused { fault, line } => GlobalAnswer::Refused { fault, line },
+    }
+}
+
+// The Global section.
+pub fn globals(file: &[u8], c: Counts) -> GlobalAnswer
+    requires { ⌜ Holds (now file) c ⌝ }
+    ensures { λ r. ⌜ r ≡ globalAnswer (globalIn (now (file .entry)) c) ⌝ }
+{
+    let first = wide(c.s);
+    let opening = records_global::opening_of(file, LINE_BYTES * first, wide(c.g));
+    let Opening::Opened {
+        parameter,
+        record: closing,
+        next,
+        last,
+    } = opening
+    else {
+        return GlobalAnswer::Refused {
+            fault: Fault::Spelling,
+            line: FileLine(first + 1),
+        };
+    };
+    if last {
+        let found = no_stray(file, c, next);
+        return answer_of(found, parameter, closing);
+    }
+    let found = values_pass(file, c, parameter, closing, next);
+    answer_of(found, parameter, closing)
+}

@@ -1,0 +1,34 @@
+-- The code's form: the answers of a pass, as outcomes give them.
+use Prim.Native.Nat.{ℕ}
+use Rattle.columns.specs.declared.FileLine.{FileLine}
+use Rattle.columns.specs.Refusal.{Outcome, accepted, refused}
+use Rattle.model.specs.Read.{GlobalRead, Before}
+use Rattle.read_passes.specs.declared.Pass.{Pass}
+use Rattle.read_passes.specs.declared.Pass.the-variants.{Good, Refused}
+use Rattle.read_passes.specs.declared.GlobalAnswer.{GlobalAnswer}
+use Rattle.read_passes.specs.declared.GlobalAnswer.the-variants.{Good as GlobalGood, Refused as GlobalRefused}
+use Rattle.read_passes.specs.declared.BeforeAnswer.{BeforeAnswer}
+use Rattle.read_passes.specs.declared.BeforeAnswer.the-variants.{Good as BeforeGood, Refused as BeforeRefused}
+
+abbrev pub fileLine : ℕ → FileLine
+fileLine k = record { 0 = k }
+
+-- whether all is accepted, or the first refusal
+abbrev pub passOf : {A : Type 0} → Outcome A → Pass
+passOf (accepted a) = Good
+passOf (refused n p) = Refused n (fileLine p)
+
+-- the delimiters, or the first refusal
+abbrev pub globalAnswer : Outcome GlobalRead → GlobalAnswer
+globalAnswer (accepted g) = GlobalGood (g .parameter) (g .record-end)
+globalAnswer (refused n p) = GlobalRefused n (fileLine p)
+
+-- the delimiters, where a pass is good
+abbrev pub answerOf : Pass → ℕ → ℕ → GlobalAnswer
+answerOf Good p d = GlobalGood p d
+answerOf (Refused n l) p d = GlobalRefused n l
+
+-- counts and delimiters, or the first refusal
+abbrev pub beforeAnswer : Outcome Before → BeforeAnswer
+beforeAnswer (accepted b) = BeforeGood (b .counts) (b .global .parameter) (b .global .record-end)
+beforeAnswer (refused n p) = BeforeRefused n (fileLine p)

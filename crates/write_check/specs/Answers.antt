@@ -1,0 +1,29 @@
+-- The code's form: the answer of all checks of a sheet.
+use mathlib.Core.Path.{_≡_}
+use mathlib.Core.List.{List}
+use Prim.Native.Nat.{ℕ}
+use lib.ListN.{length}
+use Rattle.columns.specs.Refusal.{Outcome, accepted, refused}
+use Rattle.sheets.specs.declared.Verdict.{Verdict}
+use Rattle.sheets.specs.declared.Verdict.the-variants.{Good as GoodSheet}
+use Rattle.sheets.specs.Sheet.{linesIn}
+use Rattle.sheets.specs.Order.{sheetLine}
+use Rattle.model.specs.Model.{Model}
+use Rattle.model.specs.Write.{writeModel}
+use Rattle.file_canonical.specs.declared.Lines.{Lines}
+use Rattle.file_canonical.specs.Counting.{linesOfSheet}
+use Rattle.write_check.specs.declared.Ruled.{Ruled}
+use Rattle.write_check.specs.declared.Ruled.the-variants.{Good, Refused}
+
+-- the entry count and the lines of the file, or the first refusal
+abbrev pub told : Lines → Outcome Model → Ruled
+told k (accepted m) = Good (length (m .entries)) k
+told k (refused n place) = Refused n (sheetLine place)
+
+-- of a text under a list
+unfoldable pub ruledOf : ℕ → List ℕ → Ruled
+ruledOf list t = told (linesOfSheet (linesIn t)) (writeModel list t)
+
+-- what holds where a sheet's lines are good
+pub record IfGood (v : Verdict) (A : Type 0) : Type 0 where
+  pub so : (n : ℕ) → v ≡ GoodSheet n → A

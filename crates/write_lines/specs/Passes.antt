@@ -1,0 +1,24 @@
+-- The code's form: the passes over a sheet behind 17, as writing's order has them.
+use mathlib.Core.List.{List}
+use Prim.Native.Nat.{ℕ}
+use Rattle.sheets.specs.Sheet.{linesIn}
+use Rattle.model.specs.Write.{globalRule, rowRules, rowReferences, rowEntityRules}
+use Rattle.write_lines.specs.declared.Pass.{Pass}
+use Rattle.write_lines.specs.Lines.{orElse, noRule, linesPass}
+use Rattle.write_lines.specs.Classes.{sheetTypes}
+
+-- 8; each entry 9, 13
+unfoldable pub rulesPass : List ℕ → Pass
+rulesPass t = linesPass globalRule rowRules 1 (linesIn t)
+
+-- all 10
+unfoldable pub referencesPass : List ℕ → Pass
+referencesPass t = linesPass noRule (rowReferences (sheetTypes t)) 1 (linesIn t)
+
+-- each entry 14, 15, 18
+unfoldable pub entitiesPass : ℕ → List ℕ → Pass
+entitiesPass list t = linesPass noRule (rowEntityRules list (sheetTypes t)) 1 (linesIn t)
+
+-- the passes behind 17
+unfoldable pub sheetPass : ℕ → List ℕ → Pass
+sheetPass list t = orElse (rulesPass t) (orElse (referencesPass t) (entitiesPass list t))

@@ -1,0 +1,52 @@
+// What lines are asked by themselves: 8 of a G line, 9 and 13 of an entry line. G lines stand before entries, so one walk asks them all.
+use crate::Pass;
+use columns::Fault;
+use columns::SheetLine;
+use directory::Rule;
+use sheets::Said;
+ghost use mathlib.Core.Path.{_≡_};
+ghost use Rattle.write_lines.specs.Lines.{orElse};
+ghost use Rattle.write_lines.specs.Heads.{saidRule};
+
+// What a line says, at its place.
+fn rule_of(said: Said, line: SheetLine) -> Pass
+    ensures { λ r. ⌜ r ≡ saidRule (line .0) said ⌝ }
+{
+    match said {
+        Said::Global {
+            number,
+            at: _,
+            value,
+        } => {
+            if records_global::global_fits(number, value) {
+                return Pass::Good;
+            }
+            Pass::Refused {
+                fault: Fault::Global,
+                line,
+            }
+        }
+        Said::Entry {
+            known: _,
+            number: _,
+            fields,
+        } => {
+            let rule = directory_rules::entry_rules(fields);
+            match rule {
+                Rule::Good => Pass::Good,
+                Rule::Refused(fault) => Pass::Refused { fault, line },
+            }
+        }
+        _ => Pass::Good,
+    }
+}
+
+// The first refusal so far, or that of this line.
+pub fn rule_too(first: Pass, said: Said, place: SheetLine) -> Pass
+    ensures { λ r. ⌜ r ≡ orElse first (saidRule (place .0) said) ⌝ }
+{
+    match first {
+        Pass::Refused { fault, line } => Pass::Refused { fault, line },
+        Pass::Good => rule_of(said, place),
+    }
+}
