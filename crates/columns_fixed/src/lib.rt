@@ -2,6 +2,7 @@
 use columns::Field;
 use columns::Signed;
 use columns::SignedField;
+use columns::byte_u32;
 ghost use mathlib.Core.Bool.{true, false};
 ghost use mathlib.Core.Path.{_≡_};
 ghost use Prim.Native.Nat.{_+_, _≤_, _<_};
@@ -9,12 +10,6 @@ ghost use lib.ListN.{length};
 ghost use Rattle.columns.specs.Columns.{columns};
 ghost use Rattle.columns.specs.Fixed.{digitsOf, fieldOf, isNumber, withSign, behindSign, signedOf};
 ghost use Rattle.columns.specs.Reading.{Below, SizeBelow, Behind};
-
-fn wide(b: u8) -> u32
-    ensures { λ r. ⌜ r ≡ b ⌝ }
-{
-    b as u32
-}
 
 // Digits from `at` up to `end`.
 fn digits(s: &[u8], at: usize, end: usize) -> Field
@@ -32,7 +27,7 @@ fn digits(s: &[u8], at: usize, end: usize) -> Field
         if 57 < b {
             return Field::Bad;
         }
-        n = n * 10 + wide(b - 48);
+        n = n * 10 + byte_u32(b - 48);
         i += 1;
     }
     Field::Number(n)

@@ -36,6 +36,10 @@ use Rattle.columns.proofs.look.same.Kinds as look-same-kinds
 use Rattle.columns.proofs.look.same.Reads as look-same-reads
 use Rattle.columns.proofs.wide.Kinds as wide-kinds
 use Rattle.columns.proofs.wide.Reads as wide-reads
+use Rattle.columns.proofs.byte_u32.Kinds as byte-u32-kinds
+use Rattle.columns.proofs.byte_u32.Reads as byte-u32-reads
+use Rattle.columns.proofs.byte_u64.Kinds as byte-u64-kinds
+use Rattle.columns.proofs.byte_u64.Reads as byte-u64-reads
 use Rattle.demands.specs.Unique.{NoSecond}
 use Rattle.demands.proofs.Unique.{once, wrote-first}
 
@@ -102,3 +106,9 @@ look-same κs a z z′ left left′ p q = (once p q, refl)
 
 pub wide : NoSecond wide-kinds.ps wide-kinds.r wide-reads.Post
 wide κs a z z′ left left′ p q = (once (p .0) (q .0), refl)
+
+pub byte-u32 : NoSecond byte-u32-kinds.ps byte-u32-kinds.r byte-u32-reads.Post
+byte-u32 κs a z z′ left left′ p q = (once (p .0) (q .0), refl)
+
+pub byte-u64 : NoSecond byte-u64-kinds.ps byte-u64-kinds.r byte-u64-reads.Post
+byte-u64 κs a z z′ left left′ p q = (once (p .0) (q .0), refl)

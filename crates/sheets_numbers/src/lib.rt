@@ -1,5 +1,7 @@
 // The plain numbers of a sheet, read strictly in one pass over their bytes.
 use columns::Signed;
+use columns::byte_u32;
+use columns::byte_u64;
 ghost use mathlib.Core.Path.{_≡_};
 ghost use mathlib.Core.Bool.{true, false};
 ghost use Prim.Native.Nat.{_+_, _-_, _≤_, _<_};
@@ -21,18 +23,6 @@ pub struct Tabbed {
     pub end: usize,
 }
 
-fn small(b: u8) -> u32
-    ensures { λ r. ⌜ r ≡ b ⌝ }
-{
-    b as u32
-}
-
-fn wide(b: u8) -> u64
-    ensures { λ r. ⌜ r ≡ b ⌝ }
-{
-    b as u64
-}
-
 // One more byte of a number.
 fn add_digit(n: u64, b: u8) -> u64
     requires { ⌜ n ≤ unread ⌝ }
@@ -46,12 +36,12 @@ fn add_digit(n: u64, b: u8) -> u64
         return MISSPELT;
     }
     if n == UNREAD {
-        return wide(b - 48);
+        return byte_u64(b - 48);
     }
     if n == 0 {
         return MISSPELT;
     }
-    let m = n * 10 + wide(b - 48);
+    let m = n * 10 + byte_u64(b - 48);
     if MOST < m {
         return MISSPELT;
     }
@@ -224,7 +214,7 @@ pub fn tabbed_at(s: &[u8], left: usize, at: usize, end: usize) -> Tabbed
     }
     let number = Signed {
         neg: false,
-        size: small(b - 48),
+        size: byte_u32(b - 48),
     };
     Tabbed {
         number,

@@ -1,15 +1,10 @@
 // Digits read one by one, however many there are, without a loss.
+use columns::byte_u64;
 use values::Run;
 ghost use mathlib.Core.Path.{_≡_};
 ghost use Prim.Native.Nat.{_+_, _-_, _*_, _^_, _≤_, _<_, min};
 ghost use lib.ListN.{length, drop};
 ghost use Rattle.values.specs.Reading.{more, scan, capRun, Small};
-
-fn wide(x: u8) -> u64
-    ensures { λ r. ⌜ r ≡ x ⌝ }
-{
-    x as u64
-}
 
 // Numbers past seventeen digits are all alike.
 fn cap(x: u64) -> u64
@@ -49,7 +44,7 @@ fn more_of(r: Run, c: u8) -> Run
     requires { ⌜ (48 ≤ c) × ((c ≤ 57) × ((r .count + 1 < 2 ^ 64) × Small r)) ⌝ }
     ensures { λ q. ⌜ q ≡ capRun (more r c) ⌝ }
 {
-    run_of(r, c, cap(r.value * 10 + (wide(c) - 48)))
+    run_of(r, c, cap(r.value * 10 + (byte_u64(c) - 48)))
 }
 
 // One more digit, where there is no need of the cap.
@@ -57,7 +52,7 @@ fn few_of(r: Run, c: u8) -> Run
     requires { ⌜ (48 ≤ c) × ((c ≤ 57) × ((r .count + 1 < 2 ^ 64) × (Small r × (r .value < 10 ^ 16)))) ⌝ }
     ensures { λ q. ⌜ q ≡ capRun (more r c) ⌝ }
 {
-    run_of(r, c, r.value * 10 + (wide(c) - 48))
+    run_of(r, c, r.value * 10 + (byte_u64(c) - 48))
 }
 
 // The digits from i on, after those of r, which may be many.

@@ -1,4 +1,5 @@
 // A value's one spelling read back, and no other: straight from the text, by what stands behind its sign and its digits.
+use columns::byte_u64;
 use columns::look;
 use values::Decimal;
 use values::Strict;
@@ -13,12 +14,6 @@ ghost use Rattle.values.specs.declared.Strict.the-variants.{Is};
 ghost use Rattle.values.specs.Strict.{strictOf, meant};
 ghost use Rattle.values.specs.Writing.{front, Placed};
 ghost use Rattle.values.specs.Direct.{decimal, isWhole, isNought, isNormal, asWhole, asReal, behindLetter, behindPoint, behindCount};
-
-fn wide(x: u8) -> u64
-    ensures { λ r. ⌜ r ≡ x ⌝ }
-{
-    x as u64
-}
 
 // Where digits are read to: a number has seventeen at most, and the text ends at n.
 fn stop_of(n: usize, at: usize) -> usize
@@ -41,7 +36,7 @@ fn decimal_at(l: &[u8], at: usize) -> Decimal
     if 57 < c {
         return Decimal { value: 0, end: at };
     }
-    let mut v = wide(c - 48);
+    let mut v = byte_u64(c - 48);
     let mut k = at + 1;
     if c == 48 {
         return Decimal { value: 0, end: k };
@@ -55,7 +50,7 @@ fn decimal_at(l: &[u8], at: usize) -> Decimal
         if 57 < d {
             return Decimal { value: v, end: k };
         }
-        v = v * 10 + wide(d - 48);
+        v = v * 10 + byte_u64(d - 48);
         k += 1;
     }
     Decimal { value: v, end: k }
