@@ -6,7 +6,7 @@ use native.Mathlib.Numerals.{add-one}
 use native.Mathlib.Omega.{arith}
 use mathlib.Core.List.{List, [], _∷_, _++_}
 use lib.ListN.{length, getD, take, drop, length-drop}
-use lib.Seq.{drop-cons, drop-append-add, take-at, take-all, take-append-le, drop-append-le, getD-take, getD-drop, take-take, drop-drop, length-take-le, take-nil, take-add}
+use lib.Seq.{drop-cons, drop-append-add, take-at, take-all, take-append-le, drop-append-le, getD-take, getD-drop, take-take, drop-drop, length-take-le, take-nil}
 use Rattle.columns.specs.Columns.{columns, lineAt}
 
 -- the columns from i up to end: the next, and the rest
@@ -60,14 +60,6 @@ pub columns-first : (p t : List ℕ) (at end : ℕ) → at ≤ end → end ≤ l
 unfolding columns
 columns-first p t at end h k =
     rw (drop-append-le at p t (omega arith)) (take-append-le (end - at) (drop at p) t (simp length-drop (omega arith)))
-
--- two runs of columns that follow each other are one
-pub columns-join : (s : List ℕ) (a b c : ℕ) → a ≤ b → b ≤ c → columns s a b ++ columns s b c ≡ columns s a c
-unfolding columns
-columns-join s a b c h k =
-    let e : c - a ≡ (b - a) + (c - b) = omega arith in
-    let d : b ≡ a + (b - a) = omega arith in
-    sym (rw e (take-add (b - a) (c - b) (drop a s) ∙ ap (λ (l : List ℕ). take (b - a) (drop a s) ++ take (c - b) l) (drop-drop (b - a) a s ∙ ap (λ (k : ℕ). drop k s) (sym d))))
 
 -- ---- columns of columns
 

@@ -56,9 +56,6 @@ by-digits P one more n = go (suc n) n (omega arith)
 pub dec-some : (n : ℕ) → 1 ≤ length (dec n)
 dec-some = by-digits (λ (n : ℕ). 1 ≤ length (dec n)) (λ n h. rw (dec-small n h) (omega arith)) (λ n h p. rw (dec-big n h, length-append) (omega arith))
 
-pub length-dec : (n : ℕ) → length (dec n) ≤ n + 1
-length-dec = by-digits (λ (n : ℕ). length (dec n) ≤ n + 1) (λ n h. rw (dec-small n h) (omega arith)) (λ n h p. rw (dec-big n h, length-append) (omega arith))
-
 -- below 10 ^ k there are at most k digits, k being 1 or more
 pub length-dec-le : (k n : ℕ) → n < 10 ^ suc k → length (dec n) ≤ suc k
 length-dec-le zero n h = rw (dec-small n h) (omega arith)

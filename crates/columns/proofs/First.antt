@@ -6,7 +6,6 @@ use native.Mathlib.Nat.{add-zero}
 use native.Mathlib.Omega.{arith}
 use native.Mathlib.Decide.{ℕ-discrete}
 use lib.ListN.{length, getD}
-use borrow.Author.Tests.{not-true, not-false}
 use Rattle.columns.specs.First.{firstNot, upFrom}
 
 module _ (test : ℕ → Bool) where
@@ -17,15 +16,6 @@ module _ (test : ℕ → Bool) where
   pub first-no : (i n : ℕ) → test i ≡ false → firstNot test i (suc n) ≡ i
   unfolding firstNot
   first-no i n e = simp (firstNot, e)
-
-  pub first-le : (n i : ℕ) → firstNot test i n ≤ i + n
-  unfolding firstNot
-  first-le zero i = omega arith
-  first-le (suc n) i = pick (test i) refl (first-le n (i + 1))
-    where
-      pick : (b : Bool) → test i ≡ b → firstNot test (i + 1) n ≤ i + 1 + n → firstNot test i (suc n) ≤ i + suc n
-      pick true e h = rw (first-yes i n e) (omega arith)
-      pick false e h = rw (first-no i n e) (omega arith)
 
   pub first-ge : (n i : ℕ) → i ≤ firstNot test i n
   unfolding firstNot
@@ -46,16 +36,6 @@ module _ (test : ℕ → Bool) where
       pick true e ih = elim (ℕ-discrete j i) [ yes x ↦ rw x e | no x ↦ ih (omega arith) (omega (arith, rw (first-yes i n e) at hi)) ]
       pick false e ih = absurd (omega (arith, rw (first-no i n e) at hi))
 
-  -- and it fails, if there is one
-  pub first-fails : (n i : ℕ) → firstNot test i n < i + n → test (firstNot test i n) ≡ false
-  unfolding firstNot
-  first-fails zero i h = absurd (omega arith)
-  first-fails (suc n) i h = pick (test i) refl (first-fails n (i + 1))
-    where
-      pick : (b : Bool) → test i ≡ b → (firstNot test (i + 1) n < i + 1 + n → test (firstNot test (i + 1) n) ≡ false) → test (firstNot test i (suc n)) ≡ false
-      pick true e ih = ap test (first-yes i n e) ∙ ih (omega (arith, rw (first-yes i n e) at h))
-      pick false e ih = ap test (first-no i n e) ∙ e
-
   -- where none fails, each passes
   pub none-fails : (n i : ℕ) → i + n ≤ firstNot test i n → (j : ℕ) → i ≤ j → j < i + n → test j ≡ true
   none-fails n i h j lo hi = before-first n i j lo (omega arith)
@@ -65,14 +45,6 @@ module _ (test : ℕ → Bool) where
   unfolding firstNot
   all-pass zero i h = sym (add-zero i)
   all-pass (suc n) i h = first-yes i n (h i (omega arith) (omega arith)) ∙ all-pass n (i + 1) (λ j lo hi. h j (omega arith) (omega arith)) ∙ omega arith
-
-  -- it is the first of those that fail
-  pub first-is : (n i k : ℕ) → i ≤ k → k < i + n → ((j : ℕ) → i ≤ j → j < k → test j ≡ true) → test k ≡ false → firstNot test i n ≡ k
-  first-is zero i k lo hi h e = absurd (omega arith)
-  first-is (suc n) i k lo hi h e = elim (ℕ-discrete i k) [
-    | yes x ↦ first-no i n (ap test x ∙ e) ∙ x
-    | no x ↦ first-yes i n (h i (omega arith) (omega arith)) ∙ first-is n (i + 1) k (omega arith) (omega arith) (λ j a b. h j (omega arith) b) e
-  ]
 
 -- two tests that agree have one first
 pub first-same : (test tset : ℕ → Bool) (n i : ℕ) → ((j : ℕ) → i ≤ j → j < i + n → test j ≡ tset j) → firstNot test i n ≡ firstNot tset i n
@@ -110,8 +82,6 @@ pub from-start : (test : ℕ → Bool) (i n : ℕ) → firstNot test i (i + n - 
 from-start test i n =
     let e : i + n - i ≡ n = omega arith in
     rw e
-
-pub ruleset firsts = (not-true, not-false, first-end, call-on, call-here, from-start)
 
 -- ---- numbers one after another
 

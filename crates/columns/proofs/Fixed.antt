@@ -11,12 +11,11 @@ use lib.Dec.{eqb}
 use borrow.Author.Tests.{le-leb, lt-leb, eq-eqb, ne-eqb}
 use Rattle.columns.specs.declared.Field.{Field}
 use Rattle.columns.specs.declared.Field.the-variants.{Number, Bad}
-use Rattle.columns.specs.declared.Signed.{Signed}
 use Rattle.columns.specs.declared.SignedField.{SignedField}
 use Rattle.columns.specs.declared.SignedField.the-variants.{Number as SignedNumber, Bad as SignedBad}
 use Rattle.columns.specs.Columns.{columns}
 use Rattle.columns.specs.Fixed.{digitsOf, fieldOf, isNumber, signed, withSign, behindSign, signedOf}
-use Rattle.columns.specs.Reading.{Below, SizeBelow, Behind}
+use Rattle.columns.specs.Reading.{Below, Behind}
 use Rattle.columns.proofs.Columns.{column, columns-end}
 
 -- ---- one step of each
@@ -194,9 +193,6 @@ module _ (n i at : ℕ) (h : n < 10 ^ (i - at)) where
 
 pub below-number : (f : Field) (m n : ℕ) → Below m f → f ≡ Number n → n < m
 below-number f m n h e = rw e at h
-
-pub size-below : (f : SignedField) (m : ℕ) (x : Signed) → SizeBelow m f → f ≡ SignedNumber x → x .size < m
-size-below f m x h e = rw e at h
 
 pub ruleset reads = (low-at, high-at, digit-at, digits-end, behind-field, no-digits, more-digits, ten-fits, digit-fits, below-digits)
 

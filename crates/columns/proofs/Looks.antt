@@ -4,7 +4,7 @@ use mathlib.Core.Bool.{Bool, true, false, _&&_}
 use Prim.Native.Nat.{ℕ, zero, suc, _+_, _-_, _≤_, _<_, min, max}
 use native.Mathlib.Omega.{arith}
 use mathlib.Core.List.{List, [], _∷_, _++_}
-use lib.ListN.{length, getD, replicate, List·getD-eq-default}
+use lib.ListN.{length, getD, take, drop, replicate, take-append-drop, List·getD-eq-default}
 use lib.Dec.{leb, eqb}
 use borrow.Author.Tests.{le-leb, lt-leb, eq-eqb, ne-eqb, eqb-true, leb-true, leb-false}
 use Rattle.columns.specs.Columns.{columns, printable, blank, sameBytes}
@@ -113,9 +113,6 @@ unfolding sameBytes
 same-self [] = refl
 same-self (a ∷ s) = rw (eq-eqb a a refl) (same-self s)
 
-pub eq-same : {s t : List ℕ} → s ≡ t → sameBytes s t ≡ true
-eq-same {s} {t} e = rw e (same-self t)
-
 pub same-length : (s t : List ℕ) → (length s ≡ length t → ⊥) → false ≡ sameBytes s t
 same-length s t h = pick (sameBytes s t) refl
   where
@@ -134,20 +131,6 @@ unfolding blank
 blank-replicate zero = refl
 blank-replicate (suc n) = blank-replicate n
 
--- a blank text is so many blanks
-pub blank-is : (s : List ℕ) → blank s ≡ true → s ≡ replicate (length s) 32
-unfolding blank
-blank-is [] e = refl
-blank-is (b ∷ s) e =
-    let p : b ≡ 32 = eqb-true b 32 (both-left (eqb b 32) (blank s) e) in
-    let q : s ≡ replicate (length s) 32 = blank-is s (both-right (eqb b 32) (blank s) e) in
-    rw p (ap (λ (l : List ℕ). 32 ∷ l) q)
-
-pub blank-append : (s t : List ℕ) → blank (s ++ t) ≡ blank s && blank t
-unfolding blank
-blank-append [] t = refl
-blank-append (b ∷ s) t = rw (blank-append s t) (sym (and-assoc (eqb b 32) (blank s) (blank t)))
-
 -- ---- printable bytes
 
 pub print-append : (s t : List ℕ) → printable (s ++ t) ≡ printable s && printable t
@@ -159,6 +142,20 @@ print-append (b ∷ s) t =
 pub print-both : (s t : List ℕ) → printable s ≡ true → printable t ≡ true → printable (s ++ t) ≡ true
 print-both s t p q = print-append s t ∙ both-true p q
 
+-- and of a printable text both parts are, so each run of its columns is
+print-parts : (n : ℕ) (t : List ℕ) → printable t ≡ true → (printable (take n t) ≡ true) × (printable (drop n t) ≡ true)
+print-parts n t h = both (printable (take n t)) (printable (drop n t)) (sym (print-append (take n t) (drop n t)) ∙ ap printable (take-append-drop n t) ∙ h)
+
+pub print-take : (n : ℕ) (t : List ℕ) → printable t ≡ true → printable (take n t) ≡ true
+print-take n t h = print-parts n t h .0
+
+pub print-drop : (n : ℕ) (t : List ℕ) → printable t ≡ true → printable (drop n t) ≡ true
+print-drop n t h = print-parts n t h .1
+
+pub print-columns : (t : List ℕ) (a b : ℕ) → printable t ≡ true → printable (columns t a b) ≡ true
+unfolding columns
+print-columns t a b h = print-take (b - a) (drop a t) (print-drop a t h)
+
 pub print-cons : (b : ℕ) (s : List ℕ) → 32 ≤ b → b ≤ 126 → printable s ≡ true → printable (b ∷ s) ≡ true
 unfolding printable
 print-cons b s lo hi e = simp (printable, le-leb _ _ lo, le-leb _ _ hi) e
@@ -167,14 +164,3 @@ pub print-replicate : (n b : ℕ) → 32 ≤ b → b ≤ 126 → printable (repl
 unfolding printable
 print-replicate zero b lo hi = refl
 print-replicate (suc n) b lo hi = print-cons b (replicate n b) lo hi (print-replicate n b lo hi)
-
--- each byte of a printable text
-pub print-byte : (s : List ℕ) (i : ℕ) → printable s ≡ true → i < length s → (32 ≤ getD s i 0) × (getD s i 0 ≤ 126)
-unfolding printable
-print-byte [] i e h = absurd (omega arith)
-print-byte (b ∷ s) zero e h =
-    let p = both (leb 32 b) (leb b 126 && printable s) e in
-    (leb-true 32 b (p .0), leb-true b 126 (both-left (leb b 126) (printable s) (p .1)))
-print-byte (b ∷ s) (suc i) e h =
-    let p = both (leb 32 b) (leb b 126 && printable s) e in
-    print-byte s i (both-right (leb b 126) (printable s) (p .1)) (omega arith)

@@ -16,16 +16,9 @@ pub then-accepted : {A B : Type 0} (o : Outcome A) (f : A → Outcome B) (b : B)
 then-accepted (accepted a) f b e = record { value = a; first = refl; second = e }
 then-accepted (refused n p) f b e = let z : _≡_ {A = ℕ} 0 1 = cc in absurd (omega arith)
 
-pub then-assoc : {A B C : Type 0} (o : Outcome A) (f : A → Outcome B) (g : B → Outcome C) → (o then f) then g ≡ o then (λ a. f a then g)
-then-assoc (accepted a) f g = refl
-then-assoc (refused n p) f g = refl
-
 pub demand-accepted : (t : Bool) (n : Fault) (p : ℕ) → demand t n p ≡ accepted tt → t ≡ true
 demand-accepted true n p e = refl
 demand-accepted false n p e = let z : _≡_ {A = ℕ} 0 1 = cc in absurd (omega arith)
 
 pub demand-true : (t : Bool) (n : Fault) (p : ℕ) → t ≡ true → demand t n p ≡ accepted tt
 demand-true t n p e = rw e
-
-pub demand-false : (t : Bool) (n : Fault) (p : ℕ) → t ≡ false → demand t n p ≡ refused n p
-demand-false t n p e = rw e

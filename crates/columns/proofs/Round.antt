@@ -14,7 +14,7 @@ use Rattle.columns.specs.declared.Field.the-variants.{Number, Bad}
 use Rattle.columns.specs.declared.Signed.{Signed}
 use Rattle.columns.specs.declared.SignedField.{SignedField}
 use Rattle.columns.specs.declared.SignedField.the-variants.{Number as SignedNumber, Bad as SignedBad}
-use Rattle.columns.specs.Fixed.{digitsOf, fieldOf, isNumber, signed, NormalSign, withSign, behindSign, signedOf}
+use Rattle.columns.specs.Fixed.{digitsOf, fieldOf, signed, NormalSign, withSign, behindSign, signedOf}
 use Rattle.columns.specs.Decimal.{dec, minus, signedDec, toRight}
 use Rattle.columns.specs.Reading.{Below}
 use Rattle.columns.proofs.Tests.{cond-cases, digit-bounds}
@@ -59,29 +59,6 @@ pub field-zero-filled : (width n : ℕ) → fieldOf (toRight 48 width (dec n)) �
 unfolding toRight
 field-zero-filled width n = field-digits (replicate (width - length (dec n)) 48 ++ dec n) n (digits-zeros (width - length (dec n)) (dec n) ∙ digits-all n)
 
-pub holds-padded : (width n : ℕ) → isNumber (fieldOf (toRight 32 width (dec n))) n ≡ true
-unfolding isNumber
-holds-padded width n = rw (field-padded width n) (eq-eqb n n refl)
-
-pub holds-zero-filled : (width n : ℕ) → isNumber (fieldOf (toRight 48 width (dec n))) n ≡ true
-unfolding isNumber
-holds-zero-filled width n = rw (field-zero-filled width n) (eq-eqb n n refl)
-
--- all blank is 0
-pub field-all-blank : (k : ℕ) → fieldOf (replicate k 32) ≡ Number 0
-unfolding fieldOf
-field-all-blank k = ap fieldOf (sym (append-nil (replicate k 32))) ∙ field-blanks k []
-
--- a field holds n exactly if it is n
-pub holds-is : (f : Field) (n : ℕ) → isNumber f n ≡ true → f ≡ Number n
-unfolding isNumber
-holds-is (Number m) n e = ap Number (eqb-true m n e)
-holds-is Bad n e = let z : _≡_ {A = ℕ} 0 1 = cc in absurd (omega arith)
-
-pub is-holds : (f : Field) (n : ℕ) → f ≡ Number n → isNumber f n ≡ true
-unfolding isNumber
-is-holds f n e = rw e (eq-eqb n n refl)
-
 -- ---- with a sign
 
 pub signed-blanks : (k : ℕ) (xs : List ℕ) → signedOf (replicate k 32 ++ xs) ≡ signedOf xs
@@ -116,10 +93,6 @@ signed-dec x h = pick (x .neg) refl
 pub signed-padded : (width : ℕ) (x : Signed) → NormalSign x → signedOf (toRight 32 width (signedDec x)) ≡ SignedNumber x
 unfolding toRight
 signed-padded width x h = signed-blanks (width - length (signedDec x)) (signedDec x) ∙ signed-dec x h
-
-pub signed-all-blank : (k : ℕ) → signedOf (replicate k 32) ≡ SignedNumber (record { neg = false; size = 0 })
-unfolding signedOf
-signed-all-blank k = ap signedOf (sym (append-nil (replicate k 32))) ∙ signed-blanks k []
 
 -- ---- what was read
 

@@ -1,5 +1,5 @@
 -- A refusal of a pass has an index, and all before it are accepted. Assumes nothing.
-use mathlib.Core.Path.{_≡_, refl, sym, ap, _∙_}
+use mathlib.Core.Path.{_≡_, refl}
 use mathlib.Core.List.{List, [], _∷_}
 use Prim.Native.Nat.{ℕ, suc, _+_}
 use native.Mathlib.Omega.{arith}
@@ -37,10 +37,3 @@ module _ {A B : Type 0} (takes : A → ℕ) (f : ℕ → A → Outcome B) where
   unfolding eachAt
   stops-refused (here e) = rw e
   stops-refused (later y e s) = rw (e, stops-refused s)
-
-  -- there is one index
-  pub one-index : {p : ℕ} {xs : List A} {i j : ℕ} {n m : Fault} {q r : ℕ} → Stops takes f p xs i n q → Stops takes f p xs j m r → i ≡ j
-  one-index (here e) (here k) = refl
-  one-index (here e) (later y k t) = absurd (not-both (sym k ∙ e))
-  one-index (later y e s) (here k) = absurd (not-both (sym e ∙ k))
-  one-index (later y e s) (later z k t) = ap suc (one-index s t)

@@ -4,7 +4,7 @@ use mathlib.Core.Bool.{Bool, true, false, cond, _&&_}
 use Prim.Native.Nat.{ℕ, _≤_}
 use native.Mathlib.Omega.{arith}
 use lib.Dec.{leb}
-use borrow.Author.Tests.{le-leb, leb-true}
+use borrow.Author.Tests.{leb-true}
 
 -- what holds of both cases holds of the choice
 pub cond-cases : {A : Type 0} (P : A → Type 0) (b : Bool) (x y : A) → (b ≡ true → P x) → (b ≡ false → P y) → P (cond b x y)
@@ -13,9 +13,6 @@ cond-cases P false x y p q = q refl
 
 pub cond-true : {A : Type 0} {b : Bool} (x y : A) → b ≡ true → cond b x y ≡ x
 cond-true x y e = rw e
-
-pub cond-false : {A : Type 0} {b : Bool} (x y : A) → b ≡ false → cond b x y ≡ y
-cond-false x y e = rw e
 
 -- the same either way
 pub cond-same : {A : Type 0} (b : Bool) (x : A) → cond b x x ≡ x
@@ -51,10 +48,6 @@ and-true false = refl
 pub and-assoc : (a b c : Bool) → (a && b) && c ≡ a && (b && c)
 and-assoc true b c = refl
 and-assoc false b c = refl
-
--- a digit's byte
-pub digit-byte : (b : ℕ) → 48 ≤ b → b ≤ 57 → leb 48 b && leb b 57 ≡ true
-digit-byte b lo hi = both-true (le-leb 48 b lo) (le-leb b 57 hi)
 
 pub digit-bounds : (b : ℕ) → leb 48 b && leb b 57 ≡ true → (48 ≤ b) × (b ≤ 57)
 digit-bounds b e = (leb-true 48 b (both-left (leb 48 b) (leb b 57) e), leb-true b 57 (both-right (leb 48 b) (leb b 57) e))

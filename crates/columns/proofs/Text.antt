@@ -1,6 +1,6 @@
 -- The text of a file's lines, character by character and line by line, in its file.
-use mathlib.Core.Path.{_≡_, refl, sym, ap, _∙_}
-use mathlib.Core.List.{List, _++_, append-assoc}
+use mathlib.Core.Path.{_≡_, sym, ap, _∙_}
+use mathlib.Core.List.{List}
 use Prim.Native.Nat.{ℕ, zero, suc, _+_, _-_, _*_, _/_, _%_, _≤_, _<_}
 use native.Mathlib.Nat.{add-zero, mod-lt, div-add-mod', div-lt-iff-lt-mul, mul-le-mul-right}
 use native.Mathlib.Omega.{arith}
@@ -69,24 +69,3 @@ module _ (file : List ℕ) (base w lines : ℕ) (wide : 1 ≤ w) (narrow : w ≤
 
   pub text-end : (p : ℕ) → lines * w ≤ p → getD (textOf file base w lines) p 0 ≡ 0
   text-end p h = List·getD-eq-default (textOf file base w lines) 0 (omega (arith, length-text))
-
--- so many lines, and so many more
-pub text-more : (file : List ℕ) (w n m base : ℕ) → textOf file base w (n + m) ≡ textOf file base w n ++ textOf file (base + n * 81) w m
-unfolding textOf
-text-more file w zero m base =
-    let a : 0 + m ≡ m = omega arith in
-    let b : base + 0 * 81 ≡ base = omega arith in
-    rw (a, b)
-text-more file w (suc n) m base =
-    let a : suc n + m ≡ suc (n + m) = omega arith in
-    let b : base + suc n * 81 ≡ base + 81 + n * 81 = omega arith in
-    rw (a, b, append-assoc (take w (drop base file)) (textOf file (base + 81) w n) (textOf file (base + 81 + n * 81) w m)) (ap (λ (l : List ℕ). take w (drop base file) ++ l) (text-more file w n m (base + 81)))
-
--- past a part of the file
-pub text-skip : (p t : List ℕ) (w lines n base : ℕ) → length p ≡ n → textOf (p ++ t) (n + base) w lines ≡ textOf t base w lines
-unfolding textOf
-text-skip p t w zero n base e = refl
-text-skip p t w (suc lines) n base e =
-    let a : n + base ≡ length p + base = omega arith in
-    let b : n + base + 81 ≡ n + (base + 81) = omega arith in
-    rw (b, text-skip p t w lines n (base + 81) e, a, drop-append-add p t base)

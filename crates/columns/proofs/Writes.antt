@@ -44,9 +44,6 @@ laid-empty at bs = none (laid [] at bs) (length-laid [] at bs)
     none [] e = refl
     none (x ∷ l) e = absurd (omega arith)
 
-pub wrote-empty : {o′ bs : List ℕ} {at r : ℕ} → Wrote [] at bs o′ r → o′ ≡ []
-wrote-empty {o′} {bs} {at} p = p .bytes ∙ laid-empty at bs
-
 -- a copy: one byte more
 pub wrote-more : {o o′ o″ : List ℕ} {at r r′ : ℕ} (s : List ℕ) (i : ℕ) → Wrote o at (take i s) o′ r → i < length s → Wrote o′ r (getD s i 0 ∷ []) o″ r′ → Wrote o at (take (i + 1) s) o″ r′
 wrote-more s i p h q = rw (add-one, take-suc s i 0 h) (then p q)
@@ -133,17 +130,7 @@ owes-none {o} {bs} {o′} {at} {r} p = record { bytes = sym (laid-nil o′ r) �
 pub owes-same : {o bs o′ a b : List ℕ} {at r : ℕ} → Owes o at bs o′ r a → a ≡ b → Owes o at bs o′ r b
 owes-same p e = rw e at p
 
--- all the rest at once
-pub owes-last : {o bs o′ o″ cs : List ℕ} {at r r′ : ℕ} → Owes o at bs o′ r cs → Wrote o′ r cs o″ r′ → Wrote o at bs o″ r′
-owes-last p q = record { bytes = q .bytes ∙ p .bytes; next = q .next ∙ p .next }
-
--- one write is one owed less: what was written before, and what is written now
-pub owes-then : {o bs o′ a : List ℕ} {at r : ℕ} (cs : List ℕ) → Wrote o at a o′ r → bs ≡ a ++ cs → Owes o at bs o′ r cs
-owes-then {o} {bs} {o′} {a} {at} {r} cs p e = owes-less (rw e (owes-all o at (a ++ cs))) p
-
 pub owes-length : {o bs o′ cs : List ℕ} {at r : ℕ} → Owes o at bs o′ r cs → length o′ ≡ length o
 owes-length {o} {bs} {o′} {cs} {at} {r} p = sym (length-laid o′ r cs) ∙ ap length (p .bytes) ∙ length-laid o at bs
 
 pub ruleset writes = (wrote-one, wrote-out, wrote-none, then, wrote-length, wrote-more, wrote-all, run-more, run-all)
-
-pub ruleset owing = (owes-all, owes-less, owes-none, owes-last, owes-length)

@@ -1,30 +1,19 @@
 -- The columns of a file whose lines meet the rules hold bytes that a line may hold.
-use mathlib.Core.Path.{_≡_, refl, sym, ap, _∙_}
+use mathlib.Core.Path.{_≡_, refl}
 use mathlib.Core.Bool.{true}
 use mathlib.Core.List.{List}
 use Prim.Native.Nat.{ℕ, zero, suc, _+_, _-_, _*_, _≤_, _<_}
 use native.Mathlib.Nat.{zero-add}
 use native.Mathlib.Omega.{arith}
-use lib.ListN.{length, getD, take, drop, take-append-drop}
+use lib.ListN.{length, getD, take, drop}
 use lib.Dec.{eqb}
 use Rattle.columns.specs.Columns.{columns, printable, lineAt, textOf}
 use Rattle.columns.proofs.Columns.{columns-of, line-columns, length-columns, length-line}
-use Rattle.columns.proofs.Looks.{print-append, print-both}
-use Rattle.columns.proofs.Tests.{both, both-right}
+use Rattle.columns.proofs.Looks.{print-both, print-columns}
+use Rattle.columns.proofs.Tests.{both-right}
 use Rattle.cards.specs.declared.Counts.{Counts}
 use Rattle.cards.specs.Cards.{lineOk, total}
 use Rattle.cards.specs.Rules.{Meets}
-
--- ---- parts of a text
-
-print-parts : (t : List ℕ) (n : ℕ) → printable t ≡ true → (printable (take n t) ≡ true) × (printable (drop n t) ≡ true)
-print-parts t n h = both (printable (take n t)) (printable (drop n t)) (sym (print-append (take n t) (drop n t)) ∙ ap printable (take-append-drop n t) ∙ h)
-
-print-columns : (t : List ℕ) (a b : ℕ) → printable t ≡ true → printable (columns t a b) ≡ true
-unfolding columns
-print-columns t a b h = print-parts (drop a t) (b - a) (print-parts t a h .1) .0
-
--- ---- the lines of a file
 
 module _ (f : List ℕ) (c : Counts) (m : Meets f c) where
   -- columns 1-80 of a line

@@ -1,13 +1,12 @@
 -- The lines of a text of bytes that a line may hold: each has its columns, and such bytes. Assumes nothing.
-use mathlib.Core.Path.{_≡_, sym, ap, _∙_}
+use mathlib.Core.Path.{_≡_}
 use mathlib.Core.Bool.{true}
 use mathlib.Core.List.{List, [], map}
 use Prim.Native.Nat.{ℕ, zero, suc, _*_, _≤_, _<_}
 use native.Mathlib.Omega.{arith}
-use lib.ListN.{length, getD, take, drop, take-append-drop}
+use lib.ListN.{length, getD, take, drop}
 use Rattle.columns.specs.Columns.{printable}
-use Rattle.columns.proofs.Tests.{both-left, both-right}
-use Rattle.columns.proofs.Looks.{print-append}
+use Rattle.columns.proofs.Looks.{print-take, print-drop}
 use Rattle.columns.proofs.Decimals.{print-left}
 use Rattle.records.specs.Flow.{lineCount, cut, inLines}
 use Rattle.records.proofs.Lines.{lines-hold, length-lines, line-long}
@@ -18,17 +17,11 @@ pub record Wide (w : ℕ) (x : List ℕ) : Type 0 where
   pub wide : length x ≡ w
   pub good : printable x ≡ true
 
-both-parts : (n : ℕ) (t : List ℕ) → printable t ≡ true → (printable (take n t) ≡ true) × (printable (drop n t) ≡ true)
-both-parts n t h =
-    let e = sym (print-append (take n t) (drop n t)) ∙ ap printable (take-append-drop n t) ∙ h in
-    (both-left (printable (take n t)) (printable (drop n t)) e, both-right (printable (take n t)) (printable (drop n t)) e)
-
 cut-wide : (w n : ℕ) (t : List ℕ) → printable t ≡ true → All (Wide w) (cut w n t)
 unfolding cut
 cut-wide w zero t h = none
 cut-wide w (suc n) t h =
-    let p = both-parts w t h in
-    one (record { wide = line-long w t; good = print-left w (take w t) (p .0) }) (cut-wide w n (drop w t) (p .1))
+    one (record { wide = line-long w t; good = print-left w (take w t) (print-take w t h) }) (cut-wide w n (drop w t) (print-drop w t h))
 
 -- all its lines
 pub lines-wide : (w : ℕ) (t : List ℕ) → printable t ≡ true → All (Wide w) (inLines w t)
