@@ -1,4 +1,3 @@
-pub mod Said
 pub mod Counted
 pub mod Tallies
 pub mod Totals

@@ -20,7 +20,7 @@ use Rattle.sheets.proofs.Bounds.{says-within}
 use Rattle.sheets.proofs.Walk.{lines-first, line-says}
 use Rattle.file_blocks.proofs.Said.{line-part, lines-whole}
 use Rattle.file_canonical.specs.Laying.{startsFirst, behindStarts, StartStands, startBytes}
-use Rattle.file_canonical.proofs.Said.{Can, says-can}
+use Rattle.sheets.proofs.Limits.{Can, says-can}
 
 -- the last piece is no start line
 no-starts : (s : List ℕ) → startsFirst (lastPiece s) ≡ []

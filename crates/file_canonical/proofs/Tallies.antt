@@ -14,12 +14,13 @@ use Rattle.values.specs.declared.Strict.the-variants.{Is}
 use Rattle.values.specs.Value.{Item, whole, itemOf}
 use Rattle.values.specs.Strict.{strictOf}
 use Rattle.values.specs.Writing.{front}
-use Rattle.values.proofs.OneSpelling.{sound}
+use Rattle.values.proofs.OneSpelling.{sound, strict-short}
 use Rattle.records.specs.Flow.{firm, lineCount}
 use Rattle.records.specs.Reading.{Writable}
 use Rattle.records.specs.Written.{copied, pieceEnd}
 use Rattle.records.proofs.Lines.{lines-hold}
-use Rattle.records.proofs.Round.{length-piece, spelled-short}
+use Rattle.records.proofs.Round.{length-piece}
+use Rattle.records.proofs.Fine.{strict-writable}
 use Rattle.records.proofs.Puts.{piece-end-is, spelled-length, copied-few}
 use Rattle.cards.specs.declared.Counts.{Counts}
 use Rattle.cards.specs.Cards.{mostLines, counts}
@@ -27,12 +28,12 @@ use Rattle.directory.specs.declared.Fields.{Fields}
 use Rattle.sheets.specs.declared.Said.{Said}
 use Rattle.sheets.specs.declared.Said.the-variants.{Start, Global, Entry, Value as Given, Last, Nothing}
 use Rattle.sheets.specs.Sheet.{lineFrom, saysOf, saidBy}
-use Rattle.sheets.proofs.Bounds.{strict-inside}
+use Rattle.values.proofs.Backs.{strict-inside}
 use Rattle.sheets.proofs.Walk.{line-says}
 use Rattle.file_canonical.specs.declared.Tally.{Tally}
 use Rattle.file_canonical.specs.declared.Lines.the-variants.{Are, TooMany}
 use Rattle.file_canonical.specs.Counting.{globalColumns, columnsHeld, behind, skipped, withStart, withGlobal, withEntry, withValue, tallyLine, tallySaid, countsIn, totalIn, within, mostColumns, behindValue, full, capped, Under, Few, Short}
-use Rattle.file_canonical.proofs.Said.{Can, says-can, strict-writable}
+use Rattle.sheets.proofs.Limits.{Can, says-can}
 use Rattle.file_canonical.proofs.Counted.{within-few, within-many}
 
 -- ---- by what was read
@@ -145,13 +146,8 @@ module _ (l : List ℕ) {v : Value} (s : strictOf l ≡ Is v) where
   pub strict-length : length l ≡ length (front v) + copied v
   strict-length = sym (ap length (sound l s .text)) ∙ spelled-length l v (rw s at (strict-inside l))
 
-  strict-short : length l ≤ 1003
-  strict-short =
-      let k = sound l s in
-      omega (arith, ap length (k .text), spelled-short (k .fine))
-
   pub strict-low : length l < 2 ^ 40
-  strict-low = omega (arith, strict-short)
+  strict-low = omega (arith, strict-short l s)
 
   module _ (p : ℕ) (h : p ≤ mostColumns) {r : ℕ} where
     pub value-near : r ≡ pieceEnd columnsHeld p v → r ≡ behindValue p (itemOf l v)
@@ -159,7 +155,7 @@ module _ (l : List ℕ) {v : Value} (s : strictOf l ≡ Is v) where
     value-near e = e ∙ behind-is columnsHeld p l v (strict-writable l v s) ∙ simp (le-leb p mostColumns h)
 
     pub value-low : r ≤ p + length l + 81 → r ≤ 2 ^ 38
-    value-low k = omega (arith, strict-short)
+    value-low k = omega (arith, strict-short l s)
 
 pub value-far : (p : ℕ) (i : Item) → mostColumns < p → p ≡ behindValue p i
 unfolding behindValue

@@ -28,7 +28,7 @@ use Rattle.sheets_rows.proofs.Rows.{values-first}
 use Rattle.file_blocks.specs.Blocks.{behindValues, firstBegins, itemsFirst}
 use Rattle.file_blocks.proofs.Said.{line-part, lines-whole}
 use Rattle.file_canonical.specs.Laying.{carried, entriesIn, entriesAt, valuesBehind, labelBefore}
-use Rattle.file_canonical.proofs.Said.{Can, says-can}
+use Rattle.sheets.proofs.Limits.{Can, says-can}
 
 -- ---- the entries of rows
 

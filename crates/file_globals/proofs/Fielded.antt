@@ -67,7 +67,7 @@ module _ (t : List ℕ) (at end : ℕ) (run-is : end ≡ at + run 10 (drop at t)
           inside = omega arith;
           high = omega arith;
           field = i .1;
-          writable = global-writable t at end lo hi x e w q;
+          writable = global-writable t at end lo hi x e q;
           fields = ap globalsFirst ls;
           behind = ap behindGlobals ls;
         }

@@ -21,7 +21,7 @@ use Rattle.records.specs.Global.{firstField}
 use Rattle.records.proofs.Texts.{small}
 use Rattle.records.proofs.Items.{items-are}
 use Rattle.sheets.specs.Sheet.{Line, global, lineOf, globalLines, textOf as sheetBytes}
-use Rattle.sheets.proofs.Spellings.{missing}
+use Rattle.values.proofs.OneSpelling.{missing}
 use Rattle.model.specs.Read.{given}
 use Rattle.read_entities.specs.declared.Taken.{Taken}
 use Rattle.read_entities.specs.Taking.{takenOf}

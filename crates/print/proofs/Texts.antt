@@ -15,6 +15,7 @@ use Rattle.values.specs.Value.{real, itemOf, spelled}
 use Rattle.values.specs.Writing.{chars, Inside}
 use Rattle.records.specs.Reading.{Stands, Writable}
 use Rattle.records.proofs.Texts.{length-text, small}
+use Rattle.records.proofs.Puts.{inside}
 use Rattle.sheets.specs.Sheet.{global, value, lineOf}
 use Rattle.sheets.specs.Writing.{globalHead, valueHead}
 use Rattle.sheets.proofs.Written.{global-line, value-line}
@@ -77,12 +78,6 @@ chars-few m v {from} {count} at r e h q =
     omega arith
 
 -- ---- lines
-
-pub inside : (m : ℕ) (v : Value) → Writable m v → Inside m v
-inside m Default h = tt
-inside m (Whole neg size) h = tt
-inside m (Real neg k eneg e double) h = tt
-inside m (Text start count) h = h .0
 
 stands-inside : (file : List ℕ) (base w lines : ℕ) → Stands file base w lines → (v : Value) → Writable (lines * w) v → Inside (length (textOf file base w lines)) v
 stands-inside file base w lines st v fits = rw (length-text file base w lines st) (inside (lines * w) v fits)

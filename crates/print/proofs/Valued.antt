@@ -31,7 +31,7 @@ use Rattle.layouts.proofs.Steps.{step-runs}
 use Rattle.layouts.proofs.Runs.{feed-stepped}
 use Rattle.model.specs.Model.{marked}
 use Rattle.sheets.specs.Sheet.{Line, value, lineOf, valueLines, textOf as sheetBytes}
-use Rattle.sheets.proofs.Spellings.{missing}
+use Rattle.values.proofs.OneSpelling.{missing}
 use Rattle.read_entities.specs.Marks.{carriedIn, marksBegun, markedFrom}
 use Rattle.print.specs.declared.Met.{Met}
 use Rattle.print.specs.Bytes.{valueBytes}

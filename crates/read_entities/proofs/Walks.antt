@@ -5,7 +5,7 @@ use mathlib.Core.List.{List, [], _∷_, _++_}
 use Prim.Native.Nat.{ℕ, zero, suc, _+_, _-_, _*_, _^_, _≤_, _<_}
 use native.Mathlib.Nat.{add-zero}
 use native.Mathlib.Omega.{arith}
-use lib.ListN.{length, take, drop, replicate, length-append, length-take, length-drop}
+use lib.ListN.{length, replicate}
 use Rattle.columns.specs.declared.Fault.{Fault}
 use Rattle.columns.specs.Columns.{textOf}
 use Rattle.values.specs.declared.Value.{Value}
@@ -19,7 +19,7 @@ use Rattle.records.specs.Reading.{Stands, Writable, Sane}
 use Rattle.records.specs.Written.{copied}
 use Rattle.records.proofs.Texts.{length-text, small}
 use Rattle.records.proofs.Bounds.{next-more, next-in, next-less, can-write}
-use Rattle.records.proofs.Puts.{copied-text, copied-few}
+use Rattle.records.proofs.Puts.{inside, copied-text, spelled-length, copied-few}
 use Rattle.records.proofs.Steps.{at-last, at-more, at-wrong}
 use Rattle.layouts.specs.declared.State.{State}
 use Rattle.layouts.specs.declared.Stepped.{Stepped}
@@ -32,18 +32,6 @@ use Rattle.layouts.proofs.Runs.{feed-stepped, run-bad, run-append}
 use Rattle.read_entities.specs.declared.Walked.{Walked}
 use Rattle.read_entities.specs.declared.Walked.the-variants.{Done, Wrong}
 use Rattle.read_entities.specs.Walking.{carriedLength, owing, stateAfter, lengthAfter, owedAfter, walkedFrom}
-
--- ---- a value by itself
-
--- its spelling, measured
-spelling-length : (t : List ℕ) (v : Value) → Writable (length t) v → length (spelled (itemOf t v)) ≡ length (front v) + copied v
-unfolding spelled
-spelling-length t Default h = omega arith
-spelling-length t (Whole neg size) h = omega arith
-spelling-length t (Real neg m eneg e double) h = omega arith
-spelling-length t (Text start count) h =
-    let l : length (take count (drop start t)) ≡ count = simp (length-take, length-drop) (omega arith) in
-    length-append (head (length (take count (drop start t)))) (take count (drop start t)) ∙ ap₂ (λ (a b : ℕ). length (head a) + b) l l
 
 -- ---- defaults
 
@@ -153,7 +141,7 @@ module _ (types : List ℕ) (g : Stepped) (owed : ℕ) (t : List ℕ) (v : Value
   given-length size h =
       let a = ap carriedLength (owing-given owed (itemOf t v) us e) ∙ defaults-length owed (itemOf t v ∷ us) in
       let b = ap carriedLength (owing-none us) in
-      omega (arith, a, b, spelling-length t v h)
+      omega (arith, a, b, spelled-length t v (inside (length t) v h))
 
 module _ (types : List ℕ) (g : Stepped) (owed size : ℕ) (t : List ℕ) where
   walk-one : (v : Value) (vals : Values) → Writable (length t) v

@@ -1,9 +1,9 @@
--- What is read keeps its limits, stands in the text and ends behind its start: `sane`. What callers of `value_at` and `check_from` need of it by
--- search is the ruleset `bounds`. Assumes nothing.
+-- What is read keeps its limits, stands in the text and ends behind its start: `sane`; behind it, what callers of `value_at` and `check_from` need of
+-- that. Assumes nothing.
 use mathlib.Core.Path.{_≡_, refl}
 use mathlib.Core.Bool.{Bool, true, false, cond, _&&_}
 use mathlib.Core.List.{List, [], _∷_}
-use Prim.Native.Nat.{ℕ, suc, _+_, _-_, _%_, _^_, _≤_, _<_}
+use Prim.Native.Nat.{ℕ, suc, _+_, _-_, _%_, _≤_, _<_}
 use native.Mathlib.Omega.{arith}
 use lib.ListN.{length, getD, drop, take, length-drop, length-take}
 use lib.Dec.{leb, eqb}
@@ -133,12 +133,6 @@ module _ (p m : ℕ) {g : Got} where
     pub next-in : next ≤ m
     next-in = omega (arith, parts)
 
-    pub start-in : s < m
-    start-in = omega (arith, parts)
-
-    pub start-from : p ≤ s
-    start-from = omega (arith, parts)
-
     pub can-write : Writable m v
     can-write = parts .3
 
@@ -149,9 +143,6 @@ module _ (p m : ℕ) {g : Got} where
     pub wrong-from : p ≤ s
     wrong-from = wrongs .0
 
-    pub wrong-start : s ≤ m
-    wrong-start = omega (arith, wrongs)
-
     pub wrong-at : at ≤ m
     wrong-at = wrongs .2
 
@@ -161,20 +152,8 @@ module _ (p m : ℕ) {g : Got} where
 -- ---- of a value that can be written
 
 module _ (m : ℕ) {v : Value} where
-  pub whole-size : {neg : Bool} {size : ℕ} → v ≡ Whole neg size → Writable m v → size ≤ 2147483647
-  whole-size e h = rw e at h
-
-  pub real-m : {neg : Bool} {k : ℕ} {eneg : Bool} {x : ℕ} {double : Bool} → v ≡ Real neg k eneg x double → Writable m v → k < 10 ^ 17
-  real-m e h = (rw e at h) .0
-
-  pub real-e : {neg : Bool} {k : ℕ} {eneg : Bool} {x : ℕ} {double : Bool} → v ≡ Real neg k eneg x double → Writable m v → x ≤ 400
-  real-e e h = (rw e at h) .1
-
   pub text-in : {start count : ℕ} → v ≡ Text start count → Writable m v → start + count ≤ m
   text-in e h = (rw e at h) .0
-
-  pub text-some : {start count : ℕ} → v ≡ Text start count → Writable m v → 1 ≤ count
-  text-some e h = (rw e at h) .1
 
   pub text-few : {start count : ℕ} → v ≡ Text start count → Writable m v → count ≤ 999
   text-few e h = (rw e at h) .2
@@ -186,12 +165,6 @@ module _ (p m : ℕ) {r : Check} where
     done : (1 ≤ count) × (kept ≤ count) × (p + count ≤ end) × (end ≤ m)
     done = rw e at h
 
-    pub done-some : 1 ≤ count
-    done-some = done .0
-
-    pub done-kept : kept ≤ count
-    done-kept = done .1
-
     pub done-count : p + count ≤ end
     done-count = done .2
 
@@ -202,13 +175,5 @@ module _ (p m : ℕ) {r : Check} where
     failed : (p ≤ s) × (s ≤ at) × (at ≤ m)
     failed = rw e at h
 
-    pub failed-from : p ≤ s
-    failed-from = failed .0
-
     pub failed-start : s ≤ m
     failed-start = omega (arith, failed)
-
-    pub failed-at : at ≤ m
-    failed-at = failed .2
-
-pub ruleset bounds = (next-more, next-less, next-in, start-in, start-from, can-write, wrong-from, wrong-start, wrong-at, wrong-behind, whole-size, real-m, real-e, text-in, text-some, text-few, done-some, done-kept, done-count, done-end, failed-from, failed-start, failed-at)

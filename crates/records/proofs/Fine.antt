@@ -1,15 +1,14 @@
 -- What is read of any record is fine: so it can be written, and is read again. Assumes nothing.
-use mathlib.Core.Path.{_≡_, refl, sym, ap, _∙_}
+use mathlib.Core.Path.{_≡_, refl}
 use mathlib.Core.Bool.{Bool, true, false, cond}
 use mathlib.Core.List.{List, [], _∷_, _++_}
 use Prim.Native.Nat.{ℕ, zero, suc, _+_, _-_, _%_, _≤_}
 use native.Mathlib.Omega.{arith}
-use lib.ListN.{length, drop, take, length-take, length-drop, take-append-drop}
+use lib.ListN.{length, drop, take, length-take, length-drop}
 use lib.Dec.{leb}
 use borrow.Author.Tests.{leb-true}
 use Rattle.columns.specs.Columns.{printable}
-use Rattle.columns.proofs.Looks.{print-append}
-use Rattle.columns.proofs.Tests.{both-left, both-right}
+use Rattle.columns.proofs.Looks.{print-take, print-drop}
 use Rattle.columns.specs.declared.Fault.the-variants.{Spelling}
 use Rattle.values.specs.declared.Number.{Number}
 use Rattle.values.specs.declared.Number.the-variants.{Whole as WholeOf, Real as RealOf, Beyond, Bad}
@@ -19,12 +18,19 @@ use Rattle.values.specs.declared.Head.{Head}
 use Rattle.values.specs.declared.Head.the-variants.{Count, Plain}
 use Rattle.values.specs.Head.{headOf}
 use Rattle.values.specs.Value.{Item, itemOf, isDefault, Fine, fine-default, fine-whole, fine-real, fine-text, Printed}
+use Rattle.values.specs.declared.Strict.the-variants.{Is}
+use Rattle.values.specs.Strict.{strictOf}
+use Rattle.values.specs.Writing.{Inside}
+use Rattle.values.proofs.Sizes.{sizes}
+use Rattle.values.proofs.OneSpelling.{sound}
+use Rattle.values.proofs.Backs.{strict-inside}
 use Rattle.values.proofs.Canon.{Canon, FineHead, head-fine}
 use Rattle.records.specs.declared.Next.{Next}
 use Rattle.records.specs.declared.Next.the-variants.{Delimiter, Other}
 use Rattle.records.specs.declared.Got.{Got}
 use Rattle.records.specs.declared.Got.the-variants.{Found, Refused}
 use Rattle.records.specs.Record.{nextAt, found, plain, headed, byNext, valueAt, Values, values, wrong, more, after, valuesFrom, valuesAt, trim, trimmed}
+use Rattle.records.specs.Reading.{Writable}
 use Rattle.records.specs.Flow.{flow, Fines, fine-one, fine-more, Prints}
 use Rattle.records.proofs.Round.{round-behind}
 
@@ -94,20 +100,29 @@ module _ (w c d : ℕ) (t : List ℕ) where
       → valuesAt w′ 44 59 (a ++ (flow w′ (length a) vs ++ r)) (length a) ≡ values vs (length a + length (flow w′ (length a) vs))
   again p e w′ big a r = round-behind w′ big a (fine-values p e) r
 
+-- ---- so it can be written
+
+-- a value that is fine, whose characters stand in the text, can be written
+fine-writable : (t : List ℕ) (v : Value) → Fine (itemOf t v) → Inside (length t) v → Writable (length t) v
+fine-writable t Default f i = tt
+fine-writable t (Whole neg size) (fine-whole _ _ h z) i = h
+fine-writable t (Real neg m eneg e double) (fine-real k _) i = sizes k
+fine-writable t (Text start count) (fine-text _ lo hi) i =
+    let k : length (take count (drop start t)) ≡ count = simp (length-take, length-drop) (omega arith) in
+    (i, omega arith, omega arith)
+
+-- and what is read back of a text is such a value
+pub strict-writable : (t : List ℕ) (v : Value) → strictOf t ≡ Is v → Writable (length t) v
+strict-writable t v e = fine-writable t v (sound t e .fine) (rw e at (strict-inside t))
+
 -- ---- their bytes
-
-print-drop : (t : List ℕ) (n : ℕ) → printable t ≡ true → printable (drop n t) ≡ true
-print-drop t n h = both-right (printable (take n t)) (printable (drop n t)) (sym (print-append (take n t) (drop n t)) ∙ ap printable (take-append-drop n t) ∙ h)
-
-print-take : (t : List ℕ) (n : ℕ) → printable t ≡ true → printable (take n t) ≡ true
-print-take t n h = both-left (printable (take n t)) (printable (drop n t)) (sym (print-append (take n t) (drop n t)) ∙ ap printable (take-append-drop n t) ∙ h)
 
 -- a string that stands in a printable text is printable
 pub printed-item : (t : List ℕ) (v : Value) → printable t ≡ true → Printed (itemOf t v)
 printed-item t Default h = tt
 printed-item t (Whole neg size) h = tt
 printed-item t (Real neg m eneg e double) h = tt
-printed-item t (Text start count) h = print-take (drop start t) count (print-drop t start h)
+printed-item t (Text start count) h = print-take count (drop start t) (print-drop start t h)
 
 abbrev PrintedValues : Values → Type 0
 PrintedValues (values vs end) = Prints vs
@@ -133,10 +148,6 @@ module _ (w c d : ℕ) (t : List ℕ) (h : printable t ≡ true) where
   printed-values p e = rw e at (printed-from (suc (length t)) p)
 
 -- ---- without the defaults at the end
-
-pub fine-here : {v : Item} {vs : List Item} → Fines (v ∷ vs) → Fine v
-fine-here (fine-one f) = f
-fine-here (fine-more f g) = f
 
 -- no value ends the list but one that is given
 pub trim-idle : (vs : List Item) → trimmed (trimmed vs) ≡ trimmed vs

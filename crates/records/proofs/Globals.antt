@@ -187,8 +187,6 @@ module _ (m : ℕ) {o : Opening} {c d next : ℕ} {last : Bool} (e : o ≡ Opene
   pub opening-in : next ≤ m
   opening-in = parts .3
 
-pub ruleset delimiters = (parameter-above, record-above, they-differ, opening-in)
-
 -- ---- fields
 
 four : (n : ℕ) → (n ≡ 3 → ⊥) → (n ≡ 4 → ⊥) → (n ≡ 5 → ⊥) → (n ≡ 6 → ⊥) → 3 ≤ n → n ≤ 6 → ⊥

@@ -1,6 +1,6 @@
--- The values of a record are met one after the other; those without the defaults at the end are the first of them. Assumes nothing.
+-- The values of a record are met one after the other. Assumes nothing.
 use mathlib.Core.Path.{_≡_, refl, ap}
-use mathlib.Core.Bool.{Bool, true, false}
+use mathlib.Core.Bool.{true, false}
 use mathlib.Core.List.{List, [], _∷_}
 use Prim.Native.Nat.{ℕ, zero, suc, _-_, _≤_}
 use native.Mathlib.Omega.{arith}
@@ -9,7 +9,7 @@ use Rattle.values.specs.declared.Value.{Value}
 use Rattle.values.specs.Value.{Item, itemOf, isDefault}
 use Rattle.records.specs.declared.Got.{Got}
 use Rattle.records.specs.declared.Got.the-variants.{Found, Refused}
-use Rattle.records.specs.Record.{Values, values, wrong, more, after, valueAt, valuesFrom, valuesAt, behind, trim, trimmed, kept}
+use Rattle.records.specs.Record.{Values, values, wrong, more, after, valueAt, valuesFrom, valuesAt, behind, trim, trimmed}
 use Rattle.records.specs.Items.{gotItem, itemsFrom}
 
 -- what is read of a record that is accepted
@@ -55,25 +55,6 @@ module _ (w c d : ℕ) (t : List ℕ) where
   pub items-are : (p : ℕ) (vs : List Item) (end n : ℕ) → valuesAt w c d t p ≡ values vs end → n ≤ length vs → take n vs ≡ itemsFrom w c d t p n
   unfolding valuesAt
   items-are p vs end n h k = items-in (suc (length t)) p vs end n h k
-
--- those up to the last that is no default
-pub trimmed-take : (vs : List Item) → trimmed vs ≡ take (kept vs) vs
-trimmed-take [] = refl
-trimmed-take (v ∷ vs) = by (trimmed vs) (isDefault v) refl (trimmed-take vs)
-  where
-    by : (us : List Item) (b : Bool) → isDefault v ≡ b → us ≡ take (length us) vs → trim v us ≡ take (length (trim v us)) (v ∷ vs)
-    by [] true e k = rw e
-    by [] false e k = rw e
-    by (u ∷ us) b e k = ap (λ (l : List Item). v ∷ l) k
-
-pub kept-le : (vs : List Item) → kept vs ≤ length vs
-kept-le [] = omega arith
-kept-le (v ∷ vs) = by (trimmed vs) (isDefault v) refl (kept-le vs)
-  where
-    by : (us : List Item) (b : Bool) → isDefault v ≡ b → length us ≤ length vs → length (trim v us) ≤ length (v ∷ vs)
-    by [] true e k = rw e (omega arith)
-    by [] false e k = rw e (omega arith)
-    by (u ∷ us) b e k = omega arith
 
 -- a first value that is no default stays
 pub trimmed-first : (v : Item) (vs : List Item) → isDefault v ≡ false → trimmed (v ∷ vs) ≡ v ∷ trimmed vs

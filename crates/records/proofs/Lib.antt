@@ -7,5 +7,4 @@ pub mod Lines
 pub mod Fine
 pub mod Positions
 pub mod Puts
-pub mod Overs
 pub mod Items

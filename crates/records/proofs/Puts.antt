@@ -13,11 +13,11 @@ use Rattle.columns.specs.Laid.{Wrote, laid, laid-eq}
 use Rattle.columns.proofs.Writes.{wrote-length}
 use Rattle.values.specs.declared.Value.{Value}
 use Rattle.values.specs.declared.Value.the-variants.{Default, Whole, Real, Text}
-use Rattle.values.specs.Value.{Item, itemOf, head, spelled}
+use Rattle.values.specs.Value.{itemOf, head, spelled}
 use Rattle.values.specs.Writing.{front, chars, Inside}
 use Rattle.values.proofs.Spells.{front-chars}
 use Rattle.records.specs.Reading.{Writable}
-use Rattle.records.specs.Flow.{firm, gap, delimiter, piece, none, flow}
+use Rattle.records.specs.Flow.{firm, gap, delimiter, piece}
 use Rattle.records.specs.Written.{indexOf, over, Put, Room, copied, pieceEnd}
 use Rattle.records.proofs.Bounds.{text-in, text-few}
 use Rattle.records.proofs.Positions.{on-line}
@@ -100,12 +100,6 @@ module _ {base w : ℕ} where
   unfolding over
   owed-none {r = r} x = record { bytes = x .bytes; next = sym (add-zero r) ∙ x .next }
 
-  -- of a flow: the next piece
-  pub owed-piece : {o o′ o″ bs : List ℕ} {p r r′ : ℕ} (v : Item) (vs : List Item) (last : Bool) → last ≡ none vs → Owed base w o p bs o′ r (flow w r (v ∷ vs)) → Put base w o′ r (piece w r v last) o″ r′
-      → Owed base w o p bs o″ r′ (flow w r′ vs)
-  unfolding flow
-  owed-piece {r = r} v vs last e x y = rw (y .next) (owed-less (rw (← e) at x) (rw (y .next) at y))
-
 -- ---- room for the sums
 
 module _ (base w p : ℕ) where
@@ -156,8 +150,6 @@ last-true last e = rw e
 
 pub last-false : (last : Bool) → last ≡ false → 44 ≡ delimiter last
 last-false last e = rw e
-
-pub ruleset owing = (owed-all, owed-less, owed-none, owed-piece, put-length)
 
 pub ruleset puts = (put-one, put-out, put-line, run-line, run-none, row-fits, row-index-fits, row-start, row-end, put-none, then, put-length, put-more, put-all-of, run-more, run-all, line-fits, start-fits, index-fits, column-fits, column-in, gap-none, gap-some, gap-small, last-true, last-false)
 
@@ -220,7 +212,8 @@ part {o} {b} {bs} {n} x h =
 part-length : {o b bs : List ℕ} {n : ℕ} → Wrote o 0 bs b n → n ≡ length bs
 part-length x = x .next ∙ zero-add _
 
-inside : (m : ℕ) (v : Value) → Writable m v → Inside m v
+-- the characters of a value that can be written stand in its text
+pub inside : (m : ℕ) (v : Value) → Writable m v → Inside m v
 inside m Default h = tt
 inside m (Whole neg size) h = tt
 inside m (Real neg k eneg e double) h = tt

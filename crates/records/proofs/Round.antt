@@ -57,14 +57,6 @@ gap-fits w p n h k = pick (leb (p % w + n) w) refl
         let z : (p + (w - p % w)) % w ≡ 0 = sym (mod-add-mod p w (w - p % w)) ∙ ap (λ (x : ℕ). x % w) f ∙ mod-self w in
         rw z (omega arith)
 
-pub gap-short : (w p n : ℕ) → gap w p n ≤ w
-unfolding gap
-gap-short w p n = pick (leb (p % w + n) w)
-  where
-    pick : (b : Bool) → cond b 0 (w - p % w) ≤ w
-    pick true = omega arith
-    pick false = omega arith
-
 -- ---- the first character of a value that is given: no blank and no delimiter
 
 record Start (x : ℕ) : Type 0 where
@@ -224,16 +216,6 @@ length-piece w p v last = sum (gap w p (firm v)) (spelled v) (delimiter last)
   where
     sum : (g : ℕ) (x : List ℕ) (b : ℕ) → length (replicate g 32 ++ (x ++ (b ∷ []))) ≡ g + length x + 1
     sum g x b = simp (length-append, length-replicate) (omega arith)
-
-pub spelled-short : {v : Item} → Fine v → length (spelled v) ≤ 1003
-unfolding spelled
-spelled-short fine-default = omega arith
-spelled-short (fine-whole neg size a b) = omega (arith, number-short is-whole (fine-whole neg size a b))
-spelled-short (fine-real k double) = omega (arith, number-short is-real (fine-real k double))
-spelled-short (fine-text bs a b) = omega (arith, length-append (head (length bs)) bs, head-short (length bs) b)
-
-pub piece-short : (w p : ℕ) {v : Item} (last : Bool) → w ≤ 80 → Fine v → length (piece w p v last) ≤ 1100
-piece-short w p {v} last h f = omega (arith, length-piece w p v last, gap-short w p (firm v), spelled-short f)
 
 -- a flow is of bytes that a line may hold, if the strings are
 print-delimiter : (last : Bool) → printable (delimiter last ∷ []) ≡ true

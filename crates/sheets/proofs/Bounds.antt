@@ -1,57 +1,34 @@
 -- Where what a line says stands: within the line.
 use mathlib.Core.Path.{_≡_, refl, _∙_}
-use mathlib.Core.Bool.{Bool, true, false, cond, not, _&&_, _||_}
-use mathlib.Core.List.{List, [], _∷_}
+use mathlib.Core.Bool.{Bool, true, false, not, _&&_}
+use mathlib.Core.List.{List}
 use Prim.Native.Nat.{ℕ, suc, _+_, _-_, _≤_}
 use native.Mathlib.Omega.{arith}
-use lib.ListN.{length, getD, take, drop, length-drop}
+use lib.ListN.{length, take, drop, length-drop}
 use lib.Dec.{eqb}
 use borrow.Author.Tests.{eqb-true}
 use Rattle.columns.specs.Columns.{columns, printable}
 use Rattle.columns.proofs.Tests.{cond-cases, both-left}
 use Rattle.columns.proofs.Columns.{length-columns}
-use Rattle.values.specs.declared.Value.the-variants.{Text}
-use Rattle.values.specs.declared.Head.{Head}
-use Rattle.values.specs.declared.Head.the-variants.{Count, Plain}
 use Rattle.values.specs.declared.Strict.{Strict}
 use Rattle.values.specs.declared.Strict.the-variants.{Is, Not}
-use Rattle.values.specs.Value.{head, isMissing}
-use Rattle.values.specs.Head.{headOf}
+use Rattle.values.specs.Value.{isMissing}
 use Rattle.values.specs.Writing.{Inside, Placed}
-use Rattle.values.specs.Strict.{byHead, strictOf}
-use Rattle.values.proofs.Backs.{placed-numeral}
+use Rattle.values.specs.Strict.{strictOf}
+use Rattle.values.proofs.Backs.{strict-inside}
 use Rattle.sheets.specs.declared.EntryLine.{EntryLine}
 use Rattle.sheets.specs.declared.EntryLine.the-variants.{Got, Wrong as WrongEntry}
 use Rattle.sheets.specs.declared.Said.{Said}
-use Rattle.sheets.specs.declared.Said.the-variants.{Start, Global, Last, Nothing}
-use Rattle.sheets.specs.Plain.{plainOf, isPlain}
+use Rattle.sheets.specs.declared.Said.the-variants.{Global, Nothing}
+use Rattle.sheets.specs.Plain.{plainOf}
 use Rattle.sheets.specs.Line.{run, isLabel, entryOf, labelOf}
-use Rattle.sheets.specs.Sheet.{isMark, isStart, startLine, globalOf, isNumbered, globalLine, entryLineOf, valueOf, lastLine, byMark, saysOf}
+use Rattle.sheets.specs.Sheet.{globalOf, isNumbered, globalLine, entryLineOf, valueOf, saysOf}
 use Rattle.sheets.specs.Reading.{Within}
+use Rattle.sheets.proofs.Marks.{says-each, marked-long}
 use Rattle.sheets.proofs.Machine.{HasNumber, has-number}
 use Rattle.sheets.proofs.Round.{entry-back}
 
 -- ---- a line
-
--- a string stands in the text that it was read back from
-pub strict-inside : (l : List ℕ) → Placed (length l) (strictOf l)
-unfolding strictOf
-strict-inside [] = tt
-strict-inside (b ∷ bs) = by-head (headOf (b ∷ bs))
-  where
-    l : List ℕ
-    l = b ∷ bs
-
-    string-in : (count len : ℕ) (a c : Bool) → eqb (len + count) (length l) ≡ a → Placed (length l) (cond (a && c) (Is (Text len count)) Not)
-    string-in count len true true e =
-        let k : len + count ≡ length l = eqb-true (len + count) (length l) e in
-        omega arith
-    string-in count len true false e = tt
-    string-in count len false c e = tt
-
-    by-head : (h : Head) → Placed (length l) (byHead l h)
-    by-head (Count count len) = string-in count len (eqb (len + count) (length l)) (eqb len (length (head count)) && printable (drop len l)) refl
-    by-head (Plain k) = placed-numeral l (length l) (k .number) refl
 
 label-eight : (l : List ℕ) → isLabel l ≡ true → length l ≡ 8
 unfolding isLabel
@@ -100,33 +77,10 @@ module _ (l : List ℕ) (two : 2 ≤ length l) where
               (k .low, k .high, omega (arith, rest, k .tab), rw a at h)
       pick Not h = tt
 
-  mark-within : (b : ℕ) → Within (length l) (byMark b l (drop 2 l))
-  unfolding byMark startLine lastLine
-  mark-within b =
-      cond-cases W (eqb b 83) (startLine (drop 2 l)) _ (λ _. cond-cases W (isStart (drop 2 l)) Start (Nothing false) (λ _. two) (λ _. tt))
-      (λ _. cond-cases W (eqb b 71) (globalLine (drop 2 l)) _ (λ _. global-within)
-      (λ _. cond-cases W (eqb b 69 || eqb b 85) (entryLineOf (entryOf l)) _ (λ _. entry-within l)
-      (λ _. cond-cases W (eqb b 82) (valueOf true (strictOf (drop 2 l))) _ (λ _. value-within true)
-      (λ _. cond-cases W (eqb b 86) (valueOf false (strictOf (drop 2 l))) _ (λ _. value-within false)
-      (λ _. cond-cases W (eqb b 90) (lastLine (drop 2 l)) (Nothing false)
-      (λ _. cond-cases W (isPlain (drop 2 l)) (Last (plainOf (drop 2 l))) (Nothing false) (λ _. tt) (λ _. tt)) (λ _. tt))))))
-    where
-      W : Said → Type 0
-      W = Within (length l)
-
 pub says-within : (l : List ℕ) → Within (length l) (saysOf l)
-unfolding saysOf
 says-within l =
-    cond-cases (Within (length l)) (eqb (getD l 1 0) 9) (byMark (getD l 0 0) l (drop 2 l)) (Nothing (isMark (getD l 0 0)))
-    (λ e. mark-within l (long (eqb-true (getD l 1 0) 9 e)) (getD l 0 0)) (λ _. tt)
-  where
-    long : getD l 1 0 ≡ 9 → 2 ≤ length l
-    long e = short l e
-      where
-        short : (l : List ℕ) → getD l 1 0 ≡ 9 → 2 ≤ length l
-        short [] e = absurd (omega arith)
-        short (a ∷ []) e = absurd (omega arith)
-        short (a ∷ (b ∷ l)) e = omega arith
+    says-each (Within (length l)) l (λ b. tt) (λ m s. marked-long l m) (λ m. global-within l (marked-long l m)) (λ known m. entry-within l)
+    (λ reference m. value-within l (marked-long l m) reference) (λ n. tt)
 
 pub line-within : (s : List ℕ) (at end : ℕ) (r : Said) → r ≡ saysOf (columns s at end) → at ≤ end → end ≤ length s → Within (end - at) r
 line-within s at end r e h k = rw (e, ← length-columns s at end h k) (says-within (columns s at end))

@@ -4,7 +4,6 @@ pub mod Machine
 pub mod Digits
 pub mod Folds
 pub mod Round
-pub mod Spellings
 pub mod Says
 pub mod Taken
 pub mod Takes
@@ -12,5 +11,7 @@ pub mod Walk
 pub mod Sheets
 pub mod Written
 pub mod Measured
+pub mod Marks
 pub mod Bounds
+pub mod Limits
 pub mod Valued

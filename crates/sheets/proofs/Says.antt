@@ -20,7 +20,8 @@ use Rattle.values.specs.declared.Strict.the-variants.{Is, Not}
 use Rattle.values.specs.Value.{Item, itemOf, spelled, isMissing}
 use Rattle.values.specs.Strict.{strictOf}
 use Rattle.values.proofs.Digits.{dec-value}
-use Rattle.values.proofs.OneSpelling.{placed, placed-item, sound, complete}
+use Rattle.values.proofs.OneSpelling.{placed, placed-item, missing, missing-placed, sound, complete}
+use Rattle.values.proofs.Sizes.{print-spelled}
 use Rattle.directory.specs.declared.Fields.{Fields}
 use Rattle.directory.specs.Fields.{inOrder}
 use Rattle.sheets.specs.declared.EntryLine.{EntryLine}
@@ -31,7 +32,6 @@ use Rattle.sheets.specs.Plain.{plainOf, isPlain, sized}
 use Rattle.sheets.specs.Line.{run, isLabel, spells, entryOf, labelOf, entryLine}
 use Rattle.sheets.specs.Sheet.{Line, start, global, entry, value, last, none, lineFrom, into, piecesOf, isMark, isStart, startLine, globalOf, isFieldNumber, isNumbered, globalLine, entryLineOf, valueOf, lastLine, byMark, saysOf, saidBy, lastPiece, saidByAll, lineOf, textOf}
 use Rattle.sheets.specs.WellFormed.{Held, Filled}
-use Rattle.sheets.proofs.Spellings.{print-spelled, missing, missing-placed}
 use Rattle.sheets.proofs.Machine.{has-number, global-right}
 use Rattle.sheets.proofs.Digits.{plain-round, plain-back}
 use Rattle.sheets.proofs.Round.{No, one, no-append, no-plain, no-dec, no-spell, run-field, run-cut, AllFit, nil, cons, entry-round, label-round, entry-back, Spelt}

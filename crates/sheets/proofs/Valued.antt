@@ -1,6 +1,6 @@
 -- Value lines are told by how they begin: what follows R or V and a tab is a value, or the line says nothing; no other line says a value.
 use mathlib.Core.Path.{_≡_, sym, ap, _∙_}
-use mathlib.Core.Bool.{Bool, true, false, cond, not, _&&_, _||_}
+use mathlib.Core.Bool.{Bool, true, false, cond, not, _&&_}
 use mathlib.Core.List.{List}
 use Prim.Native.Nat.{ℕ, suc, _+_, _-_, _≤_, _<_}
 use native.Mathlib.Omega.{arith}
@@ -10,7 +10,7 @@ use lib.Dec.{eqb}
 use borrow.Author.Tests.{eqb-true, ne-eqb}
 use Rattle.columns.specs.Columns.{columns}
 use Rattle.columns.proofs.Columns.{byte-of, length-columns}
-use Rattle.columns.proofs.Tests.{cond-cases, both-left, both-right}
+use Rattle.columns.proofs.Tests.{cond-cases, both-left, both-right, true-false}
 use Rattle.values.specs.declared.Value.{Value}
 use Rattle.values.specs.declared.Strict.{Strict}
 use Rattle.values.specs.declared.Strict.the-variants.{Is, Not}
@@ -18,12 +18,13 @@ use Rattle.values.specs.Strict.{strictOf}
 use Rattle.values.specs.Value.{isMissing}
 use Rattle.sheets.specs.declared.EntryLine.{EntryLine}
 use Rattle.sheets.specs.declared.EntryLine.the-variants.{Got, Wrong}
-use Rattle.sheets.specs.declared.Said.the-variants.{Start, Global, Value as Given, Last, Nothing}
-use Rattle.sheets.specs.Plain.{plainOf, isPlain}
+use Rattle.sheets.specs.declared.Said.the-variants.{Global, Value as Given, Nothing}
+use Rattle.sheets.specs.Plain.{plainOf}
 use Rattle.sheets.specs.Line.{run, entryOf}
-use Rattle.sheets.specs.Sheet.{isMark, isValue, isStart, startLine, globalOf, isNumbered, globalLine, entryLineOf, valueOf, lastLine, byMark, saysOf}
+use Rattle.sheets.specs.Sheet.{isMark, isValue, globalOf, isNumbered, globalLine, entryLineOf, valueOf, byMark, saysOf}
 use Rattle.sheets.specs.Reading.{NoValue}
 use Rattle.sheets.proofs.Plains.{columns-drop}
+use Rattle.sheets.proofs.Marks.{Marked, says-each}
 
 -- ---- the line's first two bytes
 
@@ -86,28 +87,16 @@ no-entry : (x : EntryLine) → NoValue (entryLineOf x)
 no-entry (Got known n x) = tt
 no-entry Wrong = tt
 
-no-mark : (b : ℕ) (l t : List ℕ) → isMark b ≡ false → NoValue (byMark b l t)
-unfolding isMark byMark startLine lastLine
-no-mark b l t h = by (eqb b 82) (eqb b 86) h
-  where
-    by : (x y : Bool) → x || y ≡ false
-        → NoValue (cond (eqb b 83) (cond (isStart t) Start (Nothing false))
-        (cond (eqb b 71) (globalLine t) (cond (eqb b 69 || eqb b 85) (entryLineOf (entryOf l)) (cond x (valueOf true (strictOf t)) (cond y (valueOf false (strictOf t)) (cond (eqb b 90) (cond (isPlain t) (Last (plainOf t)) (Nothing false)) (Nothing false)))))))
-    by false false e =
-        cond-cases NoValue (eqb b 83) _ _ (λ _. cond-cases NoValue (isStart t) Start (Nothing false) (λ _. tt) (λ _. tt))
-        (λ _. cond-cases NoValue (eqb b 71) _ _ (λ _. no-globals t)
-        (λ _. cond-cases NoValue (eqb b 69 || eqb b 85) _ _ (λ _. no-entry (entryOf l))
-        (λ _. cond-cases NoValue (eqb b 90) _ _ (λ _. cond-cases NoValue (isPlain t) (Last (plainOf t)) (Nothing false) (λ _. tt) (λ _. tt)) (λ _. tt))))
-    by true y e = let k : _≡_ {A = ℕ} 0 1 = cc in absurd (omega arith)
-    by false true e = let k : _≡_ {A = ℕ} 0 1 = cc in absurd (omega arith)
+-- a line with a value line's mark
+marked-value : (l : List ℕ) (reference : Bool) → Marked l (cond reference 82 86) → isValue l ≡ true
+unfolding isValue isMark
+marked-value l true m = rw (m .tab, m .mark)
+marked-value l false m = rw (m .tab, m .mark)
 
 no-line : (l : List ℕ) → isValue l ≡ false → NoValue (saysOf l)
-unfolding saysOf isValue
-no-line l h = by (eqb (getD l 1 0) 9) h
-  where
-    by : (x : Bool) → x && isMark (getD l 0 0) ≡ false → NoValue (cond x (byMark (getD l 0 0) l (drop 2 l)) (Nothing (isMark (getD l 0 0))))
-    by true e = no-mark (getD l 0 0) l (drop 2 l) e
-    by false e = tt
+no-line l h =
+    says-each NoValue l (λ b. tt) (λ m s. tt) (λ m. no-globals (drop 2 l)) (λ known m. no-entry (entryOf l)) (λ reference m. absurd (true-false (marked-value l reference m) h))
+    (λ n. tt)
 
 -- ---- as a walk meets them
 

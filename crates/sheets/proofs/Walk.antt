@@ -16,6 +16,7 @@ use Rattle.sheets.specs.declared.Step.the-variants.{On, Off}
 use Rattle.sheets.specs.declared.Verdict.the-variants.{Good, Wrong}
 use Rattle.sheets.specs.Line.{run}
 use Rattle.values.specs.Value.{isDefault}
+use Rattle.values.proofs.OneSpelling.{missing}
 use Rattle.columns.specs.declared.SheetLine.{SheetLine}
 use Rattle.sheets.specs.declared.Said.{Said}
 use Rattle.sheets.specs.declared.Said.the-variants.{Start, Global, Entry, Value as Given, Last, Nothing}
@@ -23,7 +24,6 @@ use Rattle.sheets.specs.Sheet.{Line, start, global, entry, value, last, 
 use Rattle.sheets.specs.Order.{sheetLine, closed, valueStep, noneStep, stepLine, finish}
 use Rattle.sheets.specs.Reading.{stepSaid, pieceVerdict}
 use Rattle.sheets.proofs.Plains.{run-here, run-on}
-use Rattle.sheets.proofs.Spellings.{missing}
 use Rattle.sheets.proofs.Says.{pieces-lf, pieces-on, pieces-none, pieces-some, lines-more}
 use Rattle.sheets.proofs.Takes.{start-inv, global-inv, entry-inv, value-inv, last-inv, none-inv}
 
@@ -61,6 +61,7 @@ pieces-first (b ∷ bs) h = pick (ℕ-discrete b 10) (pieces-first bs)
     pick (yes e) ih = rw (run-here 10 b bs e) (pieces-lf b bs e)
     pick (no e) ih = rw (run-on 10 b bs e) (pieces-on b bs e ∙ rw (ih (omega (arith, run-on 10 b bs e))))
 
+-- a text with no LF is one piece
 pub pieces-whole : (t : List ℕ) → length t ≤ run 10 t → piecesOf t ≡ t ∷ []
 unfolding run into
 pieces-whole [] h = pieces-none

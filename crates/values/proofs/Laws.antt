@@ -10,9 +10,9 @@ use native.Mathlib.Numerals.{add-one}
 use lib.ListN.{length, getD, drop, drop-of-length-le}
 use lib.Seq.{drop-cons}
 use lib.Dec.{ltb, leb, eqb}
-use borrow.Author.Tests.{eqb-true, eqb-false, leb-true, leb-false, ltb-true, ltb-false, eq-eqb, ne-eqb, lt-ltb, le-ltb, le-leb, lt-leb}
+use borrow.Author.Tests.{eqb-true, eqb-false, leb-true, leb-false, ltb-true, ltb-false, eq-eqb, ne-eqb, le-leb, lt-leb}
 use Rattle.values.specs.declared.Run.{Run}
-use Rattle.values.specs.declared.Number.the-variants.{Real, Bad}
+use Rattle.values.specs.declared.Number.the-variants.{Bad}
 use Rattle.values.specs.declared.Token.{Token}
 use Rattle.values.specs.declared.Power.{Power}
 use Rattle.values.specs.declared.Power.the-variants.{None, Wrong, Of}
@@ -97,20 +97,6 @@ pub wrong-many : (neg : Bool) (count x : ℕ) (double : Bool) (from end : ℕ) �
 wrong-many neg count x double from end h =
     let z : from + 3 ≡ from + min count 3 = omega arith in
     simp (le-leb 1 count (omega arith), lt-leb count 3 h) (ap Wrong z)
-
-pub gap-up : (a b : ℕ) → a < b → (a - b) + (b - a) ≡ b - a
-gap-up a b h = omega arith
-
-pub gap-down : (a b : ℕ) → b ≤ a → (a - b) + (b - a) ≡ a - b
-gap-down a b h = omega arith
-
--- ---- the cases of `real`, m not 0 and below the limit
-module _ (neg : Bool) (m up down : ℕ) (double : Bool) (end : ℕ) (z : m ≡ 0 → ⊥) (l : m < 10 ^ 17) where
-  pub real-neg : up < down → down - up ≤ 400 → token (Real neg m true (down - up) double) end ≡ normal neg m up down double end
-  real-neg a b = simp (ne-eqb m 0 z, lt-ltb m (10 ^ 17) l, lt-ltb up down a, gap-up up down a, le-leb (down - up) 400 b)
-
-  pub real-pos : down ≤ up → up - down ≤ 400 → token (Real neg m false (up - down) double) end ≡ normal neg m up down double end
-  real-pos a b = simp (ne-eqb m 0 z, lt-ltb m (10 ^ 17) l, le-ltb up down a, gap-down up down a, le-leb (up - down) 400 b)
 
 -- ---- the cases of `finish`, with a digit at least
 module _ (x : Power) (neg : Bool) (r : Run) (n p end : ℕ) (z : r .count ≡ 0 → ⊥) where

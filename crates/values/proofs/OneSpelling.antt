@@ -25,14 +25,14 @@ use Rattle.values.specs.declared.Strict.{Strict}
 use Rattle.values.specs.declared.Strict.the-variants.{Is, Not}
 use Rattle.values.specs.Number.{digits, value, numberOf}
 use Rattle.values.specs.Head.{headOf}
-use Rattle.values.specs.Value.{Item, default, whole, real, text, itemOf, head, spelled, Fine, fine-default, fine-whole, fine-real, fine-text, Printed}
+use Rattle.values.specs.Value.{Item, default, whole, real, text, itemOf, isDefault, isMissing, head, spelled, Fine, fine-default, fine-whole, fine-real, fine-text, Printed}
 use Rattle.values.specs.Strict.{numeral, string, byHead, strictOf}
 use Rattle.values.proofs.Laws.{three}
 use Rattle.values.proofs.Ends.{inside}
 use Rattle.values.proofs.Digits.{digits-ds, digits-rest, value-below, plain-dec}
 use Rattle.values.proofs.Canon.{Numeral, is-whole, is-real, read-fine}
 use Rattle.values.proofs.Round.{round, round-text}
-use Rattle.values.proofs.Sizes.{number-some}
+use Rattle.values.proofs.Sizes.{number-some, spelled-short}
 
 -- ---- what is read back is spelt so
 
@@ -123,6 +123,10 @@ spelt-if (b ∷ bs) = spelt-head (b ∷ bs) (headOf (b ∷ bs)) (head-is (b ∷ 
 pub sound : (l : List ℕ) {v : Value} → strictOf l ≡ Is v → Spelt l v
 sound l e = rw e at (spelt-if l)
 
+-- so it is short
+pub strict-short : (l : List ℕ) {v : Value} → strictOf l ≡ Is v → length l ≤ 1003
+strict-short l e = omega (arith, ap length (sound l e .text), spelled-short (sound l e .fine))
+
 -- ---- what is spelt so is read back
 
 -- a value where its spelling puts it
@@ -138,6 +142,16 @@ placed-item default = refl
 placed-item (whole neg size) = refl
 placed-item (real neg m eneg e double) = refl
 placed-item (text bs) = ap text (ap (λ (x : List ℕ). take (length bs) x) (drop-append-seam (head (length bs)) bs) ∙ take-all (length bs) bs (omega arith))
+
+-- whether nothing stands there does not turn on the text
+pub missing : (t : List ℕ) (v : Value) → isDefault (itemOf t v) ≡ isMissing v
+missing t Default = refl
+missing t (Whole neg size) = refl
+missing t (Real neg m eneg e double) = refl
+missing t (Text at count) = refl
+
+pub missing-placed : (v : Item) → isMissing (placed v) ≡ isDefault v
+missing-placed v = sym (missing (spelled v) (placed v)) ∙ ap isDefault (placed-item v)
 
 strict-some : (l : List ℕ) → (length l ≡ 0 → ⊥) → strictOf l ≡ byHead l (headOf l)
 unfolding strictOf

@@ -3,12 +3,12 @@ use mathlib.Core.Path.{_≡_, refl, sym, ap, _∙_}
 use mathlib.Core.Bool.{Bool, true, false, cond, _||_}
 use mathlib.Core.List.{List, [], _∷_, _++_, append-assoc, append-nil}
 use Prim.Native.Nat.{ℕ, zero, suc, _+_, _-_, _%_, _≤_}
-use native.Mathlib.Nat.{zero-add, zero-div, div-one, sub-zero}
+use native.Mathlib.Nat.{zero-add, zero-div, div-one}
 use native.Mathlib.Omega.{arith}
 use lib.ListN.{length, getD, drop, length-append}
 use lib.Seq.{drop-append-seam}
 use lib.Dec.{ltb, eqb}
-use borrow.Author.Tests.{ltb-false, eqb-true, eqb-false, ne-eqb, le-leb}
+use borrow.Author.Tests.{ltb-false, eqb-true, eqb-false, ne-eqb, lt-ltb, le-ltb, le-leb}
 use Rattle.columns.specs.Decimal.{dec, minus}
 use Rattle.columns.proofs.Decimals.{dec-some, length-dec-le}
 use Rattle.values.specs.declared.Number.{Number}
@@ -18,7 +18,8 @@ use Rattle.values.specs.declared.Head.the-variants.{Count, Plain}
 use Rattle.values.specs.Number.{isDigit, joins, digits, value, tens, token, pointLen, power, powerAt, normal, realOf, finish, numberOf}
 use Rattle.values.specs.Head.{headOf}
 use Rattle.values.specs.Value.{Item, whole, real, text, letter, tenTo, head, spelled, Normal, nought, times, over, Fine, fine-whole, fine-real}
-use Rattle.values.proofs.Laws.{number-of, power-none, real-pos, real-neg}
+use Rattle.values.proofs.Laws.{number-of, power-none}
+use Rattle.values.proofs.Steps.{real-near}
 use Rattle.values.proofs.Digits.{Ds, none, digits-append, ds-first, dec-ds, dec-value, Stops, stops, next, here, signed}
 use Rattle.values.proofs.Canon.{Numeral, is-whole, is-real}
 use Rattle.values.proofs.Sizes.{sizes}
@@ -58,15 +59,15 @@ finish-normal : {neg : Bool} {m : ℕ} {eneg : Bool} {e : ℕ} → Normal neg m 
     → finish (cond eneg (Of 0 e double last) (Of e 0 double last)) neg m count 0 p end ≡ token (Real neg m eneg e double) last
 finish-normal nought count p end double last l = simp (ne-eqb count 0 (omega arith), zero-div)
 finish-normal (times neg m e n h k) count p end double last l =
-    simp (ne-eqb count 0 (omega arith)) (real-normal neg m count e 0 double last n ∙ sym (real-pos neg m e 0 double last (some m n) h (omega arith) (omega arith)) ∙ ap (λ (x : ℕ). token (Real neg m false x double) last) (sub-zero e))
+    simp (ne-eqb count 0 (omega arith)) (real-normal neg m count e 0 double last n ∙ sym (real-near neg m e 0 double last (some m n) h e (omega arith) false (sym (le-ltb e 0 (omega arith))) k))
 finish-normal (over neg m e n h o k) count p end double last l =
-    simp (ne-eqb count 0 (omega arith)) (real-normal neg m count 0 e double last n ∙ sym (real-neg neg m 0 e double last (some m n) h o (omega arith)) ∙ ap (λ (x : ℕ). token (Real neg m true x double) last) (sub-zero e))
+    simp (ne-eqb count 0 (omega arith)) (real-normal neg m count 0 e double last n ∙ sym (real-near neg m 0 e double last (some m n) h e (omega arith) true (sym (lt-ltb 0 e o)) k))
 
 finish-short : {neg : Bool} {m : ℕ} {eneg : Bool} {e : ℕ} → Normal neg m eneg e → e ≡ 0 → (count end : ℕ) → 1 ≤ count
     → finish None neg m count 0 1 end ≡ token (Real neg m eneg e false) end
 finish-short nought z count end l = simp (ne-eqb count 0 (omega arith), zero-div)
 finish-short (times neg m e n h k) z count end l =
-    rw z (simp (ne-eqb count 0 (omega arith)) (real-normal neg m count 0 0 false end n ∙ sym (real-pos neg m 0 0 false end (some m n) h (omega arith) (omega arith))))
+    rw z (simp (ne-eqb count 0 (omega arith)) (real-normal neg m count 0 0 false end n ∙ sym (real-near neg m 0 0 false end (some m n) h 0 refl false refl (omega arith))))
 finish-short (over neg m e n h o k) z count end l = absurd (omega arith)
 
 -- ---- a number with an exponent

@@ -1,20 +1,17 @@
 -- How long a spelling is, and of what bytes. Assumes nothing.
 use mathlib.Core.Path.{_≡_, refl}
 use mathlib.Core.Bool.{Bool, true, false, cond, _||_}
-use mathlib.Core.List.{List, [], _∷_, _++_}
+use mathlib.Core.List.{[], _∷_, _++_}
 use Prim.Native.Nat.{ℕ, _+_, _^_, _≤_, _<_}
 use native.Mathlib.Omega.{arith}
-use lib.ListN.{length, take, drop, length-append, length-take, length-drop}
+use lib.ListN.{length, length-append}
 use lib.Dec.{ltb}
 use Rattle.columns.specs.Columns.{printable}
 use Rattle.columns.specs.Decimal.{dec, minus}
 use Rattle.columns.proofs.Decimals.{dec-some, length-dec-le, length-minus, dec-digits, print-digits}
 use Rattle.columns.proofs.Looks.{print-both}
 use Rattle.values.specs.declared.Number.{Number}
-use Rattle.values.specs.declared.Value.{Value}
-use Rattle.values.specs.declared.Value.the-variants.{Default, Whole, Real, Text}
-use Rattle.values.specs.Value.{Item, default, whole, real, text, itemOf, tenTo, exponent, head, spelled, Normal, nought, times, over, Fine, fine-whole, fine-real, fine-text, Printed}
-use Rattle.values.specs.Writing.{front, Inside}
+use Rattle.values.specs.Value.{Item, default, whole, real, text, tenTo, exponent, head, spelled, Normal, nought, times, over, Fine, fine-default, fine-whole, fine-real, fine-text, Printed}
 use Rattle.values.proofs.Canon.{Numeral, is-whole, is-real}
 
 -- m has at most 17 digits, e at most 3
@@ -55,17 +52,13 @@ number-short is-real (fine-real {neg} {m} {eneg} {e} ok double) =
 pub head-short : (n : ℕ) → n ≤ 999 → length (head n) ≤ 4
 head-short n h = omega (arith, length-append (dec n) (72 ∷ []), length-dec-le 2 n (omega arith))
 
-pub head-some : (n : ℕ) → 2 ≤ length (head n)
-head-some n = omega (arith, length-append (dec n) (72 ∷ []), dec-some n)
-
-pub front-short : (t : List ℕ) (v : Value) → Inside (length t) v → Fine (itemOf t v) → length (front v) ≤ 24
+-- a spelling takes 1003 at most: a string's head and its 999 characters
+pub spelled-short : {v : Item} → Fine v → length (spelled v) ≤ 1003
 unfolding spelled
-front-short t Default i f = omega arith
-front-short t (Whole neg size) i f = number-short is-whole f
-front-short t (Real neg m eneg e double) i f = number-short is-real f
-front-short t (Text start count) i (fine-text bs l h) =
-    let n : length (take count (drop start t)) ≡ count = simp (length-take, length-drop) (omega arith) in
-    omega (arith, head-short count (rw n at h))
+spelled-short fine-default = omega arith
+spelled-short (fine-whole neg size a b) = omega (arith, number-short is-whole (fine-whole neg size a b))
+spelled-short (fine-real k double) = omega (arith, number-short is-real (fine-real k double))
+spelled-short (fine-text bs a b) = omega (arith, length-append (head (length bs)) bs, head-short (length bs) b)
 
 -- ---- bytes
 

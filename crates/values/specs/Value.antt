@@ -38,12 +38,9 @@ isDefault (whole neg size) = false
 isDefault (real neg m eneg e double) = false
 isDefault (text bs) = false
 
--- whether a value that was read is a default
+-- the same of a value that was read, whatever the text
 abbrev pub isMissing : Value → Bool
-isMissing Default = true
-isMissing (Whole neg size) = false
-isMissing (Real neg m eneg e double) = false
-isMissing (Text start count) = false
+isMissing v = isDefault (itemOf [] v)
 
 -- ---- its one spelling
 

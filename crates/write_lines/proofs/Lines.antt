@@ -4,7 +4,6 @@ use mathlib.Core.Bool.{Bool, true}
 use mathlib.Core.List.{List, [], _∷_}
 use Prim.Native.Nat.{ℕ, _+_, _-_, _≤_, _<_}
 use native.Mathlib.Omega.{arith}
-use native.Mathlib.Decide.{ℕ-discrete}
 use lib.ListN.{length, getD, take, drop, length-drop, drop-of-length-le}
 use lib.Dec.{eqb}
 use lib.Seq.{getD-drop}
@@ -17,10 +16,10 @@ use Rattle.values.specs.Strict.{strictOf}
 use Rattle.sheets.specs.declared.Said.{Said}
 use Rattle.sheets.specs.declared.Said.the-variants.{Value as Given}
 use Rattle.sheets.specs.Line.{run}
-use Rattle.sheets.specs.Sheet.{Line, value, none, isMark, isValue, into, piecesOf, lastPiece, saysOf, lineFrom, saidBy, saidByAll, linesIn}
-use Rattle.sheets.proofs.Plains.{columns-drop, run-here, run-on}
-use Rattle.sheets.proofs.Says.{pieces-none, pieces-on, none-of}
-use Rattle.sheets.proofs.Walk.{lines-first, line-says}
+use Rattle.sheets.specs.Sheet.{Line, value, none, isMark, isValue, piecesOf, lastPiece, saysOf, lineFrom, saidBy, saidByAll, linesIn}
+use Rattle.sheets.proofs.Plains.{columns-drop}
+use Rattle.sheets.proofs.Says.{none-of}
+use Rattle.sheets.proofs.Walk.{pieces-whole, lines-first, line-says}
 use Rattle.sheets.proofs.Valued.{value-long, value-given}
 use Rattle.write_lines.specs.declared.Pass.{Pass}
 use Rattle.write_lines.specs.declared.Pass.the-variants.{Good, Refused}
@@ -37,15 +36,6 @@ or-assoc Good q r = refl
 or-assoc (Refused n l) q r = refl
 
 -- ---- the lines of a text from a place on
-
-pieces-whole : (t : List ℕ) → length t ≤ run 10 t → piecesOf t ≡ t ∷ []
-unfolding into
-pieces-whole [] h = pieces-none
-pieces-whole (b ∷ bs) h = pick (ℕ-discrete b 10) (pieces-whole bs)
-  where
-    pick : Dec (b ≡ 10) → (length bs ≤ run 10 bs → piecesOf bs ≡ bs ∷ []) → piecesOf (b ∷ bs) ≡ (b ∷ bs) ∷ []
-    pick (yes e) ih = absurd (omega (arith, run-here 10 b bs e))
-    pick (no e) ih = pieces-on b bs e ∙ rw (ih (omega (arith, run-on 10 b bs e)))
 
 -- what has no LF is a line that says nothing, if anything stands there
 pub piece-line : (t : List ℕ) (at : ℕ) → at < length t → length t ≡ at + run 10 (drop at t) → linesIn (drop at t) ≡ none (isMark (getD t at 0)) ∷ []
