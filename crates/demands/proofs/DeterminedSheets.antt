@@ -37,6 +37,8 @@ use Rattle.sheets_lay.proofs.put_start.Kinds as sheetlines-put-start-kinds
 use Rattle.sheets_lay.proofs.put_start.Reads as sheetlines-put-start-reads
 use Rattle.sheets_lay.proofs.put_global_head.Kinds as sheetlines-put-global-head-kinds
 use Rattle.sheets_lay.proofs.put_global_head.Reads as sheetlines-put-global-head-reads
+use Rattle.sheets_lay.proofs.value_mark.Kinds as sheetlines-value-mark-kinds
+use Rattle.sheets_lay.proofs.value_mark.Reads as sheetlines-value-mark-reads
 use Rattle.sheets_lay.proofs.put_value_head.Kinds as sheetlines-put-value-head-kinds
 use Rattle.sheets_lay.proofs.put_value_head.Reads as sheetlines-put-value-head-reads
 use Rattle.sheets_lay.proofs.put_entry.Kinds as sheetlines-put-entry-kinds
@@ -106,6 +108,9 @@ sheetlines-put-start κs a z z′ left left′ p q = wrote-first (left .1) (p .0
 
 pub sheetlines-put-global-head : NoSecond sheetlines-put-global-head-kinds.ps sheetlines-put-global-head-kinds.r sheetlines-put-global-head-reads.Post
 sheetlines-put-global-head κs a z z′ left left′ p q = wrote-first (left .1) (p .0) (q .0)
+
+pub sheetlines-value-mark : NoSecond sheetlines-value-mark-kinds.ps sheetlines-value-mark-kinds.r sheetlines-value-mark-reads.Post
+sheetlines-value-mark κs a z z′ left left′ p q = (once p q, refl)
 
 pub sheetlines-put-value-head : NoSecond sheetlines-put-value-head-kinds.ps sheetlines-put-value-head-kinds.r sheetlines-put-value-head-reads.Post
 sheetlines-put-value-head κs a z z′ left left′ p q = wrote-first (left .1) (p .0) (q .0)

@@ -1,4 +1,4 @@
--- Worked examples: cases a to l of document 01. What stands on the left is read as what stands on the right, or refused with that number.
+-- Worked examples: cases a to l of document 01, where a file has them: a to k are values in the text of a record, l is a status field.
 use mathlib.Core.Path.{_≡_, refl}
 use mathlib.Core.Bool.{cond}
 use mathlib.Core.List.{List, [], _∷_, _++_, map}
@@ -14,6 +14,7 @@ use Rattle.columns.specs.Decimal.{lastDigits, dec}
 use Rattle.values.specs.Number.{power, powerAt, numberOf}
 use Rattle.values.specs.Head.{headOf}
 use Rattle.values.specs.Value.{spelled}
+use Rattle.values.specs.Cases.{Answer, is, gives, table as values-table}
 use Rattle.records.specs.Record.{Values, values, wrong, nextAt, valueAt, valuesFrom, valuesAt}
 use Rattle.directory.specs.Rules.{statusOk}
 
@@ -28,31 +29,13 @@ pub data Case : Type 0 where
   value : String → Told → Case
   status : String → Told → Case
 
-abbrev is : String → String → Case
-is t v = value t (reads-as (codes v ∷ []))
+abbrev answered : Answer → Told
+answered (is v) = reads-as (v ∷ [])
+answered (gives n) = refuses n
 
-abbrev gives : String → ℕ → Case
-gives t n = value t (refuses n)
-
+-- a to k are those of `values/Cases`; l is about the status
 abbrev table : List Case
-table =
-    is "1.50" "15.E-1"
-    ∷ is "+007" "7"
-    ∷ is "-0." "0."
-    ∷ is "1D0" "1.D0"
-    ∷ is ".5E3" "5.E2"
-    ∷ is "100." "1.E2"
-    ∷ is "2147483647" "2147483647"
-    ∷ gives "2147483648" 7
-    ∷ gives "0H" 6
-    ∷ is "2H;," "2H;,"
-    ∷ is "99999999999999999." "99999999999999999."
-    ∷ gives "999999999999999999." 7
-    ∷ is "1.E400" "1.E400"
-    ∷ gives "10.E400" 7
-    ∷ status "       1" passes
-    ∷ status "00000003" (refuses 9)
-    ∷ []
+table = map (λ (e : String × Answer). value (e .0) (answered (e .1))) values-table ++ (status "       1" passes ∷ status "00000003" (refuses 9) ∷ [])
 
 abbrev told : Values → Told
 told (values vs end) = reads-as (map spelled vs)

@@ -3,9 +3,9 @@ use crate::characters::put_text;
 use read_entities::COLUMNS;
 use sheets_lay::put_global_head;
 use sheets_lay::put_value_head;
+use sheets_lay::value_mark;
 use values::Value;
 ghost use mathlib.Core.Path.{_≡_};
-ghost use mathlib.Core.Bool.{cond};
 ghost use mathlib.Core.List.{[], _∷_, _++_};
 ghost use Prim.Native.Nat.{_+_, _*_, _^_, _≤_, _<_};
 ghost use Rattle.columns.specs.Columns.{textOf};
@@ -65,12 +65,6 @@ pub fn put_value_line(
     columns_emit::put(out, b, 10)
 }
 
-fn mark_of(reference: bool) -> u8
-    ensures { λ r. ⌜ r ≡ cond reference 82 86 ⌝ }
-{
-    if reference { 82 } else { 86 }
-}
-
 // The line of a real, by its fields: a value that is passed on is copied through memory.
 fn put_real_line(
     out: &mut [u8],
@@ -86,7 +80,7 @@ fn put_real_line(
     ensures { λ r. ⌜ Wrote (now (out .entry)) at (lineOf (Line.value reference (real neg m eneg e double)) ++ (10 ∷ [])) (now (out .exit)) r ⌝ }
     ensures { λ r. ⌜ r ≤ at + 1100 ⌝ }
 {
-    let a = columns_emit::put(out, at, mark_of(reference));
+    let a = columns_emit::put(out, at, value_mark(reference));
     let b = columns_emit::put(out, a, 9);
     let c = values_spell::put_real(out, b, neg, m, eneg, e, double);
     columns_emit::put(out, c, 10)

@@ -57,7 +57,8 @@ pub fn put_global_head(out: &mut [u8], at: usize, n: u32, v: Value) -> usize
     values_spell::put_front(out, c, v)
 }
 
-fn value_mark(reference: bool) -> u8
+// R of a reference, V of any other value.
+pub fn value_mark(reference: bool) -> u8
     ensures { λ r. ⌜ r ≡ cond reference 82 86 ⌝ }
 {
     if reference { 82 } else { 86 }
