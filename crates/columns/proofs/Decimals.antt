@@ -154,13 +154,18 @@ pub length-left : (width : ℕ) (t : List ℕ) → length t ≤ width → length
 unfolding toLeft
 length-left width t h = simp (length-append, length-replicate) (omega arith)
 
+-- a number is spelled in bytes that a line may hold, and so is its sign
+pub print-dec : (n : ℕ) → printable (dec n) ≡ true
+print-dec n = print-digits (dec-digits n)
+
+pub print-minus : (neg : Bool) → printable (minus neg) ≡ true
+unfolding printable
+print-minus true = refl
+print-minus false = refl
+
 pub print-signed : (x : Signed) → printable (signedDec x) ≡ true
-unfolding signedDec printable
-print-signed x = print-both (minus (x .neg)) (dec (x .size)) (sign (x .neg)) (print-digits (dec-digits (x .size)))
-  where
-    sign : (neg : Bool) → printable (minus neg) ≡ true
-    sign true = refl
-    sign false = refl
+unfolding signedDec
+print-signed x = print-both (minus (x .neg)) (dec (x .size)) (print-minus (x .neg)) (print-dec (x .size))
 
 pub print-right : (b width : ℕ) (t : List ℕ) → 32 ≤ b → b ≤ 126 → printable t ≡ true → printable (toRight b width t) ≡ true
 unfolding toRight

@@ -62,13 +62,14 @@ pub fn wide(x: u32) -> usize
     x as usize
 }
 
-// A byte as a number, in the widths in which digits are added up.
+// A byte as a number of 32 bits: a digit that is added up.
 pub fn byte_u32(b: u8) -> u32
     ensures { λ r. ⌜ (r ≡ b) × (r < 256) ⌝ }
 {
     b as u32
 }
 
+// The same of 64 bits, for numbers of many digits.
 pub fn byte_u64(b: u8) -> u64
     ensures { λ r. ⌜ (r ≡ b) × (r < 256) ⌝ }
 {

@@ -1,21 +1,16 @@
 -- Whether an entity keeps to its layout does not hang on defaults at its end. Assumes nothing.
 use mathlib.Core.Path.{_≡_, refl, sym, ap, _∙_}
-use mathlib.Core.Bool.{Bool, true, false, cond, false≢true}
+use mathlib.Core.Bool.{Bool, true, false, cond}
 use mathlib.Core.List.{List, [], _∷_}
 use Prim.Native.Nat.{ℕ, zero, suc}
 use lib.ListN.{getD}
-use Rattle.values.specs.Value.{Item, default, whole, real, text, seen, isDefault}
+use Rattle.values.specs.Value.{Item, default, seen, isDefault}
+use Rattle.values.proofs.OneSpelling.{default-only}
 use Rattle.records.specs.Record.{trim, trimmed}
 use Rattle.directory.specs.declared.Fields.{Fields}
 use Rattle.layouts.specs.Fits.{Keeps}
 use Rattle.layouts.proofs.Fits.{Same, keeps-same}
 use Rattle.model.specs.Model.{typeOf, entityOf}
-
-is-default : (v : Item) → isDefault v ≡ true → v ≡ default
-is-default default e = refl
-is-default (whole neg size) e = absurd (false≢true e)
-is-default (real neg m eneg x double) e = absurd (false≢true e)
-is-default (text bs) e = absurd (false≢true e)
 
 -- behind the last that is kept stand defaults
 trim-at : (v : Item) (us : List Item) (i : ℕ) → getD (trim v us) i default ≡ getD (v ∷ us) i default
@@ -23,7 +18,7 @@ trim-at v (u ∷ us) i = refl
 trim-at v [] i = by (isDefault v) refl i
   where
     by : (b : Bool) → isDefault v ≡ b → (i : ℕ) → getD (cond b [] (v ∷ [])) i default ≡ getD (v ∷ []) i default
-    by true e zero = sym (is-default v e)
+    by true e zero = sym (default-only v e)
     by true e (suc i) = refl
     by false e i = refl
 

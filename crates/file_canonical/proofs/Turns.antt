@@ -1,17 +1,14 @@
 -- An entry of a sheet: its line, its values, and the entries behind it. Assumes nothing.
 use mathlib.Core.Path.{_≡_, refl, sym, ap, _∙_}
-use mathlib.Core.Bool.{Bool, true, false}
+use mathlib.Core.Bool.{Bool, false}
 use mathlib.Core.List.{List, [], _∷_, map}
 use Prim.Native.Nat.{ℕ, _+_, _-_, _*_, _≤_, _<_}
 use native.Mathlib.Omega.{arith}
 use native.Mathlib.Decide.{ℕ-discrete}
 use lib.ListN.{length, drop, length-drop}
-use lib.Dec.{eqb}
-use borrow.Author.Tests.{eqb-true}
 use Rattle.columns.specs.declared.Signed.{Signed}
-use Rattle.columns.specs.Columns.{columns, printable}
+use Rattle.columns.specs.Columns.{columns}
 use Rattle.columns.proofs.Columns.{length-columns}
-use Rattle.columns.proofs.Tests.{both-left}
 use Rattle.values.specs.Value.{Item}
 use Rattle.directory.specs.declared.Fields.{Fields}
 use Rattle.sheets.specs.declared.EntryLine.{EntryLine}
@@ -19,9 +16,9 @@ use Rattle.sheets.specs.declared.EntryLine.the-variants.{Got, Wrong}
 use Rattle.sheets.specs.declared.Said.{Said}
 use Rattle.sheets.specs.declared.Said.the-variants.{Start, Global, Entry, Value as Given, Last, Nothing}
 use Rattle.sheets.specs.Plain.{sized}
-use Rattle.sheets.specs.Line.{run, isLabel, entryOf, labelOf}
+use Rattle.sheets.specs.Line.{run, entryOf, labelOf}
 use Rattle.sheets.specs.Sheet.{Line, entry, lineFrom, lastPiece, saysOf, saidBy, linesIn, Row, valueLines, rowLines}
-use Rattle.sheets.proofs.Round.{Fits, eight, plain, AllFit, cons, Spelt, entry-back}
+use Rattle.sheets.proofs.Round.{Fits, eight, plain, AllFit, cons, Spelt, entry-back, label-eight}
 use Rattle.sheets.proofs.Walk.{lines-first, line-says}
 use Rattle.model.specs.Model.{valueIn, carriedOf}
 use Rattle.sheets_rows.proofs.Rows.{values-first}
@@ -56,10 +53,6 @@ rows-begin k [] = refl
 rows-begin k (r ∷ rs) = refl
 
 -- ---- an entry line
-
-pub label-eight : (l : List ℕ) → isLabel l ≡ true → length l ≡ 8
-unfolding isLabel
-label-eight l e = eqb-true (length l) 8 (both-left (eqb (length l) 8) (printable l) e)
 
 -- an entry stands at this place, on a line that ends at e, and other entries behind it
 pub record RowStands (t : List ℕ) (at k e : ℕ) : Type 0 where

@@ -25,12 +25,12 @@ use Rattle.directory.proofs.Puts.{entry-lines}
 use Rattle.directory.proofs.Round.{first-length, second-length}
 use Rattle.sheets.specs.Sheet.{isStart, Row}
 use Rattle.sheets.specs.WellFormed.{Each, none as no-each, one as an-each, Proper, RowSpelt}
+use Rattle.sheets.proofs.Round.{label-eight}
 use Rattle.model.specs.Model.{Carried, carriedOf}
 use Rattle.model.specs.Canonical.{parameterText, blockOf, directoryLines, parameterLines}
 use Rattle.file_canonical.specs.Laying.{Ranged}
 use Rattle.file_canonical.proofs.Totals.{block-lines}
 use Rattle.file_canonical.proofs.Sections.{Wide, wide-both, line-length}
-use Rattle.file_canonical.proofs.Turns.{label-eight}
 
 -- ---- the D lines have 72 columns
 

@@ -13,7 +13,7 @@ use Rattle.columns.specs.Laid.{Wrote, Owes}
 use Rattle.columns.proofs.Writes.{owes-all, owes-less, owes-none, owes-same, wrote-length}
 use Rattle.values.specs.declared.Value.{Value}
 use Rattle.values.specs.declared.Value.the-variants.{Default}
-use Rattle.values.specs.Value.{Item, default, whole, real, text, itemOf, isDefault, isMissing}
+use Rattle.values.specs.Value.{Item, default, whole, itemOf, isDefault, isMissing}
 use Rattle.records.specs.declared.Got.{Got}
 use Rattle.records.specs.declared.Got.the-variants.{Found, Refused}
 use Rattle.records.specs.Record.{values, valueAt, valuesAt, trim, trimmed}
@@ -31,7 +31,7 @@ use Rattle.layouts.proofs.Steps.{step-runs}
 use Rattle.layouts.proofs.Runs.{feed-stepped}
 use Rattle.model.specs.Model.{marked}
 use Rattle.sheets.specs.Sheet.{Line, value, lineOf, valueLines, textOf as sheetBytes}
-use Rattle.values.proofs.OneSpelling.{missing}
+use Rattle.values.proofs.OneSpelling.{missing, default-only}
 use Rattle.read_entities.specs.Marks.{carriedIn, marksBegun, markedFrom}
 use Rattle.print.specs.declared.Met.{Met}
 use Rattle.print.specs.Bytes.{valueBytes}
@@ -151,12 +151,6 @@ one-owed : (n : ℕ) (vs : List Item) → replicate n default ++ (default ∷ vs
 one-owed zero vs = refl
 one-owed (suc n) vs = ap (λ (l : List Item). default ∷ l) (one-owed n vs)
 
-default-is : (v : Item) → isDefault v ≡ true → v ≡ default
-default-is default h = refl
-default-is (whole neg n) h = let z : _≡_ {A = ℕ} 0 1 = cc in absurd (omega arith)
-default-is (real neg m eneg e double) h = let z : _≡_ {A = ℕ} 0 1 = cc in absurd (omega arith)
-default-is (text bs) h = let z : _≡_ {A = ℕ} 0 1 = cc in absurd (omega arith)
-
 left-some : {c d : ℕ} {t : List ℕ} {q : ℕ} {b : Bool} {vs : List Item} → Left c d t q b vs → b ≡ false → (end : ℕ) × (valuesAt 64 c d t q ≡ values vs end)
 left-some none e = let z : _≡_ {A = ℕ} 0 1 = cc in absurd (omega arith)
 left-some (some vs end r) e = (end, r)
@@ -216,7 +210,7 @@ module _ (file : List ℕ) (base lines : ℕ) (st : Stands file base 64 lines) (
           values-default k =
               let v : Item = itemOf t (y .value) in
               let us : List Item = met .left in
-              let ev : v ≡ default = default-is v (missing t (y .value) ∙ sym eb ∙ k) in
+              let ev : v ≡ default = default-only v (missing t (y .value) ∙ sym eb ∙ k) in
               let e : replicate owed default ++ p .left ≡ replicate (owed + 1) default ++ us
               = ap (λ (l : List Item). replicate owed default ++ l) (met .whole ∙ ap (λ (u : Item). u ∷ us) ev) ∙ one-owed owed us ∙ ap (λ (n : ℕ). replicate n default ++ us) (sym (add-one owed)) in
               record { left = us; is = met .is; owes = owes-same (p .owes) (ap (λ (l : List Item). valueBytes (markedFrom types g (trimmed l))) e) }

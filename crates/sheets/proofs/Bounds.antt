@@ -1,13 +1,11 @@
 -- Where what a line says stands: within the line.
 use mathlib.Core.Path.{_≡_, refl, _∙_}
-use mathlib.Core.Bool.{Bool, true, false, not, _&&_}
+use mathlib.Core.Bool.{Bool, false, not, _&&_}
 use mathlib.Core.List.{List}
 use Prim.Native.Nat.{ℕ, suc, _+_, _-_, _≤_}
 use native.Mathlib.Omega.{arith}
 use lib.ListN.{length, take, drop, length-drop}
-use lib.Dec.{eqb}
-use borrow.Author.Tests.{eqb-true}
-use Rattle.columns.specs.Columns.{columns, printable}
+use Rattle.columns.specs.Columns.{columns}
 use Rattle.columns.proofs.Tests.{cond-cases, both-left}
 use Rattle.columns.proofs.Columns.{length-columns}
 use Rattle.values.specs.declared.Strict.{Strict}
@@ -21,18 +19,14 @@ use Rattle.sheets.specs.declared.EntryLine.the-variants.{Got, Wrong as W
 use Rattle.sheets.specs.declared.Said.{Said}
 use Rattle.sheets.specs.declared.Said.the-variants.{Global, Nothing}
 use Rattle.sheets.specs.Plain.{plainOf}
-use Rattle.sheets.specs.Line.{run, isLabel, entryOf, labelOf}
+use Rattle.sheets.specs.Line.{run, entryOf, labelOf}
 use Rattle.sheets.specs.Sheet.{globalOf, isNumbered, globalLine, entryLineOf, valueOf, saysOf}
 use Rattle.sheets.specs.Reading.{Within}
 use Rattle.sheets.proofs.Marks.{says-each, marked-long}
 use Rattle.sheets.proofs.Machine.{HasNumber, has-number}
-use Rattle.sheets.proofs.Round.{entry-back}
+use Rattle.sheets.proofs.Round.{entry-back, label-eight}
 
 -- ---- a line
-
-label-eight : (l : List ℕ) → isLabel l ≡ true → length l ≡ 8
-unfolding isLabel
-label-eight l e = eqb-true (length l) 8 (both-left (eqb (length l) 8) (printable l) e)
 
 length-label : (l : List ℕ) → length (labelOf l) ≡ length l - (length l - 8)
 unfolding labelOf

@@ -4,7 +4,7 @@ use mathlib.Core.Bool.{Bool, true, false, _&&_}
 use mathlib.Core.List.{List}
 use Prim.Native.Nat.{ℕ, suc, _+_, _-_, _≤_, _<_}
 use native.Mathlib.Omega.{arith}
-use lib.ListN.{length, getD, take, drop, List·getD-eq-default}
+use lib.ListN.{length, getD, take, drop}
 use lib.Dec.{ltb, leb, eqb}
 use borrow.Author.Tests.{le-leb, lt-leb, lt-ltb, le-ltb, eq-eqb, ne-eqb, ltb-true, leb-true}
 use Rattle.columns.specs.declared.Signed.{Signed}
@@ -26,7 +26,7 @@ use Rattle.sheets.specs.Plain.{most, plainOf, isPlain}
 use Rattle.sheets.specs.Line.{run, entryOf}
 use Rattle.sheets.specs.Folds.{plainFold}
 use Rattle.sheets.specs.Sheet.{isMark, isStart, startLine, globalOf, isFieldNumber, isNumbered, globalLine, entryLineOf, valueOf, lastLine, byMark, saysOf}
-use Rattle.sheets.proofs.Plains.{first-byte, columns-take, columns-drop}
+use Rattle.sheets.proofs.Plains.{first-byte, no-second, columns-take, columns-drop}
 use Rattle.sheets.proofs.Digits.{plain-back}
 use Rattle.sheets.proofs.Folds.{tells-good, tells-bad, plain-fold}
 
@@ -206,10 +206,7 @@ module _ (s : List ℕ) (at end : ℕ) (lo : at ≤ end) (le : end ≤ length s)
 
     pub mark-short : (b : Bool) → end - at < 2 → b ≡ isMark (getD s at 0) → Nothing b ≡ saysOf (columns s at end)
     unfolding saysOf
-    mark-short b h p = simp (ne-eqb (getD (columns s at end) 1 0) 9 past, first, ← p)
-      where
-        past : getD (columns s at end) 1 0 ≡ 9 → ⊥
-        past e = omega (arith, List·getD-eq-default (columns s at end) 0 {n = 1} (rw (length-columns s at end lo le) (omega arith)))
+    mark-short b h p = rw (no-second s at end lo le h, first, ← p)
 
     module _ (long : 2 ≤ end - at) where
       second : getD (columns s at end) 1 0 ≡ getD s (at + 1) 0

@@ -4,12 +4,12 @@ use mathlib.Core.Bool.{true, false}
 use mathlib.Core.List.{List, _∷_}
 use Prim.Native.Nat.{ℕ, suc, _+_, _-_, _*_, _≤_, _<_}
 use native.Mathlib.Omega.{arith}
-use lib.ListN.{length, getD, take, drop}
+use lib.ListN.{length, getD, take, drop, List·getD-eq-default}
 use lib.Seq.{drop-drop, take-take}
 use borrow.Author.Tests.{le-leb, lt-leb, lt-ltb, le-ltb, eq-eqb, ne-eqb}
 use Rattle.columns.specs.declared.Signed.{Signed}
 use Rattle.columns.specs.Columns.{columns}
-use Rattle.columns.proofs.Columns.{column, columns-none, drop-take}
+use Rattle.columns.proofs.Columns.{column, columns-none, length-columns, drop-take}
 use Rattle.sheets.specs.Plain.{most, sized}
 use Rattle.sheets.specs.Line.{run}
 use Rattle.sheets.specs.Folds.{misspelt, unread, digitAfter, sizeFrom, plainFold, minusOf, signedFold, statusFrom, statusFold, entryFold}
@@ -86,6 +86,10 @@ minus-high n h =
 
 pub first-byte : (s : List ℕ) (i end : ℕ) → i < end → end ≤ length s → getD (columns s i end) 0 0 ≡ getD s i 0
 first-byte s i end lt le = rw (column s i end lt le)
+
+-- a line of less than two bytes has no second
+pub no-second : (s : List ℕ) (at end : ℕ) → at ≤ end → end ≤ length s → end - at < 2 → getD (columns s at end) 1 0 ≡ 0
+no-second s at end lo hi h = List·getD-eq-default (columns s at end) 0 {n = 1} (rw (length-columns s at end lo hi) (omega arith))
 
 pub signed-minus : (s : List ℕ) (i end n : ℕ) (r : Signed) → i < end → end ≤ length s → getD s i 0 ≡ 45 → n ≡ plainFold (columns s (i + 1) end) → r ≡ minusOf n
     → r ≡ signedFold (columns s i end)

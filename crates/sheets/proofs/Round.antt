@@ -13,7 +13,7 @@ use borrow.Author.Tests.{lt-ltb, ne-eqb, eqb-true, ltb-true, leb-true}
 use Rattle.columns.specs.Decimal.{dec, minus, signedDec, zeroFilled}
 use Rattle.columns.specs.Columns.{printable}
 use Rattle.values.specs.Number.{value}
-use Rattle.columns.proofs.Decimals.{dec-digits, print-digits, print-signed, print-right}
+use Rattle.columns.proofs.Decimals.{print-dec, print-signed, print-right}
 use Rattle.columns.specs.declared.Signed.{Signed}
 use Rattle.directory.specs.declared.Fields.{Fields}
 use Rattle.sheets.specs.declared.EntryLine.{EntryLine}
@@ -22,7 +22,7 @@ use Rattle.directory.specs.Fields.{nought, inOrder, fieldsOf}
 use Rattle.sheets.specs.Plain.{sized, isSigned, signedNumber, statusNumber}
 use Rattle.sheets.specs.Line.{isEntryNumber, entryNumber, spell, spells, run, isLabel, entryFrom, numbersOf, entryOf, labelOf, entryLine}
 use Rattle.sheets.specs.WellFormed.{Proper}
-use Rattle.columns.proofs.Tests.{both, both-right}
+use Rattle.columns.proofs.Tests.{both, both-left, both-right}
 use Rattle.sheets.proofs.Plains.{run-here, run-on}
 use Rattle.sheets.proofs.Digits.{signed-round, signed-back, behind-one, status-round, status-back}
 
@@ -80,11 +80,11 @@ module _ (c : ℕ) (low : c < 32) where
       one h (no-plain bs (both-right (leb b 126) (printable bs) (p .1)))
 
   pub no-dec : (v : ℕ) → No c (dec v)
-  no-dec v = no-plain (dec v) (print-digits (dec-digits v))
+  no-dec v = no-plain (dec v) (print-dec v)
 
   pub no-spell : {left : ℕ} {x : Signed} → Fits left x → No c (spell left x)
   unfolding spell
-  no-spell (eight n h) = no-plain (zeroFilled 8 n) (print-right 48 8 (dec n) (omega arith) (omega arith) (print-digits (dec-digits n)))
+  no-spell (eight n h) = no-plain (zeroFilled 8 n) (print-right 48 8 (dec n) (omega arith) (omega arith) (print-dec n))
   no-spell (plain {left} {x} h p) = rw (spell-other left h x) (no-plain (signedDec x) (print-signed x))
 
 pub run-field : {f : List ℕ} → No 9 f → (rest : List ℕ) → run 9 (f ++ (9 ∷ rest)) ≡ length f
@@ -190,16 +190,17 @@ unfolding entryOf entryLine
 entry-round true n e label a l = numbers-round true label l a []
 entry-round false n e label a l = numbers-round false label l a []
 
+-- a label has eight bytes
+pub label-eight : (l : List ℕ) → isLabel l ≡ true → length l ≡ 8
+unfolding isLabel
+label-eight l e = eqb-true (length l) 8 (both-left (eqb (length l) 8) (printable l) e)
+
 label-of : (p label : List ℕ) → isLabel label ≡ true → labelOf (p ++ label) ≡ label
-unfolding labelOf isLabel
+unfolding labelOf
 label-of p label l =
-    let h : length label ≡ 8 = eqb-true (length label) 8 (left (eqb (length label) 8) (printable label) l) in
+    let h : length label ≡ 8 = label-eight label l in
     let e : length (p ++ label) - 8 ≡ length p = rw (length-append p label) (omega arith) in
     rw e (drop-at p label (length p) refl)
-  where
-    left : (a b : Bool) → (a && b) ≡ true → a ≡ true
-    left true b e = refl
-    left false b e = e
 
 pub label-round : (known : Bool) (n : ℕ) (e : Fields) (label : List ℕ) → isLabel label ≡ true → labelOf (entryLine known n e label) ≡ label
 unfolding entryLine

@@ -5,11 +5,11 @@ use mathlib.Core.List.{List}
 use Prim.Native.Nat.{ℕ, suc, _+_, _-_, _≤_, _<_}
 use native.Mathlib.Omega.{arith}
 use native.Mathlib.Decide.{ℕ-discrete, decLe}
-use lib.ListN.{length, getD, take, drop, List·getD-eq-default}
+use lib.ListN.{length, getD, take, drop}
 use lib.Dec.{eqb}
 use borrow.Author.Tests.{eqb-true, ne-eqb}
 use Rattle.columns.specs.Columns.{columns}
-use Rattle.columns.proofs.Columns.{byte-of, length-columns}
+use Rattle.columns.proofs.Columns.{byte-of}
 use Rattle.columns.proofs.Tests.{cond-cases, both-left, both-right, true-false}
 use Rattle.values.specs.declared.Value.{Value}
 use Rattle.values.specs.declared.Strict.{Strict}
@@ -23,7 +23,7 @@ use Rattle.sheets.specs.Plain.{plainOf}
 use Rattle.sheets.specs.Line.{run, entryOf}
 use Rattle.sheets.specs.Sheet.{isMark, isValue, globalOf, isNumbered, globalLine, entryLineOf, valueOf, byMark, saysOf}
 use Rattle.sheets.specs.Reading.{NoValue}
-use Rattle.sheets.proofs.Plains.{columns-drop}
+use Rattle.sheets.proofs.Plains.{first-byte, no-second, columns-drop}
 use Rattle.sheets.proofs.Marks.{Marked, says-each}
 
 -- ---- the line's first two bytes
@@ -31,18 +31,14 @@ use Rattle.sheets.proofs.Marks.{Marked, says-each}
 module _ (s : List ℕ) (at end : ℕ) (lo : at ≤ end) (hi : end ≤ length s) where
   pub value-short : end - at < 2 → false ≡ isValue (columns s at end)
   unfolding isValue
-  value-short h =
-      let l : length (columns s at end) ≤ 1 = omega (arith, length-columns s at end lo hi) in
-      simp (List·getD-eq-default (columns s at end) 0 l)
+  value-short h = rw (no-second s at end lo hi h)
 
   module _ (two : 2 ≤ end - at) where
     second : getD (columns s at end) 1 0 ≡ getD s (at + 1) 0
     second = byte-of s at end 1 (omega arith)
 
     first : getD (columns s at end) 0 0 ≡ getD s at 0
-    first =
-        let z : at + 0 ≡ at = omega arith in
-        byte-of s at end 0 (omega arith) ∙ ap (λ (k : ℕ). getD s k 0) z
+    first = first-byte s at end (omega arith) hi
 
     pub value-untabbed : (getD s (at + 1) 0 ≡ 9 → ⊥) → false ≡ isValue (columns s at end)
     unfolding isValue

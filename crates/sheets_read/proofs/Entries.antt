@@ -5,19 +5,19 @@ use mathlib.Core.List.{List, [], _∷_}
 use Prim.Native.Nat.{ℕ, suc, _+_, _-_, _≤_, _<_}
 use native.Mathlib.Numerals.{add-one}
 use native.Mathlib.Omega.{arith}
-use lib.ListN.{length, getD, take, set, List·getD-eq-default}
+use lib.ListN.{length, getD, take, set}
 use lib.Seq.{take-suc-set, take-all}
 use borrow.Author.Tests.{lt-ltb, le-ltb, ne-eqb}
 use Rattle.columns.specs.declared.Signed.{Signed}
 use Rattle.columns.specs.Columns.{columns, printable}
-use Rattle.columns.proofs.Columns.{column, length-columns}
+use Rattle.columns.proofs.Columns.{byte-of, length-columns}
 use Rattle.directory.specs.Fields.{nought}
 use Rattle.sheets.specs.declared.EntryLine.{EntryLine}
 use Rattle.sheets.specs.declared.EntryLine.the-variants.{Got, Wrong}
 use Rattle.sheets.specs.Plain.{most}
 use Rattle.sheets.specs.Line.{run, isLabel, entryNumber, entryFrom, numbersOf, entryOf}
 use Rattle.sheets.specs.Folds.{entryFold}
-use Rattle.sheets.proofs.Plains.{first-byte, columns-take, columns-drop}
+use Rattle.sheets.proofs.Plains.{first-byte, no-second, columns-take, columns-drop}
 use Rattle.sheets.proofs.Folds.{tells-good, tells-bad, entry-fold}
 
 -- ---- the numbers of a line: f is the answer
@@ -89,17 +89,14 @@ pub ruleset rows = (entry-from, numbers-short, numbers-bad, numbers-more, label-
 module _ (s : List ℕ) (at end : ℕ) where
   pub line-short : at ≤ end → end ≤ length s → end - at < 2 → Wrong ≡ entryOf (columns s at end)
   unfolding entryOf
-  line-short h k l = simp (entryOf, ne-eqb (getD (columns s at end) 1 0) 9 past)
-    where
-      past : getD (columns s at end) 1 0 ≡ 9 → ⊥
-      past e = omega (arith, List·getD-eq-default (columns s at end) 0 {n = 1} (rw (length-columns s at end h k) (omega arith)))
+  line-short h k l = rw (no-second s at end h k l)
 
   module _ (lo : at ≤ end) (le : end ≤ length s) (two : 2 ≤ end - at) where
     b0 : getD (columns s at end) 0 0 ≡ getD s at 0
     b0 = first-byte s at end (omega arith) le
 
     b1 : getD (columns s at end) 1 0 ≡ getD s (at + 1) 0
-    b1 = rw (column s at end (omega arith) le, column s (at + 1) end (omega arith) le)
+    b1 = byte-of s at end 1 (omega arith)
 
     pub line-tab : (getD s (at + 1) 0 ≡ 9 → ⊥) → Wrong ≡ entryOf (columns s at end)
     unfolding entryOf

@@ -14,6 +14,7 @@ use borrow.Author.Tests.{leb-true, eqb-true, eq-eqb, ne-eqb, lt-ltb, le-ltb, le-
 use Rattle.columns.specs.Columns.{columns, printable, sameBytes}
 use Rattle.columns.specs.Decimal.{minus}
 use Rattle.columns.proofs.Columns.{columns-rest}
+use Rattle.columns.proofs.Tests.{both-left}
 use Rattle.values.specs.declared.Decimal.{Decimal}
 use Rattle.values.specs.declared.Number.{Number}
 use Rattle.values.specs.declared.Number.the-variants.{Whole as WholeOf, Real as RealOf, Beyond, Bad}
@@ -29,7 +30,6 @@ use Rattle.values.specs.Value.{head}
 use Rattle.values.specs.Writing.{Inside, Placed}
 use Rattle.values.specs.Strict.{spelt, numeral, byHead, strictOf}
 use Rattle.values.specs.Direct.{longer, decimal, isWhole, isNought, isNormal, asWhole, asReal, byExponent, behindLetter, behindPoint, behindCount, behindDigits, directOf}
-use Rattle.values.proofs.Laws.{and-left}
 use Rattle.values.proofs.Ends.{inside}
 use Rattle.values.proofs.Digits.{here}
 use Rattle.values.proofs.Decimals.{upTo}
@@ -142,7 +142,7 @@ module _ (neg : Bool) (size : ℕ) where
 
   module _ {b : Bool} (e : b ≡ isWhole neg size) where
     pub whole-fits : b ≡ true → size < 2 ^ 32
-    whole-fits h = omega (arith, leb-true size 2147483647 (and-left (leb size 2147483647) _ (sym e ∙ h)))
+    whole-fits h = omega (arith, leb-true size 2147483647 (both-left (leb size 2147483647) _ (sym e ∙ h)))
 
     pub whole-yes : b ≡ true → Is (Whole neg size) ≡ asWhole neg size
     unfolding asWhole
@@ -179,7 +179,7 @@ module _ (neg : Bool) (m : ℕ) (eneg : Bool) (e : ℕ) where
 
   module _ {b : Bool} (q : b ≡ isNormal neg m eneg e) where
     pub real-fits : b ≡ true → e < 2 ^ 32
-    real-fits h = omega (arith, leb-true e 400 (and-left (leb e 400) _ (sym q ∙ h)))
+    real-fits h = omega (arith, leb-true e 400 (both-left (leb e 400) _ (sym q ∙ h)))
 
     pub real-yes : (double : Bool) → b ≡ true → Is (Real neg m eneg e double) ≡ asReal neg m eneg e double
     unfolding asReal

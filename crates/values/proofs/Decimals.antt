@@ -11,10 +11,10 @@ use lib.Dec.{ltb, eqb}
 use borrow.Author.Tests.{ltb-true, eqb-true, eqb-false, ne-eqb, lt-ltb}
 use Rattle.columns.specs.Decimal.{dec}
 use Rattle.columns.proofs.Decimals.{dec-small, dec-big, dec-some, dec-first, dec-nought}
+use Rattle.columns.proofs.Tests.{both-left}
 use Rattle.values.specs.declared.Decimal.{Decimal}
 use Rattle.values.specs.Number.{isDigit, value}
 use Rattle.values.specs.Direct.{longer, decimal}
-use Rattle.values.proofs.Laws.{and-left}
 use Rattle.values.proofs.Digits.{Ds, none, one, digit-low, digit-high, dec-ds, dec-value, next}
 
 -- a number and where it ends
@@ -42,7 +42,7 @@ longer-spelt l (c ∷ cs) v k e h = pick (isDigit c && ltb v (10 ^ 16)) refl (lo
 
     pick : (b : Bool) → (isDigit c && ltb v (10 ^ 16)) ≡ b → dec w ++ cs ≡ dec (longer cs w (k + 1) .value) ++ drop (longer cs w (k + 1) .end) l
         → dec v ++ (c ∷ cs) ≡ dec (cond b (longer cs w (k + 1)) (upTo v k) .value) ++ drop (cond b (longer cs w (k + 1)) (upTo v k) .end) l
-    pick true d ih = sym (ap (λ (x : List ℕ). x ++ cs) (dec-next v c h (and-left (isDigit c) (ltb v (10 ^ 16)) d)) ∙ append-assoc (dec v) (c ∷ []) cs) ∙ ih
+    pick true d ih = sym (ap (λ (x : List ℕ). x ++ cs) (dec-next v c h (both-left (isDigit c) (ltb v (10 ^ 16)) d)) ∙ append-assoc (dec v) (c ∷ []) cs) ∙ ih
     pick false d ih = ap (λ (x : List ℕ). dec v ++ x) (sym e)
 
 longer-below : (t : List ℕ) (v k : ℕ) → v < 10 ^ 17 → longer t v k .value < 10 ^ 17

@@ -11,18 +11,19 @@ use lib.Dec.{leb, eqb}
 use borrow.Author.Tests.{leb-true, eqb-true, eqb-false, ne-eqb, le-leb}
 use Rattle.columns.specs.Decimal.{dec, minus}
 use Rattle.columns.proofs.Decimals.{dec-small, dec-big, by-digits, length-dec-le}
+use Rattle.columns.proofs.Tests.{both-left, both-right}
 use Rattle.values.specs.Number.{isDigit, joins, digits, value, signLen}
-use Rattle.values.proofs.Laws.{and-left, and-right, value-append}
+use Rattle.values.proofs.Laws.{value-append}
 
 pub data Ds : List ℕ → Type 0 where
   none : Ds []
   one : {c : ℕ} {cs : List ℕ} → isDigit c ≡ true → Ds cs → Ds (c ∷ cs)
 
 pub digit-low : (c : ℕ) → isDigit c ≡ true → 48 ≤ c
-digit-low c e = leb-true 48 c (and-left (leb 48 c) (leb c 57) e)
+digit-low c e = leb-true 48 c (both-left (leb 48 c) (leb c 57) e)
 
 pub digit-high : (c : ℕ) → isDigit c ≡ true → c ≤ 57
-digit-high c e = leb-true c 57 (and-right (leb 48 c) (leb c 57) e)
+digit-high c e = leb-true c 57 (both-right (leb 48 c) (leb c 57) e)
 
 pub digit : (d : ℕ) → d < 10 → isDigit (48 + d) ≡ true
 digit d h = simp (le-leb 48 (48 + d) (omega arith), le-leb (48 + d) 57 (omega arith))

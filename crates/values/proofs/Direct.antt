@@ -13,6 +13,7 @@ use borrow.Author.Tests.{ltb-true, ltb-false, leb-true, eqb-true, eqb-false, eq-
 use Rattle.columns.specs.Columns.{printable}
 use Rattle.columns.specs.Decimal.{dec, minus}
 use Rattle.columns.proofs.Decimals.{dec-some}
+use Rattle.columns.proofs.Tests.{both-left, both-right}
 use Rattle.values.specs.declared.Decimal.{Decimal}
 use Rattle.values.specs.declared.Value.the-variants.{Whole, Real, Text}
 use Rattle.values.specs.declared.Strict.{Strict}
@@ -21,7 +22,6 @@ use Rattle.values.specs.Number.{isDigit}
 use Rattle.values.specs.Value.{Item, whole, real, text, letter, tenTo, exponent, head, spelled, itemOf, Normal, nought, times, over, Fine, fine-default, fine-whole, fine-real, fine-text, Printed}
 use Rattle.values.specs.Strict.{strictOf}
 use Rattle.values.specs.Direct.{decimal, isWhole, isNought, isNormal, asWhole, asReal, behindLetter, behindPoint, behindCount, behindDigits, directOf}
-use Rattle.values.proofs.Laws.{and-left, and-right}
 use Rattle.values.proofs.Ends.{inside}
 use Rattle.values.proofs.Digits.{ds-first, dec-ds, next, here, signed}
 use Rattle.values.proofs.Sizes.{sizes}
@@ -31,8 +31,8 @@ use Rattle.values.proofs.OneSpelling.{placed, sound, complete}
 -- ---- the limits
 
 whole-limits : (neg : Bool) (size : ℕ) → isWhole neg size ≡ true → (size ≤ 2147483647) × (size ≡ 0 → neg ≡ false)
-whole-limits true size e = (leb-true size 2147483647 (and-left (leb size 2147483647) _ e), λ z. absurd (omega (arith, ltb-true 0 size (and-right (leb size 2147483647) _ e))))
-whole-limits false size e = (leb-true size 2147483647 (and-left (leb size 2147483647) _ e), λ z. refl)
+whole-limits true size e = (leb-true size 2147483647 (both-left (leb size 2147483647) _ e), λ z. absurd (omega (arith, ltb-true 0 size (both-right (leb size 2147483647) _ e))))
+whole-limits false size e = (leb-true size 2147483647 (both-left (leb size 2147483647) _ e), λ z. refl)
 
 limits-whole : (neg : Bool) (size : ℕ) → size ≤ 2147483647 → (size ≡ 0 → neg ≡ false) → isWhole neg size ≡ true
 limits-whole true size h z = simp (le-leb size 2147483647 h) (some (ltb 0 size) refl)
@@ -43,18 +43,18 @@ limits-whole true size h z = simp (le-leb size 2147483647 h) (some (ltb 0 size) 
 limits-whole false size h z = simp (le-leb size 2147483647 h)
 
 nought-limits : (neg : Bool) (m : ℕ) (eneg : Bool) (e : ℕ) → isNought neg m eneg e ≡ true → Normal neg m eneg e
-nought-limits true m eneg e h = absurd (false≢true (and-right (eqb m 0) _ h))
-nought-limits false m true e h = absurd (false≢true (and-right (eqb m 0) _ h))
+nought-limits true m eneg e h = absurd (false≢true (both-right (eqb m 0) _ h))
+nought-limits false m true e h = absurd (false≢true (both-right (eqb m 0) _ h))
 nought-limits false m false e h =
-    let a : m ≡ 0 = eqb-true m 0 (and-left (eqb m 0) _ h) in
-    let b : e ≡ 0 = eqb-true e 0 (and-right (eqb m 0) _ h) in
+    let a : m ≡ 0 = eqb-true m 0 (both-left (eqb m 0) _ h) in
+    let b : e ≡ 0 = eqb-true e 0 (both-right (eqb m 0) _ h) in
     rw (a, b) nought
 
 normal-limits : (neg : Bool) (m : ℕ) (eneg : Bool) (e : ℕ) → m < 10 ^ 17 → isNormal neg m eneg e ≡ true → Normal neg m eneg e
-normal-limits neg m eneg e l h = pick (eqb (m % 10) 0) refl eneg refl (and-right (leb e 400) _ h)
+normal-limits neg m eneg e l h = pick (eqb (m % 10) 0) refl eneg refl (both-right (leb e 400) _ h)
   where
     k : e ≤ 400
-    k = leb-true e 400 (and-left (leb e 400) _ h)
+    k = leb-true e 400 (both-left (leb e 400) _ h)
 
     pick : (a : Bool) → eqb (m % 10) 0 ≡ a → (b : Bool) → eneg ≡ b → cond a (isNought neg m b e) (cond b (ltb 0 e) true) ≡ true → Normal neg m b e
     pick true z b q g = nought-limits neg m b e g

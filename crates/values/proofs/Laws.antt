@@ -1,6 +1,6 @@
 -- Laws of the definitions of specs/Number.antt. Assumes nothing.
 use mathlib.Core.Path.{_≡_, refl, sym, ap, _∙_}
-use mathlib.Core.Bool.{Bool, true, false, cond, _&&_, false≢true, and-false}
+use mathlib.Core.Bool.{Bool, true, false, cond, and-false}
 use mathlib.Core.Logic.{_⊎_, inl, inr}
 use mathlib.Core.List.{List, [], _∷_, _++_}
 use Prim.Native.Nat.{ℕ, zero, suc, _+_, _-_, _*_, _/_, _%_, _^_, _≤_, _<_, min}
@@ -11,6 +11,7 @@ use lib.ListN.{length, getD, drop, drop-of-length-le}
 use lib.Seq.{drop-cons}
 use lib.Dec.{ltb, leb, eqb}
 use borrow.Author.Tests.{eqb-true, eqb-false, leb-true, leb-false, ltb-true, ltb-false, eq-eqb, ne-eqb, le-leb, lt-leb}
+use Rattle.columns.proofs.Tests.{both-left, both-right}
 use Rattle.values.specs.declared.Run.{Run}
 use Rattle.values.specs.declared.Number.the-variants.{Bad}
 use Rattle.values.specs.declared.Token.{Token}
@@ -147,14 +148,6 @@ pub ruleset laws = (wrong-none, wrong-many, power-neg, power-pos, power-fits, en
 
 -- ---- what is read does not turn on the cap
 
-pub and-right : (a b : Bool) → (a && b) ≡ true → b ≡ true
-and-right true b e = e
-and-right false b e = absurd (false≢true e)
-
-pub and-left : (a b : Bool) → (a && b) ≡ true → a ≡ true
-and-left true b e = refl
-and-left false b e = e
-
 -- digits spell less than ten to their count
 pub bound : (l : List ℕ) (r : Run) → r .value < 10 ^ (r .count) → scan l r .value < 10 ^ (scan l r .count)
 bound [] r h = h
@@ -162,7 +155,7 @@ bound (c ∷ cs) r h = pick (isDigit c) refl (bound cs (more r c))
   where
     pick : (b : Bool) → isDigit c ≡ b → (more r c .value < 10 ^ (more r c .count) → scan cs (more r c) .value < 10 ^ (scan cs (more r c) .count))
         → cond b (scan cs (more r c)) r .value < 10 ^ (cond b (scan cs (more r c)) r .count)
-    pick true e ih = ih (rw (add-one, pow-suc) (omega (arith, leb-true c 57 (and-right (leb 48 c) (leb c 57) e))))
+    pick true e ih = ih (rw (add-one, pow-suc) (omega (arith, leb-true c 57 (both-right (leb 48 c) (leb c 57) e))))
     pick false e ih = h
 
 power-cap : (neg : Bool) (n v : ℕ) (double : Bool) (from end : ℕ) → v < 10 ^ n → powerOf neg n (min v (10 ^ 17)) double from end ≡ powerOf neg n v double from end
@@ -242,7 +235,7 @@ good-scan [] r g = g
 good-scan (c ∷ cs) r g = pick (isDigit c) refl (good-scan cs (more r c))
   where
     pick : (b : Bool) → isDigit c ≡ b → (Good (more r c) → Good (scan cs (more r c))) → Good (cond b (scan cs (more r c)) r)
-    pick true e ih = ih (good-more r c (leb-true 48 c (and-left (leb 48 c) (leb c 57) e)) (leb-true c 57 (and-right (leb 48 c) (leb c 57) e)) g)
+    pick true e ih = ih (good-more r c (leb-true 48 c (both-left (leb 48 c) (leb c 57) e)) (leb-true c 57 (both-right (leb 48 c) (leb c 57) e)) g)
     pick false e ih = g
 
 pub tens-of : (z k m : ℕ) → z ≤ k → (m % 10 ≡ 0 → ⊥) → tens k (m * 10 ^ z) ≡ z

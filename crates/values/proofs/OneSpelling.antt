@@ -1,7 +1,7 @@
 -- A text that is read back strictly is the spelling of what is read, and each value that a record can hold is read back from its spelling.
 -- Assumes nothing.
 use mathlib.Core.Path.{_≡_, refl, sym, ap, _∙_}
-use mathlib.Core.Bool.{Bool, true, false, cond, _&&_}
+use mathlib.Core.Bool.{Bool, true, false, cond, _&&_, false≢true}
 use mathlib.Core.List.{List, [], _∷_, _++_, append-assoc, append-nil}
 use Prim.Native.Nat.{ℕ, _+_, _-_, _≤_, _<_}
 use native.Mathlib.Omega.{arith}
@@ -143,7 +143,14 @@ placed-item (whole neg size) = refl
 placed-item (real neg m eneg e double) = refl
 placed-item (text bs) = ap text (ap (λ (x : List ℕ). take (length bs) x) (drop-append-seam (head (length bs)) bs) ∙ take-all (length bs) bs (omega arith))
 
--- whether nothing stands there does not turn on the text
+-- nothing stands there in a default alone
+pub default-only : (v : Item) → isDefault v ≡ true → v ≡ default
+default-only default e = refl
+default-only (whole neg size) e = absurd (false≢true e)
+default-only (real neg m eneg x double) e = absurd (false≢true e)
+default-only (text bs) e = absurd (false≢true e)
+
+-- and it does not turn on the text
 pub missing : (t : List ℕ) (v : Value) → isDefault (itemOf t v) ≡ isMissing v
 missing t Default = refl
 missing t (Whole neg size) = refl

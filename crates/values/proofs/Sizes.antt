@@ -8,7 +8,7 @@ use lib.ListN.{length, length-append}
 use lib.Dec.{ltb}
 use Rattle.columns.specs.Columns.{printable}
 use Rattle.columns.specs.Decimal.{dec, minus}
-use Rattle.columns.proofs.Decimals.{dec-some, length-dec-le, length-minus, dec-digits, print-digits}
+use Rattle.columns.proofs.Decimals.{dec-some, length-dec-le, length-minus, print-dec, print-minus}
 use Rattle.columns.proofs.Looks.{print-both}
 use Rattle.values.specs.declared.Number.{Number}
 use Rattle.values.specs.Value.{Item, default, whole, real, text, tenTo, exponent, head, spelled, Normal, nought, times, over, Fine, fine-default, fine-whole, fine-real, fine-text, Printed}
@@ -61,14 +61,6 @@ spelled-short (fine-real k double) = omega (arith, number-short is-real (fine-re
 spelled-short (fine-text bs a b) = omega (arith, length-append (head (length bs)) bs, head-short (length bs) b)
 
 -- ---- bytes
-
-print-dec : (n : ℕ) → printable (dec n) ≡ true
-print-dec n = print-digits (dec-digits n)
-
-print-minus : (neg : Bool) → printable (minus neg) ≡ true
-unfolding printable
-print-minus true = refl
-print-minus false = refl
 
 print-exponent : (eneg : Bool) (e : ℕ) (double : Bool) → printable (exponent eneg e double) ≡ true
 unfolding printable
