@@ -74,7 +74,7 @@ module _ (l : List ℕ) (two : 2 ≤ length l) where
 pub says-within : (l : List ℕ) → Within (length l) (saysOf l)
 says-within l =
     says-each (Within (length l)) l (λ b. tt) (λ m s. marked-long l m) (λ m. global-within l (marked-long l m)) (λ known m. entry-within l)
-    (λ reference m. value-within l (marked-long l m) reference) (λ n. tt)
+    (λ reference m. value-within l (marked-long l m) reference) (λ m e. tt)
 
 pub line-within : (s : List ℕ) (at end : ℕ) (r : Said) → r ≡ saysOf (columns s at end) → at ≤ end → end ≤ length s → Within (end - at) r
 line-within s at end r e h k = rw (e, ← length-columns s at end h k) (says-within (columns s at end))

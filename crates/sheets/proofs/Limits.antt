@@ -66,4 +66,4 @@ module _ (l : List ℕ) where
   start-can e = leb-true (length (drop 2 l)) 72 (both-left (leb (length (drop 2 l)) 72) _ e)
 
 pub says-can : (l : List ℕ) → Can l (saysOf l)
-says-can l = says-each (Can l) l (λ b. tt) (λ m e. start-can l e) (λ m. global-can l) (λ known m. entry-can l) (λ reference m. value-can l reference) (λ n. tt)
+says-can l = says-each (Can l) l (λ b. tt) (λ m e. start-can l e) (λ m. global-can l) (λ known m. entry-can l) (λ reference m. value-can l reference) (λ m e. tt)

@@ -28,7 +28,8 @@ marked-long (a ∷ (b ∷ l)) m = omega arith
 
 module _ (P : Said → Type 0) (l : List ℕ) (nothing : (b : Bool) → P (Nothing b)) (start : Marked l 83 → isStart (drop 2 l) ≡ true → P Start)
     (global : Marked l 71 → P (globalLine (drop 2 l))) (entry : (known : Bool) → Marked l (cond known 69 85) → P (entryLineOf (entryOf l)))
-    (value : (reference : Bool) → Marked l (cond reference 82 86) → P (valueOf reference (strictOf (drop 2 l)))) (last : (n : ℕ) → P (Last n)) where
+    (value : (reference : Bool) → Marked l (cond reference 82 86) → P (valueOf reference (strictOf (drop 2 l))))
+    (last : Marked l 90 → isPlain (drop 2 l) ≡ true → P (Last (plainOf (drop 2 l)))) where
   by-mark : getD l 1 0 ≡ 9 → P (byMark (getD l 0 0) l (drop 2 l))
   unfolding byMark startLine lastLine
   by-mark t =
@@ -37,7 +38,7 @@ module _ (P : Said → Type 0) (l : List ℕ) (nothing : (b : Bool) → P (Nothi
       (λ _. cond-cases P (eqb b 69 || eqb b 85) _ _ (by-entry (eqb b 69) refl)
       (λ _. cond-cases P (eqb b 82) _ _ (λ e. value true (is 82 e))
       (λ _. cond-cases P (eqb b 86) _ _ (λ e. value false (is 86 e))
-      (λ _. cond-cases P (eqb b 90) _ _ (λ _. cond-cases P (isPlain (drop 2 l)) (Last (plainOf (drop 2 l))) (Nothing false) (λ _. last (plainOf (drop 2 l))) (λ _. nothing false))
+      (λ _. cond-cases P (eqb b 90) _ _ (λ e. cond-cases P (isPlain (drop 2 l)) (Last (plainOf (drop 2 l))) (Nothing false) (last (is 90 e)) (λ _. nothing false))
       (λ _. nothing false))))))
     where
       b : ℕ

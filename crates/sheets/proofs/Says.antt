@@ -27,11 +27,12 @@ use Rattle.directory.specs.Fields.{inOrder}
 use Rattle.sheets.specs.declared.EntryLine.{EntryLine}
 use Rattle.sheets.specs.declared.EntryLine.the-variants.{Got, Wrong}
 use Rattle.sheets.specs.declared.Said.{Said}
-use Rattle.sheets.specs.declared.Said.the-variants.{Start, Global, Last, Nothing}
+use Rattle.sheets.specs.declared.Said.the-variants.{Global, Nothing}
 use Rattle.sheets.specs.Plain.{plainOf, isPlain, sized}
 use Rattle.sheets.specs.Line.{run, isLabel, spells, entryOf, labelOf, entryLine}
 use Rattle.sheets.specs.Sheet.{Line, start, global, entry, value, last, none, lineFrom, into, piecesOf, isMark, isStart, startLine, globalOf, isFieldNumber, isNumbered, globalLine, entryLineOf, valueOf, lastLine, byMark, saysOf, saidBy, lastPiece, saidByAll, lineOf, textOf}
 use Rattle.sheets.specs.WellFormed.{Held, Filled}
+use Rattle.sheets.proofs.Marks.{Marked, says-each}
 use Rattle.sheets.proofs.Machine.{has-number, global-right}
 use Rattle.sheets.proofs.Digits.{plain-round, plain-back}
 use Rattle.sheets.proofs.Round.{No, one, no-append, no-plain, no-dec, no-spell, run-field, run-cut, AllFit, nil, cons, entry-round, label-round, entry-back, Spelt}
@@ -271,9 +272,9 @@ told-if : (c : Bool) (l : List ℕ) (x : Said) (b : Bool) → (c ≡ true → We
 told-if true l x b f = told (f refl .0) (f refl .1)
 told-if false l x b f = untold l b
 
-start-told : (t : List ℕ) → Told (83 ∷ (9 ∷ t)) (lineFrom (83 ∷ (9 ∷ t)) (startLine t))
-unfolding startLine lineOf
-start-told t = told-if (isStart t) (83 ∷ (9 ∷ t)) Start false (λ e. (w-start e, refl))
+start-told : (t : List ℕ) → isStart t ≡ true → Told (83 ∷ (9 ∷ t)) (start t)
+unfolding lineOf
+start-told t e = told (w-start e) refl
 
 global-told : (t : List ℕ) → Told (71 ∷ (9 ∷ t)) (lineFrom (71 ∷ (9 ∷ t)) (globalLine t))
 unfolding globalLine lineOf
@@ -330,15 +331,9 @@ value-told reference m t c = pick (strictOf t) refl
         told (w-value (record { fine = z .fine; printed = z .printed })) (rw (c, z .text))
     pick Not e = untold (m ∷ (9 ∷ t)) true
 
-last-told : (t : List ℕ) → Told (90 ∷ (9 ∷ t)) (lineFrom (90 ∷ (9 ∷ t)) (lastLine t))
-unfolding lastLine lineOf
-last-told t =
-    told-if (isPlain t) (90 ∷ (9 ∷ t)) (Last (plainOf t)) false
-    (λ e. (w-last (plain-back t e .1), ap (λ (x : List ℕ). 90 ∷ (9 ∷ x)) (plain-back t e .0)))
-
-says-other : (b : ℕ) (t : List ℕ) → (b ≡ 83 → ⊥) → (b ≡ 71 → ⊥) → (b ≡ 69 → ⊥) → (b ≡ 85 → ⊥) → (b ≡ 82 → ⊥) → (b ≡ 86 → ⊥) → (b ≡ 90 → ⊥) → saysOf (b ∷ (9 ∷ t)) ≡ Nothing false
-unfolding saysOf byMark
-says-other b t a c d f g h k = simp (ne-eqb _ _ a, ne-eqb _ _ c, ne-eqb _ _ d, ne-eqb _ _ f, ne-eqb _ _ g, ne-eqb _ _ h, ne-eqb _ _ k)
+last-told : (t : List ℕ) → isPlain t ≡ true → Told (90 ∷ (9 ∷ t)) (last (plainOf t))
+unfolding lineOf
+last-told t e = told (w-last (plain-back t e .1)) (ap (λ (x : List ℕ). 90 ∷ (9 ∷ x)) (plain-back t e .0))
 
 says-untabbed : (l : List ℕ) → (getD l 1 0 ≡ 9 → ⊥) → saysOf l ≡ Nothing (isMark (getD l 0 0))
 unfolding saysOf
@@ -350,28 +345,15 @@ two (x ∷ []) q = absurd (omega arith)
 two (x ∷ (y ∷ l)) q = rw q
 
 mark-told : (b : ℕ) (t : List ℕ) → Told (b ∷ (9 ∷ t)) (lineFrom (b ∷ (9 ∷ t)) (saysOf (b ∷ (9 ∷ t))))
-mark-told b t = elim (ℕ-discrete b 83) [
-  | yes e ↦ rw (e, says-start t) (start-told t)
-  | no a ↦ elim (ℕ-discrete b 71) [
-    | yes e ↦ rw (e, says-global t) (global-told t)
-    | no c ↦ elim (ℕ-discrete b 69) [
-      | yes e ↦ rw (e, says-entry true t) (entry-told (69 ∷ (9 ∷ t)))
-      | no d ↦ elim (ℕ-discrete b 85) [
-        | yes e ↦ rw (e, says-entry false t) (entry-told (85 ∷ (9 ∷ t)))
-        | no f ↦ elim (ℕ-discrete b 82) [
-          | yes e ↦ rw (e, says-value true t) (value-told true 82 t refl)
-          | no g ↦ elim (ℕ-discrete b 86) [
-            | yes e ↦ rw (e, says-value false t) (value-told false 86 t refl)
-            | no h ↦ elim (ℕ-discrete b 90) [
-              | yes e ↦ rw (e, says-last t) (last-told t)
-              | no k ↦ rw (says-other b t a c d f g h k) (untold (b ∷ (9 ∷ t)) false)
-            ]
-          ]
-        ]
-      ]
-    ]
-  ]
-]
+mark-told b t =
+    says-each (λ (x : Said). Told l (lineFrom l x)) l (untold l) (λ m e. rw (is m) (start-told t e)) (λ m. rw (is m) (global-told t)) (λ known m. entry-told l)
+    (λ reference m. value-told reference b t (sym (m .mark))) (λ m e. rw (is m) (last-told t e))
+  where
+    l : List ℕ
+    l = b ∷ (9 ∷ t)
+
+    is : {c : ℕ} → Marked l c → b ≡ c
+    is m = m .mark
 
 line-told : (l : List ℕ) → Told l (saidBy l)
 unfolding saidBy

@@ -92,7 +92,7 @@ marked-value l false m = rw (m .tab, m .mark)
 no-line : (l : List ℕ) → isValue l ≡ false → NoValue (saysOf l)
 no-line l h =
     says-each NoValue l (λ b. tt) (λ m s. tt) (λ m. no-globals (drop 2 l)) (λ known m. no-entry (entryOf l)) (λ reference m. absurd (true-false (marked-value l reference m) h))
-    (λ n. tt)
+    (λ m e. tt)
 
 -- ---- as a walk meets them
 
