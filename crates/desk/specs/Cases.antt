@@ -35,7 +35,11 @@ answered (gives n) = refuses n
 
 -- a to k are those of `values/Cases`; l is about the status
 abbrev table : List Case
-table = map (λ (e : String × Answer). value (e .0) (answered (e .1))) values-table ++ (status "       1" passes ∷ status "00000003" (refuses 9) ∷ [])
+table =
+    map (λ (e : String × Answer). value (e .0) (answered (e .1))) values-table
+    ++ (status "       1" passes
+    ∷ status "00000003" (refuses 9)
+    ∷ [])
 
 abbrev told : Values → Told
 told (values vs end) = reads-as (map spelled vs)
