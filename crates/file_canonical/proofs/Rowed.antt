@@ -23,7 +23,7 @@ use Rattle.model.specs.Model.{Carried}
 use Rattle.model.specs.Canonical.{parameterText, blockOf, parameterLines}
 use Rattle.file_blocks.specs.Blocks.{behindValues, firstBegins, recordText, blockLines}
 use Rattle.file_canonical.specs.declared.Place.{Place}
-use Rattle.file_canonical.specs.Laying.{carried, entriesIn, entriesAt, numberOf, directoryBytes, parameterBytes, Owing, OwingAt, bothLaid, Turn, Turned, valuesBehind, blockCount, labelBefore, EntryFits, EntryLaid}
+use Rattle.file_canonical.specs.Laying.{carried, entriesIn, entriesAt, numberOf, directoryBytes, parameterBytes, Owing, OwingAt, bothLaid, Turn, Turned, valuesBehind, blockCount, labelBefore, EntryHasRoom, EntryLaid}
 use Rattle.file_canonical.proofs.Totals.{block-lines}
 use Rattle.file_canonical.proofs.Laying.{owing-less, owing-none}
 use Rattle.file_canonical.proofs.Sections.{directory-first, parameter-first, parameter-lines, directory-none, parameter-none, block-length}
@@ -76,7 +76,7 @@ module _ (t : List ℕ) (x : Place) (k e : ℕ) (f : Fields) (u : Turn t x k) (s
   row-few : x .from .0 + blockCount t e (f .entity .size) ≤ 9999999
   row-few = omega (arith, u .few, lines-are)
 
-  pub row-fits : EntryFits t x k e (f .entity .size)
+  pub row-fits : EntryHasRoom t x k e (f .entity .size)
   row-fits = record {
     low = omega (arith, s .low);
     high = s .high;
@@ -128,11 +128,11 @@ pub entry-laid : {o o1 o2 : List ℕ} {next lines d number : ℕ} (t : List ℕ)
     → EntryLaid o t x k end f o2 (place next d (x .p + 81 * lines) (x .from .0 + lines))
 entry-laid t x k end f n b c l i w = record { wrote = rw (← n, ← c, ← b) w; p = rw c; from = rw c; lines = l; inside = i }
 
-pub count-few : {lines : ℕ} (t : List ℕ) (x : Place) (k end typ : ℕ) → EntryFits t x k end typ → lines ≡ blockCount t end typ → x .from .0 + lines ≤ 9999999
+pub count-few : {lines : ℕ} (t : List ℕ) (x : Place) (k end typ : ℕ) → EntryHasRoom t x k end typ → lines ≡ blockCount t end typ → x .from .0 + lines ≤ 9999999
 count-few t x k end typ f e = omega (arith, f .few)
 
 -- its directory number has room in its columns, and so has the one behind it
-module _ {number : ℕ} (t : List ℕ) (x : Place) (k end typ : ℕ) (f : EntryFits t x k end typ) (e : number ≡ numberOf k) where
+module _ {number : ℕ} (t : List ℕ) (x : Place) (k end typ : ℕ) (f : EntryHasRoom t x k end typ) (e : number ≡ numberOf k) where
   pub number-few : number ≤ 9999999
   number-few = omega (arith, f .number)
 
@@ -146,7 +146,7 @@ module _ (t : List ℕ) (x : Place) (k e : ℕ) (u : Turn t x k) (some : 0 < len
     read : EntryStands t (x .at) k e f
     read = entry-stands t (x .at) k e (u .rows) (u .lines) some en lo hi p g
 
-    pub turn-fits : EntryFits t x k e (f .entity .size)
+    pub turn-fits : EntryHasRoom t x k e (f .entity .size)
     turn-fits = row-fits t x k e f u read
 
     pub turn-turned : {o o′ : List ℕ} {z : Place} → EntryLaid o t x k e f o′ z → Turned o t x k o′ z

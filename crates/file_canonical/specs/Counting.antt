@@ -18,10 +18,11 @@ use Rattle.file_canonical.specs.declared.Tally.{Tally}
 use Rattle.file_canonical.specs.declared.Lines.{Lines}
 use Rattle.file_canonical.specs.declared.Lines.the-variants.{Are, TooMany}
 
--- the columns of a G line and of a P line that hold values
+-- the columns of a G line that hold values
 abbrev pub globalColumns : ℕ
 globalColumns = 72
 
+-- those of a P line
 abbrev pub columnsHeld : ℕ
 columnsHeld = 64
 
@@ -33,6 +34,7 @@ behind w p v = p + length (piece w p v false)
 abbrev pub skipped : ℕ → ℕ → ℕ
 skipped field n = n - suc field
 
+-- a tally by its numbers, in their order
 abbrev pub tally : ℕ → ℕ → ℕ → ℕ → ℕ → ℕ → Tally
 tally s end field d p at = record { s = s; global = end; field = field; d = d; p = p; at = at }
 
@@ -58,6 +60,7 @@ withEntry x lines end = tally (x .s) (x .global) (x .field) (x .d + 2) (x .p + l
 abbrev pub withValue : Tally → ℕ → Tally
 withValue x end = tally (x .s) (x .global) (x .field) (x .d) (x .p) end
 
+-- any line
 abbrev pub tallyLine : Tally → Line → Tally
 tallyLine x (start t) = withStart x
 tallyLine x (global n v) = withGlobal x n (behind globalColumns (x .global + skipped (x .field) n) v)
@@ -104,6 +107,7 @@ linesOfSheet ls = within (tallied begun ls)
 abbrev pub mostColumns : ℕ
 mostColumns = mostLines * columnsHeld
 
+-- the position behind a value line's value, up to there
 unfoldable pub behindValue : ℕ → Item → ℕ
 behindValue p v = cond (leb p mostColumns) (behind columnsHeld p v) p
 

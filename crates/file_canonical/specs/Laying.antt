@@ -66,11 +66,13 @@ startBytes n ts = joined (section 83 n (map (toLeft startColumns) ts))
 
 -- ---- G
 
+-- the G lines of these fields
 unfoldable pub globalBytes : List (ℕ × Item) → List ℕ
 globalBytes gs = joined (section 71 1 (inLines 72 (globalText gs)))
 
 -- ---- D and P
 
+-- an entry of these numbers, label and values
 abbrev pub carried : Fields → List ℕ → List Item → Carried
 carried x label vs = record { fields = x; label = label; values = vs }
 
@@ -149,7 +151,8 @@ blockCount t end typ = lineCount 64 (length (recordText typ (valuesBehind t end)
 abbrev pub labelBefore : List ℕ → ℕ → List ℕ
 labelBefore t end = take (end - (end - 8)) (drop (end - 8) t)
 
-pub record EntryFits (t : List ℕ) (x : Place) (k end typ : ℕ) : Type 0 where
+-- its line is whole, and its D and P lines have room where they come
+pub record EntryHasRoom (t : List ℕ) (x : Place) (k end typ : ℕ) : Type 0 where
   pub low : 8 ≤ end
   pub high : end < length t
   pub small : typ ≤ 2147483647
@@ -160,6 +163,7 @@ pub record EntryFits (t : List ℕ) (x : Place) (k end typ : ℕ) : Type 0 where
   pub unbroken : Unbroken (linesIn (drop (end + 1) t))
   pub number : 2 * k + 2 ≤ 9999999
 
+-- they are laid, and y is where the next entry stands
 pub record EntryLaid (o t : List ℕ) (x : Place) (k end : ℕ) (f : Fields) (o′ : List ℕ) (y : Place) : Type 0 where
   pub wrote :
       Wrote (laid o (x .p) (joined (section 80 (x .from .0) (blockLines (numberOf k) (f .entity .size) (valuesBehind t end))))) (x .d)

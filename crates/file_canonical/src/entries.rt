@@ -11,14 +11,14 @@ use sheets_read::entry_at;
 ghost use mathlib.Core.Path.{_≡_};
 ghost use Prim.Native.Nat.{_<_};
 ghost use lib.ListN.{length};
-ghost use Rattle.file_canonical.specs.Laying.{entriesAt, bothLaid, Turn, Turned, EntryFits, EntryLaid};
+ghost use Rattle.file_canonical.specs.Laying.{entriesAt, bothLaid, Turn, Turned, EntryHasRoom, EntryLaid};
 
 // The columns of a label.
 const LABEL: usize = 8;
 
 // Lays the lines of entry k, whose line ends at `end` and has these numbers: the values behind it tell how many P lines it has.
 fn put_entry(out: &mut [u8], t: &[u8], x: Place, k: usize, end: usize, fields: Fields) -> Place
-    requires { ⌜ EntryFits (now t) x k end (fields .entity .size) ⌝ }
+    requires { ⌜ EntryHasRoom (now t) x k end (fields .entity .size) ⌝ }
     ensures { λ r. ⌜ EntryLaid (now (out .entry)) (now (t .entry)) x k end fields (now (out .exit)) r ⌝ }
 {
     let entity = fields.entity;
