@@ -14,6 +14,8 @@ use Rattle.records_flow.proofs.piece_end.Kinds as flow-piece-end-kinds
 use Rattle.records_flow.proofs.piece_end.Reads as flow-piece-end-reads
 use Rattle.records_flow.proofs.spelled_end.Kinds as flow-spelled-end-kinds
 use Rattle.records_flow.proofs.spelled_end.Reads as flow-spelled-end-reads
+use Rattle.records_flow.proofs.line_count.Kinds as flow-line-count-kinds
+use Rattle.records_flow.proofs.line_count.Reads as flow-line-count-reads
 use Rattle.records_global.proofs.opening_of.Kinds as global-opening-of-kinds
 use Rattle.records_global.proofs.opening_of.Reads as global-opening-of-reads
 use Rattle.records_global.proofs.stray.Kinds as global-stray-kinds
@@ -57,6 +59,9 @@ flow-piece-end κs a z z′ left left′ p q = (once (p .0) (q .0), refl)
 
 pub flow-spelled-end : NoSecond flow-spelled-end-kinds.ps flow-spelled-end-kinds.r flow-spelled-end-reads.Post
 flow-spelled-end κs a z z′ left left′ p q = (once (p .0) (q .0), refl)
+
+pub flow-line-count : NoSecond flow-line-count-kinds.ps flow-line-count-kinds.r flow-line-count-reads.Post
+flow-line-count κs a z z′ left left′ p q = (once (p .0) (q .0), refl)
 
 -- ---- global
 

@@ -2,7 +2,7 @@
 use mathlib.Core.Path.{_≡_, sym, ap, _∙_}
 use mathlib.Core.Bool.{false}
 use mathlib.Core.List.{List, [], _∷_, _++_, append-assoc}
-use Prim.Native.Nat.{ℕ, _+_, _-_, _*_, _/_, _≤_, _<_}
+use Prim.Native.Nat.{ℕ, _+_, _-_, _*_, _≤_}
 use native.Mathlib.Nat.{zero-add}
 use native.Mathlib.Omega.{arith}
 use lib.ListN.{length, set, replicate, length-append}
@@ -12,7 +12,7 @@ use Rattle.values.specs.Value.{Item, spelled}
 use Rattle.records.specs.Flow.{firm, gap, piece, flow, lineCount, inLines}
 use Rattle.records.specs.Written.{indexOf, over, Put}
 use Rattle.records.proofs.Puts.{over-over, put-length, Owed, owed-less}
-use Rattle.records.proofs.Lines.{lines-hold, lines-few, join-lines}
+use Rattle.records.proofs.Lines.{join-lines}
 use Rattle.file_blocks.specs.Writing.{parted}
 
 -- the same characters by another name
@@ -78,21 +78,6 @@ ended base w h {o} {o1} {o2} {p} l t et x e =
     e ∙ ap (λ (y : List ℕ). over base w y p bs) e1 ∙ ap (λ (k : ℕ). over base w (over base w o 0 t) k bs) e2 ∙ over-over base w o 0 t bs ∙ ap (over base w o 0) e3
 
 -- ---- what the code asks
-
-module _ (w p r : ℕ) where
-  pub count-is : r ≡ (p + (w - 1)) / w → r ≡ lineCount w p
-  unfolding lineCount
-  count-is e = e
-
-  pub count-holds : r ≡ (p + (w - 1)) / w → 1 ≤ w → p ≤ r * w
-  unfolding lineCount
-  count-holds e h = rw e (lines-hold w p h)
-
-  pub count-few : r ≡ (p + (w - 1)) / w → 1 ≤ w → r * w < p + w
-  unfolding lineCount
-  count-few e h = rw e (lines-few w p h)
-
-pub ruleset counting = (count-is, count-holds, count-few)
 
 pub close-is : {base w p q r a : ℕ} {o o1 o2 : List ℕ} → r ≡ lineCount w p → Put base w o (p - 1) (59 ∷ []) o1 q → q ≡ p - 1 + 1 → 1 ≤ p → Put base w o1 q (replicate (r * w - q) 32) o2 a
     → o2 ≡ over base w (over base w o (p - 1) (59 ∷ [])) p (replicate (lineCount w p * w - p) 32)

@@ -1,21 +1,12 @@
 // A record's text ended: ';' for the last ',' and blanks to the end of its last line.
 ghost use mathlib.Core.Path.{_≡_};
 ghost use mathlib.Core.List.{[], _∷_};
-ghost use Prim.Native.Nat.{_+_, _-_, _*_, _^_, _≤_, _<_};
+ghost use Prim.Native.Nat.{_-_, _*_, _^_, _≤_};
 ghost use lib.ListN.{replicate};
 ghost use Rattle.records.specs.Flow.{lineCount};
 ghost use Rattle.records.specs.Written.{over};
 
 const SEMICOLON: u8 = 59;
-
-// How many lines of w columns p characters take.
-fn line_count(w: usize, p: usize) -> usize
-    requires { ⌜ (1 ≤ w) × (w ≤ 80) × (p ≤ 2 ^ 40) ⌝ }
-    ensures { λ r. ⌜ r ≡ lineCount w p ⌝ }
-    ensures { λ r. ⌜ (p ≤ r * w) × (r * w < p + w) ⌝ }
-{
-    (p + (w - 1)) / w
-}
 
 // Ends the record whose values take p characters, each with ',' behind it: ';' stands at last, and blanks fill its last line.
 pub fn close(out: &mut [u8], base: usize, w: usize, p: usize) -> usize
@@ -23,7 +14,7 @@ pub fn close(out: &mut [u8], base: usize, w: usize, p: usize) -> usize
     ensures { λ r. ⌜ now (out .exit) ≡ over base w (over base w (now (out .entry)) (p - 1) (59 ∷ [])) p (replicate (lineCount w p * w - p) 32) ⌝ }
     ensures { λ r. ⌜ r ≡ lineCount w p ⌝ }
 {
-    let lines = line_count(w, p);
+    let lines = records_flow::line_count(w, p);
     let at = records_flow::put_char(out, base, w, p - 1, SEMICOLON);
     records_flow::put_run(out, base, w, at, 32, lines * w - at);
     lines

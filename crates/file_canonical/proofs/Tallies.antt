@@ -2,8 +2,7 @@
 use mathlib.Core.Path.{_≡_, refl, sym, ap, _∙_}
 use mathlib.Core.Bool.{Bool, false}
 use mathlib.Core.List.{List}
-use Prim.Native.Nat.{ℕ, _+_, _-_, _/_, _^_, _≤_, _<_}
-use native.Mathlib.Nat.{div-le-self}
+use Prim.Native.Nat.{ℕ, _+_, _^_, _≤_, _<_}
 use native.Mathlib.Omega.{arith}
 use lib.ListN.{length, drop}
 use borrow.Author.Tests.{le-leb, lt-leb}
@@ -89,14 +88,6 @@ pub under-more : (b c : ℕ) (x : Tally) → Under b x → b ≤ c → Under c x
 under-more b c x u h = record { s = omega arith; global = omega arith; d = omega arith; p = omega arith; at = omega arith }
 
 -- ---- what the functions are asked
-module _ (w n : ℕ) where
-  pub count-is : (n + (w - 1)) / w ≡ lineCount w n
-  unfolding lineCount
-  count-is = refl
-
-  pub count-low : w ≤ 80 → (n + (w - 1)) / w ≤ n + 79
-  count-low h = omega (arith, div-le-self (n + (w - 1)) w)
-
 module _ (x : Tally) where
   pub global-is : (n : ℕ) (v : Value) {k e : ℕ} → k ≡ skipped (x .field) n → e ≡ pieceEnd globalColumns (x .global + k) v → withGlobal x n e ≡ withGlobal x n (pieceEnd globalColumns (x .global + skipped (x .field) n) v)
   global-is n v p q = rw (q, p)
@@ -197,4 +188,4 @@ pub ruleset fullness = (total-under, total-few, capped-here, within-here, capped
 
 pub ruleset said = (said-start, said-global, said-entry, said-value, said-last, said-none, short-global, short-value, under-more)
 
-pub ruleset tallies = (count-is, count-low, global-is, entry-is, value-is, total-is, counts-are)
+pub ruleset tallies = (global-is, entry-is, value-is, total-is, counts-are)

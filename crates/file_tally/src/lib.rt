@@ -3,6 +3,7 @@ use cards::Counts;
 use cards::MOST_LINES;
 use file_canonical::Lines;
 use file_canonical::Tally;
+use records_flow::line_count;
 use records_flow::piece_end;
 use records_flow::spelled_end;
 use sheets::Said;
@@ -25,13 +26,6 @@ const COLUMNS: usize = 64;
 
 // Those of the P lines that a file may have.
 const MOST_COLUMNS: usize = MOST_LINES * COLUMNS;
-
-fn line_count(w: usize, n: usize) -> usize
-    requires { ⌜ (1 ≤ w) × (w ≤ 80) × (n ≤ 2 ^ 40) ⌝ }
-    ensures { λ r. ⌜ (r ≡ lineCount w n) × (r ≤ n + 79) ⌝ }
-{
-    (n + (w - 1)) / w
-}
 
 // How many fields are default between two that are given.
 fn skipped(field: u32, n: u32) -> usize

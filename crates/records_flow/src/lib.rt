@@ -4,11 +4,11 @@ use records::position::index_of;
 use values::Value;
 ghost use mathlib.Core.Path.{_≡_};
 ghost use mathlib.Core.List.{[], _∷_, _++_};
-ghost use Prim.Native.Nat.{_+_, _^_, _≤_, _<_};
+ghost use Prim.Native.Nat.{_+_, _*_, _^_, _≤_, _<_};
 ghost use lib.ListN.{length, replicate};
 ghost use Rattle.values.specs.Value.{itemOf};
 ghost use Rattle.values.specs.Writing.{front, chars};
-ghost use Rattle.records.specs.Flow.{gap, delimiter, piece};
+ghost use Rattle.records.specs.Flow.{gap, delimiter, piece, lineCount};
 ghost use Rattle.records.specs.Reading.{Writable};
 ghost use Rattle.records.specs.Written.{Put, Room, copied, pieceEnd};
 
@@ -200,4 +200,13 @@ pub fn spelled_end(w: usize, p: usize, n: usize, v: Value) -> usize
     let k = copied_of(v);
     let g = gap_of(w, p, n - k + 1);
     p + g + n + 1
+}
+
+// How many lines of w columns p characters take.
+pub fn line_count(w: usize, p: usize) -> usize
+    requires { ⌜ (1 ≤ w) × (w ≤ 80) × (p ≤ 2 ^ 40) ⌝ }
+    ensures { λ r. ⌜ r ≡ lineCount w p ⌝ }
+    ensures { λ r. ⌜ (p ≤ r * w) × (r * w < p + w) ⌝ }
+{
+    (p + (w - 1)) / w
 }
