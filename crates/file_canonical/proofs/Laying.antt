@@ -32,7 +32,3 @@ owing-less {o} {o′} {o″} {d} {q} {r} a b ds ps w z =
 
 pub owing-none : {o o′ : List ℕ} {d q : ℕ} → Owing o o′ d [] q [] → o′ ≡ o
 owing-none {o} {o′} {d} {q} w = sym (w .bytes ∙ ap (λ (l : List ℕ). laid l q []) (laid-nil o′ d) ∙ laid-nil o′ q)
-
--- nothing is laid yet, and the second region begins where the first ends
-pub owing-all : (o : List ℕ) (d : ℕ) (ds ps : List ℕ) (q : ℕ) → q ≡ d + length ds → Owing (laid o d (ds ++ ps)) o d ds q ps
-owing-all o d ds ps q e = record { bytes = rw e (sym (laid-laid o d ds ps)); apart = omega arith }

@@ -1,7 +1,7 @@
 -- The parts of a sheet's lines are the parts of the sheet. Assumes nothing.
 use mathlib.Core.Path.{_≡_, refl, ap, _∙_}
 use mathlib.Core.List.{List, [], _∷_, map}
-use Prim.Native.Nat.{ℕ, _-_}
+use Prim.Native.Nat.{ℕ}
 use Rattle.values.specs.Value.{Item}
 use Rattle.sheets.specs.Sheet.{Line, Row, Sheet, startLines, globalLines, rowLines, linesOf}
 use Rattle.model.specs.Model.{carriedOf}

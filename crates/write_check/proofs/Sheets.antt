@@ -21,10 +21,6 @@ use Rattle.write_lines.proofs.Lines.{or-assoc}
 
 -- ---- passes one after another
 
-pub pass-then : {A B : Type 0} (o : Outcome A) (k : Outcome B) → passOf (o then λ _. k) ≡ orElse (passOf o) (passOf k)
-pass-then (accepted a) k = refl
-pass-then (refused n p) k = refl
-
 pass-each : {A : Type 0} (o : Outcome A) (xs : Outcome (List A)) → passOf (o then λ z. xs then λ zs. accepted (z ∷ zs)) ≡ orElse (passOf o) (passOf xs)
 pass-each (accepted a) (accepted bs) = refl
 pass-each (accepted a) (refused n p) = refl

@@ -2,7 +2,7 @@
 use mathlib.Core.Path.{_≡_, refl, sym, ap, _∙_}
 use mathlib.Core.Bool.{Bool, true, false, cond, _||_}
 use mathlib.Core.List.{List}
-use Prim.Native.Nat.{ℕ, _+_, _-_, _≤_}
+use Prim.Native.Nat.{ℕ, _+_, _≤_}
 use native.Mathlib.Omega.{arith}
 use lib.ListN.{getD, drop}
 use lib.Dec.{eqb}
@@ -146,19 +146,9 @@ said-rule place l ls (Given reference v) = refl
 said-rule place l ls (Last n) = refl
 said-rule place l ls (Nothing b) = refl
 
-quiet-rule : (place : ℕ) (x : Said) → Quiet x → saidRule place x ≡ Good
-quiet-rule place Start q = refl
-quiet-rule place (Given reference v) q = refl
-quiet-rule place (Last n) q = refl
-quiet-rule place (Nothing b) q = refl
-
 pub rule-said : (place : ℕ) (l : List ℕ) (ls : List Line) (x : Said) → x ≡ saysOf l → saidRule place x ≡ lineCheck globalRule rowRules place (saidBy l) ls
 unfolding saidBy
 rule-said place l ls x ex = ap (saidRule place) ex ∙ said-rule place l ls (saysOf l)
-
-pub rule-line : (place : ℕ) (l : List ℕ) (ls : List Line) (x : Said) (r : Pass) → x ≡ headOf l → r ≡ saidRule place x → r ≡ lineCheck globalRule rowRules place (saidBy l) ls
-unfolding saidBy
-rule-line place l ls x r ex er = er ∙ ap (saidRule place) ex ∙ head-tells (saidRule place) (quiet-rule place) l ∙ said-rule place l ls (saysOf l)
 
 -- ---- 10
 

@@ -72,5 +72,3 @@ names-other types Default h = refl
 names-other types (Whole neg size) h = absurd (miss (0 ∷ 2 ∷ 3 ∷ []) 1 tt h)
 names-other types (Real neg m eneg e double) h = refl
 names-other types (Text start count) h = refl
-
-pub ruleset others = (rule-other, class-other, references-other, entity-other, names-other)

@@ -25,10 +25,10 @@ use Rattle.model.specs.Write.{globalRule, rowRules}
 use Rattle.write_lines.specs.declared.Pass.{Pass}
 use Rattle.write_lines.specs.declared.Pass.the-variants.{Good, Refused}
 use Rattle.write_lines.specs.Lines.{passOf, orElse, lineCheck, linesPass}
-use Rattle.write_lines.specs.Heads.{headOf, saidRule}
+use Rattle.write_lines.specs.Heads.{saidRule}
 use Rattle.write_lines.specs.Passes.{rulesPass}
 use Rattle.write_lines.proofs.Lines.{or-good, or-assoc, pass-end, pass-piece, pass-line}
-use Rattle.write_lines.proofs.Heading.{rule-line, rule-said}
+use Rattle.write_lines.proofs.Heading.{rule-said}
 use Rattle.write_lines.proofs.Others.{rule-other}
 
 module _ (place : ℕ) (x : Said) where
@@ -67,13 +67,7 @@ module _ (r : Pass) (t : List ℕ) (at place : ℕ) (first : Pass) (inv : orElse
     pub rules-piece : end ≡ n → first ≡ r
     rules-piece h = sym (or-good first) ∙ (rw (pass-piece t at n all globalRule rowRules place end lt lo hi en h) at inv)
 
-    pub rules-on : (end ≡ n → ⊥) → (x : Said) (y : Pass) → x ≡ headOf (columns t at end) → y ≡ orElse first (saidRule place x)
-        → orElse y (linesPass globalRule rowRules (place + 1) (linesIn (drop (end + 1) t))) ≡ r
-    rules-on h x y ex ey =
-        let q : saidRule place x ≡ lineCheck globalRule rowRules place (saidBy (columns t at end)) (linesIn (drop (end + 1) t)) = rule-line place (columns t at end) (linesIn (drop (end + 1) t)) x (saidRule place x) ex refl in
-        rw (ey, or-assoc first (saidRule place x) (linesPass globalRule rowRules (place + 1) (linesIn (drop (end + 1) t))), q, ← pass-line t at n all globalRule rowRules place end lt lo hi en h) inv
-
-    -- the same of all that the line says
+    -- a whole line
     pub rules-said : (end ≡ n → ⊥) → (x : Said) (y : Pass) → x ≡ saysOf (columns t at end) → y ≡ orElse first (saidRule place x)
         → orElse y (linesPass globalRule rowRules (place + 1) (linesIn (drop (end + 1) t))) ≡ r
     rules-said h x y ex ey =

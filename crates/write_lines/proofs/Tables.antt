@@ -105,13 +105,7 @@ module _ (t : List ℕ) (at n : ℕ) (all : n ≡ length t) where
 
     -- what is still to be laid
     module _ (o g : List ℕ) (k : ℕ) (inv : laid o k (classesIn (linesIn (drop at t))) ≡ g) where
-      pub fill-on : (end ≡ n → ⊥) → (x : Said) {o′ : List ℕ} {m : ℕ} → x ≡ headOf (columns t at end) → Wrote o k (withClass (saidClass x) []) o′ m
-          → laid o′ m (classesIn (linesIn (drop (end + 1) t))) ≡ g
-      fill-on h x ex w =
-          let rest : List ℕ = classesIn (linesIn (drop (end + 1) t)) in
-          rw (w .bytes, w .next) (laid-laid o k (withClass (saidClass x) []) rest ∙ ap (laid o k) (sym (with-line (saidClass x) rest) ∙ sym (left h (saidClass x) (ap saidClass ex))) ∙ inv)
-
-      -- the same of all that the line says
+      -- a whole line
       pub fill-said : (end ≡ n → ⊥) → (x : Said) {o′ : List ℕ} {m : ℕ} → x ≡ saysOf (columns t at end) → Wrote o k (withClass (saidClass x) []) o′ m
           → laid o′ m (classesIn (linesIn (drop (end + 1) t))) ≡ g
       fill-said h x ex w =
@@ -138,7 +132,7 @@ fill-start o t = refl
 pub wrote-length : {o : List ℕ} {at : ℕ} {bs o′ : List ℕ} {r : ℕ} → Wrote o at bs o′ r → (m : ℕ) → length o ≡ m → length o′ ≡ m
 wrote-length {o} {at} {bs} w m e = ap length (w .bytes) ∙ length-laid o at bs ∙ e
 
-pub ruleset laying = (fill-on, fill-piece, fill-end, fill-start, wrote-length)
+pub ruleset laying = (fill-piece, fill-end, fill-start, wrote-length)
 
 -- ---- a line's class into the table
 
@@ -215,5 +209,3 @@ filled m c n t em e en g = record {
   count = en;
   good = g;
 }
-
-pub ruleset filling = (filled)
