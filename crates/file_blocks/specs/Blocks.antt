@@ -5,12 +5,13 @@ use mathlib.Core.Bool.{Bool, true, false}
 use mathlib.Core.List.{List, [], _∷_, _++_, map}
 use Prim.Native.Nat.{ℕ}
 use Rattle.values.specs.Value.{Item, whole}
+use Rattle.columns.specs.Columns.{joined}
 use Rattle.records.specs.Flow.{flow, inLines}
-use Rattle.cards.specs.Written.{zeros}
+use Rattle.cards.specs.Written.{zeros, section}
 use Rattle.sheets.specs.Sheet.{Line, start, global, entry, value, last, none}
 use Rattle.model.specs.Model.{valueIn}
-use Rattle.model.specs.Canonical.{owned}
-use Rattle.sheets_rows.specs.Rows.{valuesFirst}
+use Rattle.model.specs.Canonical.{globalText, owned}
+use Rattle.sheets_rows.specs.Rows.{linesAt, valuesFirst}
 
 -- ---- the lines of a sheet from a place on
 
@@ -50,6 +51,10 @@ Unbroken ls = firstBegins (behindValues ls) ≡ false
 abbrev pub itemsFirst : List Line → List Item
 itemsFirst ls = map valueIn (valuesFirst ls)
 
+-- those of a text from a place on
+abbrev pub itemsAt : List ℕ → ℕ → List Item
+itemsAt t at = itemsFirst (linesAt t at)
+
 -- a G line adds its field to those behind it; no other line has any
 abbrev pub globalWith : Line → List (ℕ × Item) → List (ℕ × Item)
 globalWith (start t) gs = []
@@ -64,6 +69,10 @@ unfoldable pub globalsFirst : List Line → List (ℕ × Item)
 globalsFirst [] = []
 globalsFirst (l ∷ ls) = globalWith l (globalsFirst ls)
 
+-- those of a text from a place on
+abbrev pub fieldsAt : List ℕ → ℕ → List (ℕ × Item)
+fieldsAt t at = globalsFirst (linesAt t at)
+
 -- a G line is passed over, any other line stops
 abbrev pub passGlobal : Line → List Line → List Line → List Line
 passGlobal (start t) ls rest = start t ∷ ls
@@ -77,6 +86,12 @@ passGlobal (none b) ls rest = none b ∷ ls
 unfoldable pub behindGlobals : List Line → List Line
 behindGlobals [] = []
 behindGlobals (l ∷ ls) = passGlobal l ls (behindGlobals ls)
+
+-- ---- the G record
+
+-- the G lines of these fields
+unfoldable pub globalBytes : List (ℕ × Item) → List ℕ
+globalBytes gs = joined (section 71 1 (inLines 72 (globalText gs)))
 
 -- ---- an entity's record
 

@@ -12,10 +12,10 @@ use Rattle.values.specs.Value.{Item, itemOf}
 use Rattle.records.specs.Flow.{piece}
 use Rattle.records.specs.Global.{lastField}
 use Rattle.records.specs.Reading.{Writable}
-use Rattle.sheets.specs.Sheet.{linesIn}
+use Rattle.sheets_rows.specs.Rows.{linesAt}
 use Rattle.file_blocks.specs.declared.GlobalLine.{GlobalLine}
 use Rattle.file_blocks.specs.declared.GlobalLine.the-variants.{Field, Otherwise}
-use Rattle.file_blocks.specs.Blocks.{globalsFirst, behindGlobals, tailOf}
+use Rattle.file_blocks.specs.Blocks.{fieldsAt, behindGlobals, tailOf}
 
 -- ---- a record before it ends
 
@@ -44,13 +44,13 @@ pub record FieldStands (t : List ℕ) (at number from end : ℕ) (v : Value) : T
   pub high : end < length t
   pub field : number ≤ lastField
   pub writable : Writable (end - from) v
-  pub fields : globalsFirst (linesIn (drop at t)) ≡ (number, itemOf (take (end - from) (drop from t)) v) ∷ globalsFirst (linesIn (drop (end + 1) t))
-  pub behind : behindGlobals (linesIn (drop at t)) ≡ behindGlobals (linesIn (drop (end + 1) t))
+  pub fields : fieldsAt t at ≡ (number, itemOf (take (end - from) (drop from t)) v) ∷ fieldsAt t (end + 1)
+  pub behind : behindGlobals (linesAt t at) ≡ behindGlobals (linesAt t (end + 1))
 
 -- no G line stands at this place
 pub record FieldsEnd (t : List ℕ) (at : ℕ) : Type 0 where
-  pub fields : globalsFirst (linesIn (drop at t)) ≡ []
-  pub behind : behindGlobals (linesIn (drop at t)) ≡ linesIn (drop at t)
+  pub fields : fieldsAt t at ≡ []
+  pub behind : behindGlobals (linesAt t at) ≡ linesAt t at
 
 -- there is a G line, or they end
 abbrev pub FieldAt : List ℕ → ℕ → GlobalLine → Type 0

@@ -70,7 +70,8 @@ pub fn put_entry_lines(
     number: DirectoryNumber,
 ) -> usize
     requires { ⌜ (at < 2 ^ 58) × (length (now label) ≤ 8) × (number .0 + 1 ≤ 9999999) ⌝ }
-    ensures { λ r. ⌜ Wrote (now (out .entry)) at (joined (section 68 (number .0) (entryLines x (from .0) count (now (label .entry))))) (now (out .exit)) r ⌝ }
+    ensures { λ r. ⌜ Wrote (now (out .entry)) at
+        (joined (section 68 (number .0) (entryLines x (from .0) count (now (label .entry))))) (now (out .exit)) r ⌝ }
     ensures { λ r. ⌜ r ≤ at + 522 ⌝ }
 {
     let n = number.0 as usize;
@@ -83,7 +84,8 @@ pub fn put_entry_lines(
 // The columns of T.
 fn put_totals(out: &mut [u8], at: usize, c: Counts) -> usize
     requires { ⌜ (at < 2 ^ 59) × (c .s ≤ 9999999) × (c .g ≤ 9999999) × (c .d ≤ 9999999) × (c .p ≤ 9999999) ⌝ }
-    ensures { λ r. ⌜ Wrote (now (out .entry)) at ((83 ∷ zeros (c .s)) ++ ((71 ∷ zeros (c .g)) ++ ((68 ∷ zeros (c .d)) ++ (80 ∷ zeros (c .p))))) (now (out .exit)) r ⌝ }
+    ensures { λ r. ⌜ Wrote (now (out .entry)) at
+        ((83 ∷ zeros (c .s)) ++ ((71 ∷ zeros (c .g)) ++ ((68 ∷ zeros (c .d)) ++ (80 ∷ zeros (c .p))))) (now (out .exit)) r ⌝ }
     ensures { λ r. ⌜ r ≡ at + 32 ⌝ }
 {
     let e = put_count(out, at, START, wide(c.s));

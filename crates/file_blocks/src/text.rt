@@ -11,7 +11,8 @@ const SEMICOLON: u8 = 59;
 // Ends the record whose values take p characters, each with ',' behind it: ';' stands at last, and blanks fill its last line.
 pub fn close(out: &mut [u8], base: usize, w: usize, p: usize) -> usize
     requires { ⌜ (base ≤ 2 ^ 40) × (1 ≤ p) × (p ≤ 2 ^ 40) × (1 ≤ w) × (w ≤ 80) ⌝ }
-    ensures { λ r. ⌜ now (out .exit) ≡ over base w (over base w (now (out .entry)) (p - 1) (59 ∷ [])) p (replicate (lineCount w p * w - p) 32) ⌝ }
+    ensures { λ r. ⌜ now (out .exit)
+        ≡ over base w (over base w (now (out .entry)) (p - 1) (59 ∷ [])) p (replicate (lineCount w p * w - p) 32) ⌝ }
     ensures { λ r. ⌜ r ≡ lineCount w p ⌝ }
 {
     let lines = records_flow::line_count(w, p);

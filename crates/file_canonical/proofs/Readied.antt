@@ -23,10 +23,10 @@ use Rattle.sheets.specs.WellFormed.{Each}
 use Rattle.sheets.proofs.Sheets.{good-written}
 use Rattle.model.specs.Model.{Carried, Model, carriedOf, modelOf}
 use Rattle.model.specs.Canonical.{startLines as startTexts, globalText, globalLines as globalTexts, directoryLines, parameterLines, lineTotal, canonical}
-use Rattle.file_blocks.specs.Blocks.{behindGlobals}
+use Rattle.file_blocks.specs.Blocks.{behindGlobals, globalBytes}
 use Rattle.file_canonical.specs.declared.Lines.the-variants.{Are, TooMany}
 use Rattle.file_canonical.specs.Counting.{linesOfSheet}
-use Rattle.file_canonical.specs.Laying.{startsFirst, behindStarts, startBytes, globalBytes, entriesIn, directoryBytes, parameterBytes, fieldsIn, fileBytes, Ranged, Ready}
+use Rattle.file_canonical.specs.Laying.{startsFirst, behindStarts, startBytes, entriesIn, directoryBytes, parameterBytes, fieldsIn, fileBytes, Ranged, Ready}
 use Rattle.file_canonical.proofs.Totals.{countsFor, directory-two, global-count, start-count}
 use Rattle.file_canonical.proofs.Good.{few-lines, many-lines}
 use Rattle.file_canonical.proofs.Sections.{joined-both, Wide, section-length, global-length, parameter-length}

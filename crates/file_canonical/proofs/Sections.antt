@@ -18,7 +18,8 @@ use Rattle.directory.specs.Lines.{entryLines}
 use Rattle.model.specs.Model.{Carried}
 use Rattle.model.specs.Canonical.{globalText, parameterText, owned, blockOf, directoryLines, parameterLines}
 use Rattle.file_canonical.proofs.Totals.{entry-two}
-use Rattle.file_canonical.specs.Laying.{numberOf, globalBytes, directoryBytes, parameterBytes}
+use Rattle.file_blocks.specs.Blocks.{globalBytes}
+use Rattle.file_canonical.specs.Laying.{numberOf, directoryBytes, parameterBytes}
 
 pub joined-both : (a b : List (List ℕ)) → joined (a ++ b) ≡ joined a ++ joined b
 unfolding joined

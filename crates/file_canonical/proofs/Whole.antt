@@ -14,8 +14,8 @@ use Rattle.cards.specs.Cards.{mostLines}
 use Rattle.cards.specs.Written.{lineOf, section, totalsOf}
 use Rattle.sheets.specs.Sheet.{linesIn}
 use Rattle.model.specs.Canonical.{globalText}
-use Rattle.file_blocks.specs.Blocks.{globalsFirst, behindGlobals}
-use Rattle.file_canonical.specs.Laying.{startsFirst, behindStarts, startBytes, globalBytes, entriesIn, entriesAt, directoryBytes, parameterBytes, bothLaid, Turn, fieldsIn, TextsFit, TextsLaid, fileBytes, Ready}
+use Rattle.file_blocks.specs.Blocks.{globalsFirst, behindGlobals, globalBytes}
+use Rattle.file_canonical.specs.Laying.{startsFirst, behindStarts, startBytes, entriesIn, entriesAt, directoryBytes, parameterBytes, bothLaid, Turn, fieldsIn, TextsFit, TextsLaid, fileBytes, Ready}
 use Rattle.file_canonical.proofs.Sections.{global-length, parameter-length}
 
 -- laid where the last write ended
@@ -43,9 +43,8 @@ module _ (t : List ℕ) (s : ℕ) (f : TextsFit (linesIn t) s) (at : ℕ) (l : l
   texts-few = omega (arith, g-lines)
 
   pub texts-laid : {o o1 o2 : List ℕ} {next : ℕ} → Wrote o 0 (startBytes 1 (startsFirst (linesIn t))) o1 (81 * s)
-      → o2 ≡ laid o1 (81 * s) (joined (section 71 1 (inLines 72 (globalText (globalsFirst (linesIn (drop at t)))))))
+      → o2 ≡ laid o1 (81 * s) (globalBytes (globalsFirst (linesIn (drop at t))))
       → linesIn (drop next t) ≡ behindGlobals (linesIn (drop at t)) → next ≤ length t → TextsLaid o t s o2 next
-  unfolding globalBytes
   texts-laid {o} {o1} {o2} {next} a b m i =
       let gs = fieldsIn (linesIn t) in
       let g = lineCount 72 (length (globalText gs)) in

@@ -9,7 +9,7 @@ use Rattle.columns.specs.Columns.{lineBytes, joined}
 use Rattle.columns.specs.Decimal.{toLeft}
 use Rattle.columns.specs.Laid.{laid, Wrote}
 use Rattle.values.specs.Value.{Item}
-use Rattle.records.specs.Flow.{lineCount, inLines}
+use Rattle.records.specs.Flow.{lineCount}
 use Rattle.cards.specs.declared.Counts.{Counts}
 use Rattle.cards.specs.Cards.{mostLines, total}
 use Rattle.cards.specs.Written.{lineOf, section, totalsOf}
@@ -17,9 +17,10 @@ use Rattle.directory.specs.declared.Fields.{Fields}
 use Rattle.directory.specs.Lines.{entryLines}
 use Rattle.directory.specs.Rules.{rangesOk}
 use Rattle.sheets.specs.Sheet.{Line, start, global, entry, value, last, none, Row, rowLines, linesIn}
+use Rattle.sheets_rows.specs.Rows.{linesAt}
 use Rattle.model.specs.Model.{Carried}
 use Rattle.model.specs.Canonical.{startColumns, globalText, directoryLines, parameterLines}
-use Rattle.file_blocks.specs.Blocks.{behindValues, Unbroken, itemsFirst, globalsFirst, behindGlobals, recordText, blockLines}
+use Rattle.file_blocks.specs.Blocks.{behindValues, Unbroken, itemsFirst, itemsAt, globalsFirst, behindGlobals, globalBytes, recordText, blockLines}
 use Rattle.file_canonical.specs.declared.Place.{Place}
 
 -- ---- S
@@ -57,18 +58,12 @@ pub record StartStands (t : List ℕ) (at end : ℕ) : Type 0 where
   pub low : at + 2 ≤ end
   pub high : end < length t
   pub short : end ≤ at + 2 + 72
-  pub texts : startsFirst (linesIn (drop at t)) ≡ take (end - (at + 2)) (drop (at + 2) t) ∷ startsFirst (linesIn (drop (end + 1) t))
-  pub behind : behindStarts (linesIn (drop at t)) ≡ behindStarts (linesIn (drop (end + 1) t))
+  pub texts : startsFirst (linesAt t at) ≡ take (end - (at + 2)) (drop (at + 2) t) ∷ startsFirst (linesAt t (end + 1))
+  pub behind : behindStarts (linesAt t at) ≡ behindStarts (linesAt t (end + 1))
 
 -- S lines from number n on
 unfoldable pub startBytes : ℕ → List (List ℕ) → List ℕ
 startBytes n ts = joined (section 83 n (map (toLeft startColumns) ts))
-
--- ---- G
-
--- the G lines of these fields
-unfoldable pub globalBytes : List (ℕ × Item) → List ℕ
-globalBytes gs = joined (section 71 1 (inLines 72 (globalText gs)))
 
 -- ---- D and P
 
@@ -92,7 +87,7 @@ entriesIn (l ∷ ls) = entryWith l ls (entriesIn ls)
 
 -- those of a text from a place on
 abbrev pub entriesAt : List ℕ → ℕ → List Carried
-entriesAt t at = entriesIn (linesIn (drop at t))
+entriesAt t at = entriesIn (linesAt t at)
 
 -- the directory number of entry k, from 0, which is also the number of its first D line
 abbrev pub numberOf : ℕ → ℕ
@@ -124,7 +119,7 @@ bothLaid o t x k =
 -- the entries from entry k on stand at a place, and their lines have room
 pub record Turn (t : List ℕ) (x : Place) (k : ℕ) : Type 0 where
   pub rows : List Row
-  pub lines : linesIn (drop (x .at) t) ≡ rowLines k rows
+  pub lines : linesAt t (x .at) ≡ rowLines k rows
   pub inside : x .at ≤ length t
   pub apart : x .d + length (directoryBytes k (x .from .0) (entriesAt t (x .at))) ≤ x .p
   pub room : x .p + lineBytes * length (parameterLines (numberOf k) (entriesAt t (x .at))) ≤ 2 ^ 36
@@ -141,7 +136,7 @@ pub record Turned (o t : List ℕ) (x : Place) (k : ℕ) (o′ : List ℕ) (y : 
 
 -- its values
 abbrev pub valuesBehind : List ℕ → ℕ → List Item
-valuesBehind t end = itemsFirst (linesIn (drop (end + 1) t))
+valuesBehind t end = itemsAt t (end + 1)
 
 -- its P lines
 abbrev pub blockCount : List ℕ → ℕ → ℕ → ℕ
@@ -160,7 +155,7 @@ pub record EntryHasRoom (t : List ℕ) (x : Place) (k end typ : ℕ) : Type 0 wh
   pub p : x .p ≤ 2 ^ 36
   pub few : x .from .0 + blockCount t end typ ≤ 9999999
   pub room : length (recordText typ (valuesBehind t end)) ≤ 2 ^ 36
-  pub unbroken : Unbroken (linesIn (drop (end + 1) t))
+  pub unbroken : Unbroken (linesAt t (end + 1))
   pub number : 2 * k + 2 ≤ 9999999
 
 -- they are laid, and y is where the next entry stands
@@ -170,7 +165,7 @@ pub record EntryLaid (o t : List ℕ) (x : Place) (k end : ℕ) (f : Fields) (o�
       (joined (section 68 (numberOf k) (entryLines f (x .from .0) (blockCount t end (f .entity .size)) (labelBefore t end)))) o′ (y .d)
   pub p : y .p ≡ x .p + lineBytes * blockCount t end (f .entity .size)
   pub from : y .from .0 ≡ x .from .0 + blockCount t end (f .entity .size)
-  pub lines : linesIn (drop (y .at) t) ≡ behindValues (linesIn (drop (end + 1) t))
+  pub lines : linesAt t (y .at) ≡ behindValues (linesAt t (end + 1))
   pub inside : y .at ≤ length t
 
 -- ---- the file
@@ -190,12 +185,17 @@ pub record TextsLaid (o t : List ℕ) (s : ℕ) (o′ : List ℕ) (next : ℕ) :
   pub wrote :
       Wrote o 0 (startBytes 1 (startsFirst (linesIn t)) ++ globalBytes (fieldsIn (linesIn t))) o′
       (lineBytes * (s + lineCount 72 (length (globalText (fieldsIn (linesIn t))))))
-  pub lines : linesIn (drop next t) ≡ behindGlobals (behindStarts (linesIn t))
+  pub lines : linesAt t next ≡ behindGlobals (behindStarts (linesIn t))
   pub inside : next ≤ length t
 
 -- the sections' bytes one behind the other
 unfoldable pub fileBytes : List Line → Counts → List ℕ
-fileBytes ls c = startBytes 1 (startsFirst ls) ++ (globalBytes (fieldsIn ls) ++ (directoryBytes 0 1 (entriesIn ls) ++ (parameterBytes 0 1 (entriesIn ls) ++ lineOf (totalsOf c) 84 1)))
+fileBytes ls c =
+    startBytes 1 (startsFirst ls)
+    ++ (globalBytes (fieldsIn ls)
+    ++ (directoryBytes 0 1 (entriesIn ls)
+    ++ (parameterBytes 0 1 (entriesIn ls)
+    ++ lineOf (totalsOf c) 84 1)))
 
 -- an entry's numbers keep their ranges (rule 9), so that each has room in its eight columns
 abbrev pub Ranged : Row → Type 0

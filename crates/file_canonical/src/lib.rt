@@ -7,8 +7,8 @@ mod starts;
 use cards::Counts;
 use columns::ParameterLine;
 
-// What the lines of a sheet so far come to: S lines; the position behind the G record's last value, and that value's field; D lines, and the P lines
-// of the entries before the last; the position behind the last entry's last value.
+// What the lines of a sheet so far come to: S lines; the position behind the G record's last value, and that value's field; D lines, and
+// the P lines of the entries before the last; the position behind the last entry's last value.
 pub struct Tally {
     pub s: usize,
     pub global: usize,

@@ -3,14 +3,15 @@ use file_blocks::lines::put_start_line;
 use sheets_read::end_of;
 ghost use mathlib.Core.Path.{_≡_};
 ghost use Prim.Native.Nat.{_*_, _≤_, _<_};
-ghost use lib.ListN.{length, drop};
+ghost use lib.ListN.{length};
 ghost use Rattle.columns.specs.Laid.{Wrote};
 ghost use Rattle.sheets.specs.Sheet.{linesIn};
+ghost use Rattle.sheets_rows.specs.Rows.{linesAt};
 ghost use Rattle.file_canonical.specs.Laying.{startsFirst, behindStarts, StartStands, startBytes};
 
 // Where the start line at `at` ends.
 fn start_end(t: &[u8], at: usize) -> usize
-    requires { ⌜ (at ≤ length (now t)) × (0 < length (startsFirst (linesIn (drop at (now t))))) ⌝ }
+    requires { ⌜ (at ≤ length (now t)) × (0 < length (startsFirst (linesAt (now t) at))) ⌝ }
     ensures { λ r. ⌜ StartStands (now (t .entry)) at r ⌝ }
 {
     end_of(t, at)
@@ -20,7 +21,7 @@ fn start_end(t: &[u8], at: usize) -> usize
 pub fn put_starts(out: &mut [u8], t: &[u8], s: usize) -> usize
     requires { ⌜ (length (startsFirst (linesIn (now t))) ≡ s) × (s ≤ 9999998) ⌝ }
     ensures { λ r. ⌜ Wrote (now (out .entry)) 0 (startBytes 1 (startsFirst (linesIn (now (t .entry))))) (now (out .exit)) (81 * s) ⌝ }
-    ensures { λ r. ⌜ linesIn (drop r (now (t .entry))) ≡ behindStarts (linesIn (now (t .entry))) ⌝ }
+    ensures { λ r. ⌜ linesAt (now (t .entry)) r ≡ behindStarts (linesIn (now (t .entry))) ⌝ }
     ensures { λ r. ⌜ r ≤ length (now (t .entry)) ⌝ }
 {
     let mut at = 0;

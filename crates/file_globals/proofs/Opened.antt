@@ -13,6 +13,7 @@ use Rattle.records.specs.Written.{over, Put}
 use Rattle.records.proofs.Puts.{then, put-length}
 use Rattle.cards.specs.Written.{section}
 use Rattle.model.specs.Canonical.{filled, globalText}
+use Rattle.file_blocks.specs.Blocks.{globalBytes}
 use Rattle.file_blocks.specs.Writing.{parted, tailed}
 use Rattle.file_blocks.proofs.Filed.{filed}
 use Rattle.file_blocks.proofs.Ended.{put-same, body, parted-body, flow-body, ended}
@@ -96,8 +97,8 @@ module _ {base p : ℕ} {o oa : List ℕ} (gs : List (ℕ × Item)) (x : Put bas
 
       pub opened : {oc od : List ℕ} → 1 + lineCount 72 (length (globalText gs)) ≤ 9999999
           → oc ≡ over base 72 (over base 72 ob (end - 1) (59 ∷ [])) end (replicate (lineCount 72 end * 72 - end) 32) → od ≡ tailed oc (base + 72) [] 71 1 lines
-          → od ≡ laid o base (joined (section 71 1 (inLines 72 (globalText gs))))
-      unfolding inLines
+          → od ≡ laid o base (globalBytes gs)
+      unfolding inLines globalBytes
       opened {oc} {od} k c e =
           let n = lineCount 72 (length text) in
           let s = splits gs in

@@ -11,18 +11,16 @@ use values::Value;
 ghost use mathlib.Core.Path.{_≡_};
 ghost use mathlib.Core.List.{[], _∷_};
 ghost use Prim.Native.Nat.{_+_, _-_, _^_, _≤_, _<_};
-ghost use lib.ListN.{length, drop};
-ghost use Rattle.columns.specs.Columns.{joined};
+ghost use lib.ListN.{length};
 ghost use Rattle.columns.specs.Laid.{laid};
 ghost use Rattle.values.specs.Value.{itemOf};
-ghost use Rattle.records.specs.Flow.{lineCount, inLines};
+ghost use Rattle.records.specs.Flow.{lineCount};
 ghost use Rattle.records.specs.Global.{firstField, lastField};
 ghost use Rattle.records.specs.Reading.{Writable};
 ghost use Rattle.records.specs.Written.{Put};
-ghost use Rattle.cards.specs.Written.{section};
-ghost use Rattle.sheets.specs.Sheet.{linesIn};
 ghost use Rattle.model.specs.Canonical.{filled, globalText};
-ghost use Rattle.file_blocks.specs.Blocks.{globalsFirst, behindGlobals};
+ghost use Rattle.sheets_rows.specs.Rows.{linesAt};
+ghost use Rattle.file_blocks.specs.Blocks.{fieldsAt, behindGlobals, globalBytes};
 ghost use Rattle.file_blocks.specs.Writing.{parted, tailed, FieldAt};
 
 // The columns of a G line that hold values.
@@ -88,7 +86,8 @@ fn put_field(
     v: Value,
 ) -> usize
     requires { ⌜ (base ≤ 2 ^ 40) × (p ≤ 2 ^ 39) × (number ≤ lastField) × Writable (length (now src)) v ⌝ }
-    ensures { λ r. ⌜ Put base 72 (now (out .entry)) p (parted 72 p (filled n ((number, itemOf (now (src .entry)) v) ∷ []))) (now (out .exit)) r ⌝ }
+    ensures { λ r. ⌜ Put base 72 (now (out .entry)) p
+        (parted 72 p (filled n ((number, itemOf (now (src .entry)) v) ∷ []))) (now (out .exit)) r ⌝ }
 {
     let a = records_flow::put_run(out, base, COLUMNS, p, COMMA, missing(n, number));
     records_flow::put_piece(out, base, COLUMNS, a, src, v, false)
@@ -96,9 +95,12 @@ fn put_field(
 
 // The fields of the G lines from `at` on, the first of them number 3, from position p of the record on.
 fn put_fields(out: &mut [u8], base: usize, t: &[u8], at: usize, p: usize) -> Flowed
-    requires { ⌜ (at ≤ length (now t)) × (base ≤ 2 ^ 40) × (p + length (parted 72 p (filled firstField (globalsFirst (linesIn (drop at (now t)))))) ≤ 2 ^ 39) ⌝ }
-    ensures { λ r. ⌜ Put base 72 (now (out .entry)) p (parted 72 p (filled firstField (globalsFirst (linesIn (drop at (now (t .entry))))))) (now (out .exit)) (r .end) ⌝ }
-    ensures { λ r. ⌜ linesIn (drop (r .next) (now (t .entry))) ≡ behindGlobals (linesIn (drop at (now (t .entry)))) ⌝ }
+    requires { ⌜ (at ≤ length (now t))
+        × (base ≤ 2 ^ 40)
+        × (p + length (parted 72 p (filled firstField (fieldsAt (now t) at))) ≤ 2 ^ 39) ⌝ }
+    ensures { λ r. ⌜ Put base 72 (now (out .entry)) p
+        (parted 72 p (filled firstField (fieldsAt (now (t .entry)) at))) (now (out .exit)) (r .end) ⌝ }
+    ensures { λ r. ⌜ linesAt (now (t .entry)) (r .next) ≡ behindGlobals (linesAt (now (t .entry)) at) ⌝ }
     ensures { λ r. ⌜ (at ≤ r .next) × (r .next ≤ length (now (t .entry))) ⌝ }
 {
     let mut next = at;
@@ -139,11 +141,13 @@ fn put_tails(out: &mut [u8], q: usize, lines: usize)
 
 // The G lines: the opening and the fields of the sheet's G lines from `at` on.
 pub fn put_globals(out: &mut [u8], base: usize, t: &[u8], at: usize) -> Block
-    requires { ⌜ (at ≤ length (now t)) × (base ≤ 2 ^ 36) × (length (globalText (globalsFirst (linesIn (drop at (now t))))) ≤ 2 ^ 36) ⌝ }
-    requires { ⌜ 1 + lineCount 72 (length (globalText (globalsFirst (linesIn (drop at (now t)))))) ≤ 9999999 ⌝ }
-    ensures { λ r. ⌜ now (out .exit) ≡ laid (now (out .entry)) base (joined (section 71 1 (inLines 72 (globalText (globalsFirst (linesIn (drop at (now (t .entry))))))))) ⌝ }
-    ensures { λ r. ⌜ r .lines ≡ lineCount 72 (length (globalText (globalsFirst (linesIn (drop at (now (t .entry))))))) ⌝ }
-    ensures { λ r. ⌜ linesIn (drop (r .next) (now (t .entry))) ≡ behindGlobals (linesIn (drop at (now (t .entry)))) ⌝ }
+    requires { ⌜ (at ≤ length (now t))
+        × (base ≤ 2 ^ 36)
+        × (length (globalText (fieldsAt (now t) at)) ≤ 2 ^ 36) ⌝ }
+    requires { ⌜ 1 + lineCount 72 (length (globalText (fieldsAt (now t) at))) ≤ 9999999 ⌝ }
+    ensures { λ r. ⌜ now (out .exit) ≡ laid (now (out .entry)) base (globalBytes (fieldsAt (now (t .entry)) at)) ⌝ }
+    ensures { λ r. ⌜ r .lines ≡ lineCount 72 (length (globalText (fieldsAt (now (t .entry)) at))) ⌝ }
+    ensures { λ r. ⌜ linesAt (now (t .entry)) (r .next) ≡ behindGlobals (linesAt (now (t .entry)) at) ⌝ }
     ensures { λ r. ⌜ (at ≤ r .next) × (r .next ≤ length (now (t .entry))) ⌝ }
 {
     let p = records_flow::put_all(out, base, COLUMNS, 0, b"1H,,1H;,");

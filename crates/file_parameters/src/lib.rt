@@ -12,7 +12,7 @@ ghost use mathlib.Core.Path.{_≡_};
 ghost use mathlib.Core.Bool.{false};
 ghost use mathlib.Core.List.{_++_};
 ghost use Prim.Native.Nat.{_+_, _^_, _≤_, _<_};
-ghost use lib.ListN.{length, drop};
+ghost use lib.ListN.{length};
 ghost use Rattle.columns.specs.Columns.{joined};
 ghost use Rattle.columns.specs.Laid.{laid, Wrote};
 ghost use Rattle.values.specs.declared.Strict.the-variants.{Is};
@@ -21,8 +21,8 @@ ghost use Rattle.values.specs.Strict.{strictOf, meant};
 ghost use Rattle.records.specs.Flow.{piece, lineCount};
 ghost use Rattle.records.specs.Written.{Put};
 ghost use Rattle.cards.specs.Written.{section};
-ghost use Rattle.sheets.specs.Sheet.{linesIn};
-ghost use Rattle.file_blocks.specs.Blocks.{behindValues, Unbroken, itemsFirst, recordText, blockLines, tailOf};
+ghost use Rattle.sheets_rows.specs.Rows.{linesAt};
+ghost use Rattle.file_blocks.specs.Blocks.{behindValues, Unbroken, itemsAt, recordText, blockLines, tailOf};
 ghost use Rattle.file_blocks.specs.Writing.{parted, ownerOf, tailed};
 
 // The columns of a P line that hold values, and those of its directory number.
@@ -35,7 +35,8 @@ const COMMA: u8 = 44;
 // Writes the value that l spells at position p with ',' behind it: its spelling is its canonical form.
 fn put_spelled(out: &mut [u8], base: usize, p: usize, l: &[u8]) -> usize
     requires { ⌜ (base ≤ 2 ^ 40) × (p ≤ 2 ^ 40) × (strictOf (now l) ≡ Is (meant (now l))) ⌝ }
-    ensures { λ r. ⌜ Put base 64 (now (out .entry)) p (piece 64 p (itemOf (now (l .entry)) (meant (now (l .entry)))) false) (now (out .exit)) r ⌝ }
+    ensures { λ r. ⌜ Put base 64 (now (out .entry)) p
+        (piece 64 p (itemOf (now (l .entry)) (meant (now (l .entry)))) false) (now (out .exit)) r ⌝ }
 {
     let n = values_strict::front_of(l);
     let g = records_flow::gap_of(COLUMNS, p, n + 1);
@@ -44,11 +45,15 @@ fn put_spelled(out: &mut [u8], base: usize, p: usize, l: &[u8]) -> usize
     records_flow::put_char(out, base, COLUMNS, e, COMMA)
 }
 
-// The values of the value lines from `at` on, from position p of the record on. The sheet is good: what begins as a value line is one, and isn't read again.
+// The values of the value lines from `at` on, from position p of the record on. The sheet is good: what begins as a value line is one, and
+// isn't read again.
 fn put_values(out: &mut [u8], base: usize, t: &[u8], at: usize, p: usize) -> Flowed
-    requires { ⌜ (at ≤ length (now t)) × (base ≤ 2 ^ 40) × (p + length (parted 64 p (itemsFirst (linesIn (drop at (now t))))) ≤ 2 ^ 40) × Unbroken (linesIn (drop at (now t))) ⌝ }
-    ensures { λ r. ⌜ Put base 64 (now (out .entry)) p (parted 64 p (itemsFirst (linesIn (drop at (now (t .entry)))))) (now (out .exit)) (r .end) ⌝ }
-    ensures { λ r. ⌜ linesIn (drop (r .next) (now (t .entry))) ≡ behindValues (linesIn (drop at (now (t .entry)))) ⌝ }
+    requires { ⌜ (at ≤ length (now t))
+        × (base ≤ 2 ^ 40)
+        × (p + length (parted 64 p (itemsAt (now t) at)) ≤ 2 ^ 40)
+        × Unbroken (linesAt (now t) at) ⌝ }
+    ensures { λ r. ⌜ Put base 64 (now (out .entry)) p (parted 64 p (itemsAt (now (t .entry)) at)) (now (out .exit)) (r .end) ⌝ }
+    ensures { λ r. ⌜ linesAt (now (t .entry)) (r .next) ≡ behindValues (linesAt (now (t .entry)) at) ⌝ }
     ensures { λ r. ⌜ (at ≤ r .next) × (r .next ≤ length (now (t .entry))) ⌝ }
 {
     let mut next = at;
@@ -99,12 +104,17 @@ pub fn put_block(
     number: DirectoryNumber,
     from: ParameterLine,
 ) -> Block
-    requires { ⌜ (at ≤ length (now t)) × (base ≤ 2 ^ 36) × (typ ≤ 2147483647) × (length (recordText typ (itemsFirst (linesIn (drop at (now t))))) ≤ 2 ^ 36) ⌝ }
-    requires { ⌜ (number .0 ≤ 9999999) × (from .0 + lineCount 64 (length (recordText typ (itemsFirst (linesIn (drop at (now t)))))) ≤ 9999999) ⌝ }
-    requires { ⌜ Unbroken (linesIn (drop at (now t))) ⌝ }
-    ensures { λ r. ⌜ now (out .exit) ≡ laid (now (out .entry)) base (joined (section 80 (from .0) (blockLines (number .0) typ (itemsFirst (linesIn (drop at (now (t .entry)))))))) ⌝ }
-    ensures { λ r. ⌜ r .lines ≡ lineCount 64 (length (recordText typ (itemsFirst (linesIn (drop at (now (t .entry))))))) ⌝ }
-    ensures { λ r. ⌜ linesIn (drop (r .next) (now (t .entry))) ≡ behindValues (linesIn (drop at (now (t .entry)))) ⌝ }
+    requires { ⌜ (at ≤ length (now t))
+        × (base ≤ 2 ^ 36)
+        × (typ ≤ 2147483647)
+        × (length (recordText typ (itemsAt (now t) at)) ≤ 2 ^ 36) ⌝ }
+    requires { ⌜ (number .0 ≤ 9999999)
+        × (from .0 + lineCount 64 (length (recordText typ (itemsAt (now t) at))) ≤ 9999999) ⌝ }
+    requires { ⌜ Unbroken (linesAt (now t) at) ⌝ }
+    ensures { λ r. ⌜ now (out .exit)
+        ≡ laid (now (out .entry)) base (joined (section 80 (from .0) (blockLines (number .0) typ (itemsAt (now (t .entry)) at)))) ⌝ }
+    ensures { λ r. ⌜ r .lines ≡ lineCount 64 (length (recordText typ (itemsAt (now (t .entry)) at))) ⌝ }
+    ensures { λ r. ⌜ linesAt (now (t .entry)) (r .next) ≡ behindValues (linesAt (now (t .entry)) at) ⌝ }
     ensures { λ r. ⌜ (at ≤ r .next) × (r .next ≤ length (now (t .entry))) ⌝ }
 {
     let v = Value::Whole {

@@ -17,7 +17,8 @@ ghost use Rattle.values.specs.Value.{itemOf};
 ghost use Rattle.values.specs.Strict.{strictOf};
 ghost use Rattle.records.specs.Flow.{lineCount};
 ghost use Rattle.records.specs.Written.{copied, pieceEnd};
-ghost use Rattle.file_canonical.specs.Counting.{globalColumns, columnsHeld, skipped, withStart, withGlobal, withEntry, withValue, tallySaid, countsIn, totalIn, within, behindValue, capped, Under, Few, Short};
+ghost use Rattle.file_canonical.specs.Counting.{globalColumns, columnsHeld, skipped, withStart, withGlobal, withEntry, withValue};
+ghost use Rattle.file_canonical.specs.Counting.{tallySaid, countsIn, totalIn, within, behindValue, capped, Under, Few, Short};
 
 // The columns of a G line and of a P line that hold values.
 const GLOBAL_COLUMNS: usize = 72;
@@ -161,7 +162,8 @@ fn total_of(x: Tally) -> usize
     x.s + g + x.d + (x.p + p) + 1
 }
 
-// Behind the value lines of an entry, the last of which ends at this position. Too many lines are told by one too many, so that no sum grows on.
+// Behind the value lines of an entry, the last of which ends at this position. Too many lines are told by one too many, so that no sum
+// grows on.
 pub fn with_values(x: Tally, at: usize) -> Tally
     requires { ⌜ Under (2 ^ 38) x × (at ≤ 2 ^ 38) ⌝ }
     ensures { λ r. ⌜ r ≡ capped (withValue x at) ⌝ }

@@ -2,8 +2,13 @@
 use mathlib.Core.Bool.{Bool}
 use mathlib.Core.List.{List, [], _∷_}
 use Prim.Native.Nat.{ℕ}
+use lib.ListN.{drop}
 use Rattle.values.specs.Value.{Item}
-use Rattle.sheets.specs.Sheet.{Line, start, global, entry, value, last, none}
+use Rattle.sheets.specs.Sheet.{Line, start, global, entry, value, last, none, linesIn}
+
+-- the lines of a text from a place on
+abbrev pub linesAt : List ℕ → ℕ → List Line
+linesAt t at = linesIn (drop at t)
 
 -- a value line adds its value to those behind it; no other line has any
 abbrev pub valueWith : Line → List (Bool × Item) → List (Bool × Item)
