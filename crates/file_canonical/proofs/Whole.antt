@@ -4,14 +4,13 @@ use mathlib.Core.List.{List, _++_, append-assoc}
 use Prim.Native.Nat.{ℕ, _+_, _*_, _^_, _≤_}
 use native.Mathlib.Omega.{arith}
 use lib.ListN.{length, drop}
-use Rattle.columns.specs.Columns.{joined}
 use Rattle.columns.specs.Laid.{laid, Wrote}
 use Rattle.columns.proofs.Writes.{then, wrote-length, wrote-same}
-use Rattle.records.specs.Flow.{lineCount, inLines}
+use Rattle.records.specs.Flow.{lineCount}
 use Rattle.records.proofs.Lines.{lines-hold}
 use Rattle.cards.specs.declared.Counts.{Counts}
 use Rattle.cards.specs.Cards.{mostLines}
-use Rattle.cards.specs.Written.{lineOf, section, totalsOf}
+use Rattle.cards.specs.Written.{lineOf, totalsOf}
 use Rattle.sheets.specs.Sheet.{linesIn}
 use Rattle.model.specs.Canonical.{globalText}
 use Rattle.file_blocks.specs.Blocks.{globalsFirst, behindGlobals, globalBytes}

@@ -20,7 +20,8 @@ use Rattle.sheets.specs.Sheet.{Line, start, global, entry, value, last, none, R
 use Rattle.sheets_rows.specs.Rows.{linesAt}
 use Rattle.model.specs.Model.{Carried}
 use Rattle.model.specs.Canonical.{startColumns, globalText, directoryLines, parameterLines}
-use Rattle.file_blocks.specs.Blocks.{behindValues, Unbroken, itemsFirst, itemsAt, globalsFirst, behindGlobals, globalBytes, recordText, blockLines}
+use Rattle.file_blocks.specs.Blocks.{behindValues, Unbroken, itemsFirst, itemsAt, globalsFirst, behindGlobals}
+use Rattle.file_blocks.specs.Blocks.{globalBytes, recordText, blockLines}
 use Rattle.file_canonical.specs.declared.Place.{Place}
 
 -- ---- S

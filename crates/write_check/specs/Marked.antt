@@ -11,6 +11,7 @@ use Rattle.write_lines.specs.Classes.{tableSize}
 unfoldable pub addedBy : ℕ → ℕ
 addedBy b = cond (eqb b 69 || eqb b 85) 2 0
 
+-- a table that tells the same of n entries
 pub record Marked (n : ℕ) (table table′ : List ℕ) : Type 0 where
   pub size : length table′ ≡ tableSize
   pub same : n ≤ tableSize → table′ ≡ table

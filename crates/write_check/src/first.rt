@@ -1,5 +1,5 @@
-// The first walk over a sheet: its lines in order (17), what each is asked by itself (8, 9, 13), the class of each entry for the table, and how many
-// lines the file has (19).
+// The first walk over a sheet: its lines in order (17), what each is asked by itself (8, 9, 13), the class of each entry for the table,
+// and how many lines the file has (19).
 use crate::Past;
 use crate::Walked;
 use columns::SheetLine;
@@ -26,20 +26,22 @@ use write_lines::rules::rule_too;
 use write_lines::table::keep;
 ghost use mathlib.Core.Path.{_≡_};
 ghost use Prim.Native.Nat.{_^_, _≤_};
-ghost use lib.ListN.{length, drop};
+ghost use lib.ListN.{length};
 ghost use Rattle.columns.specs.Laid.{laid};
 ghost use Rattle.sheets.specs.Sheet.{linesIn};
 ghost use Rattle.sheets.specs.Order.{verdictOf};
+ghost use Rattle.sheets_rows.specs.Rows.{linesAt};
 ghost use Rattle.file_canonical.specs.Counting.{within, linesOfSheet, Under};
 ghost use Rattle.write_lines.specs.Classes.{classesIn};
 ghost use Rattle.write_lines.specs.Passes.{rulesPass};
 ghost use Rattle.write_check.specs.Answers.{IfGood};
 ghost use Rattle.write_check.specs.Ahead.{Ahead};
 
-// Past the value lines from `from` on, as far as they are in order: they have no rule and no class. The first value stands at position p of its record.
+// Past the value lines from `from` on, as far as they are in order: they have no rule and no class. The first value stands at position p
+// of its record.
 fn past_values(t: &[u8], from: usize, begun: State, p: usize) -> Past
     requires { ⌜ (from ≤ length (now t)) × (begun .line ≤ from) × (begun .entries ≤ begun .line) × (p ≤ 2 ^ 38) ⌝ }
-    ensures { λ r. ⌜ Ahead begun p (linesIn (drop from (now (t .entry)))) (r .state) (r .at) (linesIn (drop (r .next) (now (t .entry)))) ⌝ }
+    ensures { λ r. ⌜ Ahead begun p (linesAt (now (t .entry)) from) (r .state) (r .at) (linesAt (now (t .entry)) (r .next)) ⌝ }
     ensures { λ r. ⌜ (from ≤ r .next) × (r .next ≤ length (now (t .entry))) × (r .at ≤ 2 ^ 38) ⌝ }
     ensures { λ r. ⌜ (r .state .line ≤ r .next) × (r .state .entries ≤ r .state .line) ⌝ }
 {
@@ -79,7 +81,8 @@ fn past_values(t: &[u8], from: usize, begun: State, p: usize) -> Past
 pub fn walk(classes: &mut [u8], t: &[u8]) -> Walked
     ensures { λ r. ⌜ r .verdict ≡ verdictOf (now (t .entry)) ⌝ }
     ensures { λ r. ⌜ IfGood (r .verdict) (r .pass ≡ rulesPass (now (t .entry))) ⌝ }
-    ensures { λ r. ⌜ IfGood (r .verdict) (now (classes .exit) ≡ laid (now (classes .entry)) 0 (classesIn (linesIn (now (t .entry))))) ⌝ }
+    ensures { λ r. ⌜ IfGood (r .verdict)
+        (now (classes .exit) ≡ laid (now (classes .entry)) 0 (classesIn (linesIn (now (t .entry))))) ⌝ }
     ensures { λ r. ⌜ IfGood (r .verdict) (within (r .tally) ≡ linesOfSheet (linesIn (now (t .entry)))) ⌝ }
     ensures { λ r. ⌜ Under (2 ^ 36) (r .tally) ⌝ }
 {

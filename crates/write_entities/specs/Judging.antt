@@ -20,10 +20,11 @@ use Rattle.write_lines.specs.Lines.{passOf}
 abbrev pub rightToo : Bool → Bool → Stepped → Bool
 rightToo right reference g = right && equal reference (mark g)
 
+-- a state, and whether all marks were right
 abbrev pub judgedSo : Stepped → Bool → Judged
 judgedSo g right = record { state = g; right = right }
 
--- the same, with the place behind them and how many they are
+-- the same behind values, with the place behind them and how many they are
 abbrev pub valuesOf : Stepped → Bool → ℕ → ℕ → Values
 valuesOf g right next lines = record { state = g; right = right; next = next; lines = lines }
 
@@ -38,4 +39,5 @@ verdictIf inside g = cond inside (ended g) GoodVerdict
 
 -- 14, 15 by the verdict, then 18 by the marks; the entry line's own mark comes first
 unfoldable pub answerOf : Bool → Bool → Judged → ℕ → Pass
-answerOf inside marked j place = passOf (fault (verdictIf inside (j .state)) place then λ _. demand (equal marked inside && j .right) Mark place)
+answerOf inside marked j place =
+    passOf (fault (verdictIf inside (j .state)) place then λ _. demand (equal marked inside && j .right) Mark place)

@@ -22,17 +22,16 @@ use write_lines::table::class_at;
 ghost use mathlib.Core.Path.{_≡_};
 ghost use mathlib.Core.Bool.{true};
 ghost use Prim.Native.Nat.{_+_, _≤_};
-ghost use lib.ListN.{length, drop};
+ghost use lib.ListN.{length};
 ghost use Rattle.layouts.specs.Named.{named};
 ghost use Rattle.layouts.specs.Walk.{stepped};
-ghost use Rattle.sheets.specs.Sheet.{linesIn};
-ghost use Rattle.sheets_rows.specs.Rows.{valuesFirst};
-ghost use Rattle.model.specs.Write.{equal, rowReferences};
-ghost use Rattle.write_lines.specs.Lines.{orElse, noRule, linesPass, Skipped};
+ghost use Rattle.sheets_rows.specs.Rows.{linesAt, valuesFirst};
+ghost use Rattle.model.specs.Write.{equal};
+ghost use Rattle.write_lines.specs.Lines.{orElse, Skipped};
 ghost use Rattle.write_lines.specs.Heads.{saidEntity};
 ghost use Rattle.write_lines.specs.Classes.{sheetTypes, Tabled};
 ghost use Rattle.write_entities.specs.Judging.{rightToo, judgedSo, judged, valuesOf, verdictIf, answerOf};
-ghost use Rattle.write_lines.specs.Passes.{referencesPass, entitiesPass};
+ghost use Rattle.write_lines.specs.Passes.{referencesFrom, referencesPass, entitiesPass};
 
 // The layout's state behind an entity's values, and whether all their marks are right.
 pub struct Judged {
@@ -121,7 +120,8 @@ fn values_of(state: Stepped, right: bool, next: usize, lines: usize) -> Values
 // The values of the value lines from `from` on, from this state.
 fn judge(classes: &[u8], n: usize, t: &[u8], from: usize, begun: Stepped) -> Values
     requires { ⌜ Tabled (now classes) n (now t) × (from ≤ length (now t)) ⌝ }
-    ensures { λ r. ⌜ judgedSo (r .state) (r .right) ≡ judged (sheetTypes (now (t .entry))) begun true (valuesFirst (linesIn (drop from (now (t .entry))))) ⌝ }
+    ensures { λ r. ⌜ judgedSo (r .state) (r .right)
+        ≡ judged (sheetTypes (now (t .entry))) begun true (valuesFirst (linesAt (now (t .entry)) from)) ⌝ }
     ensures { λ r. ⌜ Skipped (now (t .entry)) from (r .next) (r .lines) ⌝ }
     ensures { λ r. ⌜ (from + r .lines ≤ r .next) × (r .next ≤ length (now (t .entry))) ⌝ }
 {
@@ -208,7 +208,8 @@ fn entity_of(
     line: SheetLine,
 ) -> Asked
     requires { ⌜ Tabled (now classes) n (now t) × (from ≤ length (now t)) ⌝ }
-    ensures { λ r. ⌜ r .found ≡ saidEntity list (sheetTypes (now (t .entry))) (line .0) (valuesFirst (linesIn (drop from (now (t .entry))))) said ⌝ }
+    ensures { λ r. ⌜ r .found
+        ≡ saidEntity list (sheetTypes (now (t .entry))) (line .0) (valuesFirst (linesAt (now (t .entry)) from)) said ⌝ }
     ensures { λ r. ⌜ Skipped (now (t .entry)) from (r .next) (r .lines) ⌝ }
     ensures { λ r. ⌜ (from + r .lines ≤ r .next) × (r .next ≤ length (now (t .entry))) ⌝ }
 {
@@ -250,7 +251,7 @@ fn refused_later(
     found: Pass,
 ) -> Pass
     requires { ⌜ Tabled (now classes) n (now t) × (from ≤ length (now t)) × (place .0 ≤ from + 1) ⌝ }
-    ensures { λ r. ⌜ r ≡ orElse (linesPass noRule (rowReferences (sheetTypes (now (t .entry)))) (place .0) (linesIn (drop from (now (t .entry))))) found ⌝ }
+    ensures { λ r. ⌜ r ≡ orElse (referencesFrom (sheetTypes (now (t .entry))) (now (t .entry)) (place .0) from) found ⌝ }
 {
     let named = references(classes, n, t, from, place);
     match named {

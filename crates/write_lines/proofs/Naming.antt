@@ -14,10 +14,10 @@ use Rattle.model.specs.Write.{rowReferences, rowEntityRules}
 use Rattle.sheets_rows.specs.Rows.{valuesFirst}
 use Rattle.write_lines.specs.declared.Pass.{Pass}
 use Rattle.write_lines.specs.declared.Pass.the-variants.{Good, Refused}
-use Rattle.write_lines.specs.Lines.{orElse, noRule, linesPass, Skipped}
+use Rattle.write_lines.specs.Lines.{orElse, noRule, Skipped}
 use Rattle.write_lines.specs.Heads.{headOf, saidReferences, saidEntity}
 use Rattle.write_lines.specs.Classes.{sheetTypes}
-use Rattle.write_lines.specs.Passes.{referencesPass, entitiesPass}
+use Rattle.write_lines.specs.Passes.{referencesFrom, entitiesFrom, referencesPass, entitiesPass}
 use Rattle.write_lines.proofs.Lines.{pass-end, pass-piece, pass-line, behind}
 use Rattle.write_lines.proofs.Heading.{references-line, entity-line}
 
@@ -34,64 +34,55 @@ pub ruleset firsts = (first-refused, first-good)
 
 -- ---- the passes from a place on
 
-module _ (types t : List ℕ) where
-  -- 10 from `at` on
-  abbrev pub references-from : ℕ → ℕ → Pass
-  references-from place at = linesPass noRule (rowReferences types) place (linesIn (drop at t))
-
-  -- 14, 15, 18 from `at` on
-  abbrev pub entities-from : ℕ → ℕ → ℕ → Pass
-  entities-from list place at = linesPass noRule (rowEntityRules list types) place (linesIn (drop at t))
-
 module _ (list : ℕ) (types t : List ℕ) (at place n : ℕ) (all : n ≡ length t) (r : Pass) where
-  pub refer-end : references-from types t place at ≡ r → n ≤ at → Good ≡ r
+  pub refer-end : referencesFrom types t place at ≡ r → n ≤ at → Good ≡ r
   refer-end inv h = sym (pass-end t at n all noRule (rowReferences types) place h) ∙ inv
 
-  pub names-end : orElse (references-from types t place at) (entities-from types t list place at) ≡ r → n ≤ at → Good ≡ r
+  pub names-end : orElse (referencesFrom types t place at) (entitiesFrom list types t place at) ≡ r → n ≤ at → Good ≡ r
   names-end inv h = rw (pass-end t at n all noRule (rowReferences types) place h, pass-end t at n all noRule (rowEntityRules list types) place h) at inv
 
   module _ (end : ℕ) (lt : at < n) (lo : at ≤ end) (hi : end ≤ length t) (en : end ≡ at + run 10 (drop at t)) where
-    pub refer-piece : references-from types t place at ≡ r → end ≡ n → Good ≡ r
+    pub refer-piece : referencesFrom types t place at ≡ r → end ≡ n → Good ≡ r
     refer-piece inv h = sym (pass-piece t at n all noRule (rowReferences types) place end lt lo hi en h) ∙ inv
 
-    pub names-piece : orElse (references-from types t place at) (entities-from types t list place at) ≡ r → end ≡ n → Good ≡ r
+    pub names-piece : orElse (referencesFrom types t place at) (entitiesFrom list types t place at) ≡ r → end ≡ n → Good ≡ r
     names-piece inv h = rw (pass-piece t at n all noRule (rowReferences types) place end lt lo hi en h, pass-piece t at n all noRule (rowEntityRules list types) place end lt lo hi en h) at inv
 
     module _ (h : end ≡ n → ⊥) (x : Said) (ex : x ≡ headOf (columns t at end)) (a : Pass) (ea : a ≡ saidReferences types place x) where
-      references-line-first : references-from types t place at ≡ orElse a (references-from types t (place + 1) (end + 1))
+      references-line-first : referencesFrom types t place at ≡ orElse a (referencesFrom types t (place + 1) (end + 1))
       references-line-first =
           pass-line t at n all noRule (rowReferences types) place end lt lo hi en h
-          ∙ ap (λ (p : Pass). orElse p (references-from types t (place + 1) (end + 1))) (sym (references-line types place (columns t at end) (linesIn (drop (end + 1) t)) x a ex ea))
+          ∙ ap (λ (p : Pass). orElse p (referencesFrom types t (place + 1) (end + 1))) (sym (references-line types place (columns t at end) (linesIn (drop (end + 1) t)) x a ex ea))
 
-      pub refer-on : references-from types t place at ≡ r → a ≡ Good → references-from types t (place + 1) (end + 1) ≡ r
+      pub refer-on : referencesFrom types t place at ≡ r → a ≡ Good → referencesFrom types t (place + 1) (end + 1) ≡ r
       refer-on inv e = sym (references-line-first ∙ rw e) ∙ inv
 
-      pub refer-here : {m : Fault} {l : SheetLine} → references-from types t place at ≡ r → a ≡ Refused m l → Refused m l ≡ r
+      pub refer-here : {m : Fault} {l : SheetLine} → referencesFrom types t place at ≡ r → a ≡ Refused m l → Refused m l ≡ r
       refer-here inv e = sym (references-line-first ∙ rw e) ∙ inv
 
-      module _ (inv : orElse (references-from types t place at) (entities-from types t list place at) ≡ r) where
+      module _ (inv : orElse (referencesFrom types t place at) (entitiesFrom list types t place at) ≡ r) where
         pub names-here : {m : Fault} {l : SheetLine} → a ≡ Refused m l → Refused m l ≡ r
         names-here e = rw (references-line-first, e) at inv
 
         module _ (e : a ≡ Good) (b : Pass) (eb : b ≡ saidEntity list types place (valuesFirst (linesIn (drop (end + 1) t))) x) where
-          entities-line-first : entities-from types t list place at ≡ orElse b (entities-from types t list (place + 1) (end + 1))
+          entities-line-first : entitiesFrom list types t place at ≡ orElse b (entitiesFrom list types t (place + 1) (end + 1))
           entities-line-first =
               pass-line t at n all noRule (rowEntityRules list types) place end lt lo hi en h
-              ∙ ap (λ (p : Pass). orElse p (entities-from types t list (place + 1) (end + 1))) (sym (entity-line list types place (linesIn (drop (end + 1) t)) (columns t at end) x b ex eb))
+              ∙ ap (λ (p : Pass). orElse p (entitiesFrom list types t (place + 1) (end + 1))) (sym (entity-line list types place (linesIn (drop (end + 1) t)) (columns t at end) x b ex eb))
 
-          both : orElse (references-from types t (place + 1) (end + 1)) (orElse b (entities-from types t list (place + 1) (end + 1))) ≡ r
+          both : orElse (referencesFrom types t (place + 1) (end + 1)) (orElse b (entitiesFrom list types t (place + 1) (end + 1))) ≡ r
           both = rw (references-line-first, e, entities-line-first) at inv
 
           pub names-on : b ≡ Good → (next lines : ℕ) → Skipped t (end + 1) next lines
-              → orElse (references-from types t (place + (1 + lines)) next) (entities-from types t list (place + (1 + lines)) next) ≡ r
+              → orElse (referencesFrom types t (place + (1 + lines)) next) (entitiesFrom list types t (place + (1 + lines)) next) ≡ r
           names-on eg next lines s =
               let z : place + (1 + lines) ≡ place + 1 + lines = omega arith in
               rw (z, s .same noRule (rowReferences types) (place + 1), s .same noRule (rowEntityRules list types) (place + 1)) (rw eg at both)
 
-          pub names-last : {m : Fault} {l : SheetLine} → b ≡ Refused m l → (q : Pass) → q ≡ orElse (references-from types t (place + 1) (end + 1)) (Refused m l) → q ≡ r
+          pub names-last : {m : Fault} {l : SheetLine} → b ≡ Refused m l → (q : Pass) → q ≡ orElse (referencesFrom types t (place + 1) (end + 1)) (Refused m l) → q ≡ r
           names-last eg q eq = rw eq (rw eg at both)
 
-pub names-start : (list : ℕ) (t : List ℕ) → orElse (references-from (sheetTypes t) t 1 0) (entities-from (sheetTypes t) t list 1 0) ≡ orElse (referencesPass t) (entitiesPass list t)
+pub names-start : (list : ℕ) (t : List ℕ) → orElse (referencesFrom (sheetTypes t) t 1 0) (entitiesFrom list (sheetTypes t) t 1 0) ≡ orElse (referencesPass t) (entitiesPass list t)
 unfolding referencesPass entitiesPass
 names-start list t = refl
 

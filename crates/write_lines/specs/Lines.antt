@@ -2,12 +2,11 @@
 use mathlib.Core.Path.{_≡_}
 use mathlib.Core.List.{List, [], _∷_}
 use Prim.Native.Nat.{ℕ, _+_}
-use lib.ListN.{drop}
 use Rattle.columns.specs.Refusal.{Outcome, accepted, refused}
 use Rattle.values.specs.Value.{Item}
-use Rattle.sheets.specs.Sheet.{Line, start, global, entry, value, last, none, Row, row, linesIn}
+use Rattle.sheets.specs.Sheet.{Line, start, global, entry, value, last, none, Row, row}
 use Rattle.sheets.specs.Order.{sheetLine}
-use Rattle.sheets_rows.specs.Rows.{valuesFirst}
+use Rattle.sheets_rows.specs.Rows.{linesAt, valuesFirst}
 use Rattle.write_lines.specs.declared.Pass.{Pass}
 use Rattle.write_lines.specs.declared.Pass.the-variants.{Good, Refused}
 
@@ -21,10 +20,11 @@ abbrev pub orElse : Pass → Pass → Pass
 orElse Good q = q
 orElse (Refused n l) q = Refused n l
 
--- what is asked of a G line and of an entry line, each at its place
+-- what is asked of a G line at its place
 abbrev pub OfGlobal : Type 0
 OfGlobal = ℕ → ℕ × Item → Outcome (Unit {0})
 
+-- and of an entry line, with the values behind it
 abbrev pub OfRow : Type 0
 OfRow = ℕ → Row → Outcome (Unit {0})
 
@@ -48,4 +48,6 @@ linesPass g f place (l ∷ ls) = orElse (lineCheck g f place l ls) (linesPass g 
 
 -- the lines from `from` on are asked as those from `next` on: the so many between are asked nothing
 pub record Skipped (t : List ℕ) (from next lines : ℕ) : Type 0 where
-  pub same : (g : OfGlobal) (f : OfRow) (place : ℕ) → linesPass g f (place + lines) (linesIn (drop next t)) ≡ linesPass g f place (linesIn (drop from t))
+  pub same :
+      (g : OfGlobal) (f : OfRow) (place : ℕ)
+      → linesPass g f (place + lines) (linesAt t next) ≡ linesPass g f place (linesAt t from)

@@ -2,10 +2,23 @@
 use mathlib.Core.List.{List}
 use Prim.Native.Nat.{ℕ}
 use Rattle.sheets.specs.Sheet.{linesIn}
+use Rattle.sheets_rows.specs.Rows.{linesAt}
 use Rattle.model.specs.Write.{globalRule, rowRules, rowReferences, rowEntityRules}
 use Rattle.write_lines.specs.declared.Pass.{Pass}
 use Rattle.write_lines.specs.Lines.{orElse, noRule, linesPass}
 use Rattle.write_lines.specs.Classes.{sheetTypes}
+
+-- ---- from a place of the sheet on, where the line has this number
+
+-- 10
+abbrev pub referencesFrom : List ℕ → List ℕ → ℕ → ℕ → Pass
+referencesFrom types t place at = linesPass noRule (rowReferences types) place (linesAt t at)
+
+-- 14, 15, 18
+abbrev pub entitiesFrom : ℕ → List ℕ → List ℕ → ℕ → ℕ → Pass
+entitiesFrom list types t place at = linesPass noRule (rowEntityRules list types) place (linesAt t at)
+
+-- ---- of all lines
 
 -- 8; each entry 9, 13
 unfoldable pub rulesPass : List ℕ → Pass

@@ -10,14 +10,12 @@ use sheets::Said;
 use sheets_read::end_of;
 ghost use mathlib.Core.Path.{_≡_};
 ghost use Prim.Native.Nat.{_+_, _≤_};
-ghost use lib.ListN.{length, drop};
+ghost use lib.ListN.{length};
 ghost use Rattle.directory.specs.Rules.{allFit, references};
 ghost use Rattle.directory.specs.Asking.{asksOk};
-ghost use Rattle.sheets.specs.Sheet.{linesIn};
-ghost use Rattle.model.specs.Write.{rowReferences};
-ghost use Rattle.write_lines.specs.Lines.{noRule, linesPass};
 ghost use Rattle.write_lines.specs.Heads.{saidReferences};
 ghost use Rattle.write_lines.specs.Classes.{sheetTypes, Tabled};
+ghost use Rattle.write_lines.specs.Passes.{referencesFrom};
 
 // How many references an entry may have.
 const REFERENCES: usize = 7;
@@ -76,7 +74,7 @@ pub fn reference_of(classes: &[u8], n: usize, t: &[u8], said: Said, line: SheetL
 // All entries from `from` on, where the line has this place.
 pub fn references(classes: &[u8], n: usize, t: &[u8], from: usize, first: SheetLine) -> Pass
     requires { ⌜ Tabled (now classes) n (now t) × (from ≤ length (now t)) × (first .0 ≤ from + 1) ⌝ }
-    ensures { λ r. ⌜ r ≡ linesPass noRule (rowReferences (sheetTypes (now (t .entry)))) (first .0) (linesIn (drop from (now (t .entry)))) ⌝ }
+    ensures { λ r. ⌜ r ≡ referencesFrom (sheetTypes (now (t .entry))) (now (t .entry)) (first .0) from ⌝ }
 {
     let size = t.len();
     let mut at = from;

@@ -4,15 +4,15 @@ use Prim.Native.Nat.{_+_, _-_, _≤_}
 use lib.ListN.{length}
 use Rattle.write_lines.specs.Lines.{orElse}
 use Rattle.write_lines.specs.Classes.{sheetTypes}
-use Rattle.write_lines.specs.Passes.{referencesPass, entitiesPass}
+use Rattle.write_lines.specs.Passes.{referencesFrom, entitiesFrom, referencesPass, entitiesPass}
 use borrow.Author.Needs.{needs}
-use Rattle.write_lines.proofs.Naming.{references-from, entities-from, naming}
+use Rattle.write_lines.proofs.Naming.{naming}
 use Rattle.write_entities.proofs.named_rules.Statement.{statement}
 use Rattle.write_entities.proofs.named_rules.Tie as tie
 
 abbrev Inv-loop : tie.InvT-loop
 Inv-loop list classes n t size at₀ place₀ at place =
-    (place ≤ at + 1) × (at ≤ size) × (size ≡ length t) × (orElse (references-from (sheetTypes t) t place at) (entities-from (sheetTypes t) t list place at) ≡ orElse (referencesPass t) (entitiesPass list t))
+    (place ≤ at + 1) × (at ≤ size) × (size ≡ length t) × (orElse (referencesFrom (sheetTypes t) t place at) (entitiesFrom list (sheetTypes t) t place at) ≡ orElse (referencesPass t) (entitiesPass list t))
 
 abbrev μ-loop : tie.MeasureT-loop
 μ-loop list classes n t size at₀ place₀ at place = size - at

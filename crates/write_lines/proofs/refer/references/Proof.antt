@@ -1,11 +1,9 @@
 -- The lines from `at` on, at their places, have the answer of all lines.
 use mathlib.Core.Path.{_≡_}
 use Prim.Native.Nat.{_+_, _-_, _≤_}
-use lib.ListN.{length, drop}
-use Rattle.sheets.specs.Sheet.{linesIn}
-use Rattle.write_lines.specs.Lines.{noRule, linesPass}
+use lib.ListN.{length}
 use Rattle.write_lines.specs.Classes.{sheetTypes}
-use Rattle.model.specs.Write.{rowReferences}
+use Rattle.write_lines.specs.Passes.{referencesFrom}
 use borrow.Author.Needs.{needs}
 use Rattle.write_lines.proofs.Naming.{referring}
 use Rattle.write_lines.proofs.refer.references.Statement.{statement}
@@ -13,7 +11,7 @@ use Rattle.write_lines.proofs.refer.references.Tie as tie
 
 abbrev Inv-loop : tie.InvT-loop
 Inv-loop classes n t from size at₀ place₀ at place =
-    (place ≤ at + 1) × (at ≤ size) × (size ≡ length t) × (linesPass noRule (rowReferences (sheetTypes t)) place (linesIn (drop at t)) ≡ linesPass noRule (rowReferences (sheetTypes t)) place₀ (linesIn (drop from t)))
+    (place ≤ at + 1) × (at ≤ size) × (size ≡ length t) × (referencesFrom (sheetTypes t) t place at ≡ referencesFrom (sheetTypes t) t place₀ from)
 
 abbrev μ-loop : tie.MeasureT-loop
 μ-loop classes n t from size at₀ place₀ at place = size - at
