@@ -11,23 +11,13 @@ use Rattle.cards.specs.Written.{zeros, section}
 use Rattle.sheets.specs.Sheet.{Line, start, global, entry, value, last, none}
 use Rattle.model.specs.Model.{valueIn}
 use Rattle.model.specs.Canonical.{globalText, owned}
-use Rattle.sheets_rows.specs.Rows.{linesAt, valuesFirst}
+use Rattle.sheets_rows.specs.Rows.{linesAt, firstOf, behindOf, valueGiven, valuesFirst}
 
 -- ---- the lines of a sheet from a place on
 
--- a value line is passed over, any other line stops: ls stand behind the line, rest is what is left of them
-abbrev pub passValue : Line → List Line → List Line → List Line
-passValue (start t) ls rest = start t ∷ ls
-passValue (global n v) ls rest = global n v ∷ ls
-passValue (entry known n x label) ls rest = entry known n x label ∷ ls
-passValue (value reference v) ls rest = rest
-passValue (last n) ls rest = last n ∷ ls
-passValue (none b) ls rest = none b ∷ ls
-
 -- the lines behind the value lines that stand first
 unfoldable pub behindValues : List Line → List Line
-behindValues [] = []
-behindValues (l ∷ ls) = passValue l ls (behindValues ls)
+behindValues ls = behindOf valueGiven ls
 
 -- whether a line begins as a value line does
 abbrev pub begins : Line → Bool
@@ -55,37 +45,26 @@ itemsFirst ls = map valueIn (valuesFirst ls)
 abbrev pub itemsAt : List ℕ → ℕ → List Item
 itemsAt t at = itemsFirst (linesAt t at)
 
--- a G line adds its field to those behind it; no other line has any
-abbrev pub globalWith : Line → List (ℕ × Item) → List (ℕ × Item)
-globalWith (start t) gs = []
-globalWith (global n v) gs = (n, v) ∷ gs
-globalWith (entry known n x label) gs = []
-globalWith (value reference v) gs = []
-globalWith (last n) gs = []
-globalWith (none b) gs = []
+-- a G line gives its field
+abbrev pub globalGiven : Line → List (ℕ × Item)
+globalGiven (start t) = []
+globalGiven (global n v) = (n, v) ∷ []
+globalGiven (entry known n x label) = []
+globalGiven (value reference v) = []
+globalGiven (last n) = []
+globalGiven (none b) = []
 
 -- the fields of the G lines that stand first
 unfoldable pub globalsFirst : List Line → List (ℕ × Item)
-globalsFirst [] = []
-globalsFirst (l ∷ ls) = globalWith l (globalsFirst ls)
+globalsFirst ls = firstOf globalGiven ls
 
 -- those of a text from a place on
 abbrev pub fieldsAt : List ℕ → ℕ → List (ℕ × Item)
 fieldsAt t at = globalsFirst (linesAt t at)
 
--- a G line is passed over, any other line stops
-abbrev pub passGlobal : Line → List Line → List Line → List Line
-passGlobal (start t) ls rest = start t ∷ ls
-passGlobal (global n v) ls rest = rest
-passGlobal (entry known n x label) ls rest = entry known n x label ∷ ls
-passGlobal (value reference v) ls rest = value reference v ∷ ls
-passGlobal (last n) ls rest = last n ∷ ls
-passGlobal (none b) ls rest = none b ∷ ls
-
 -- the lines behind the G lines that stand first
 unfoldable pub behindGlobals : List Line → List Line
-behindGlobals [] = []
-behindGlobals (l ∷ ls) = passGlobal l ls (behindGlobals ls)
+behindGlobals ls = behindOf globalGiven ls
 
 -- ---- the G record
 

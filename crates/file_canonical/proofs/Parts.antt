@@ -3,74 +3,41 @@ use mathlib.Core.Path.{_≡_, refl, ap, _∙_}
 use mathlib.Core.List.{List, [], _∷_, map}
 use Prim.Native.Nat.{ℕ}
 use Rattle.values.specs.Value.{Item}
-use Rattle.sheets.specs.Sheet.{Line, Row, Sheet, startLines, globalLines, rowLines, linesOf}
+use Rattle.sheets.specs.Sheet.{Row, Sheet, globalLines, rowLines, linesOf}
+use Rattle.sheets_rows.proofs.Rows.{starts-laid, globals-laid, first-laid, behind-laid, all-sheet}
 use Rattle.model.specs.Model.{carriedOf}
-use Rattle.file_blocks.specs.Blocks.{globalsFirst, behindGlobals}
-use Rattle.file_canonical.specs.Laying.{startsFirst, behindStarts, entriesIn, fieldsIn}
+use Rattle.file_blocks.specs.Blocks.{globalGiven, globalsFirst, behindGlobals}
+use Rattle.file_canonical.specs.Laying.{startGiven, startsFirst, behindStarts, entryGiven, entriesIn, fieldsIn}
 use Rattle.file_canonical.proofs.Turns.{entries-rows}
 
--- ---- the parts of a sheet's lines
+no-start : (gs : List (ℕ × Item)) (rs : List Row) → startsFirst (globalLines gs (rowLines 0 rs)) ≡ []
+unfolding startsFirst globalLines rowLines
+no-start [] [] = refl
+no-start [] (r ∷ rs) = refl
+no-start (g ∷ gs) rs = refl
 
-module _ (k : ℕ) where
-  rows-no-start : (gs : List (ℕ × Item)) (rs : List Row) → startsFirst (globalLines gs (rowLines k rs)) ≡ []
-  unfolding startsFirst globalLines rowLines
-  rows-no-start [] [] = refl
-  rows-no-start [] (r ∷ rs) = refl
-  rows-no-start (g ∷ gs) rs = refl
-
-  rows-behind-start : (gs : List (ℕ × Item)) (rs : List Row) → behindStarts (globalLines gs (rowLines k rs)) ≡ globalLines gs (rowLines k rs)
-  unfolding behindStarts globalLines rowLines
-  rows-behind-start [] [] = refl
-  rows-behind-start [] (r ∷ rs) = refl
-  rows-behind-start (g ∷ gs) rs = refl
-
-  globals-are : (gs : List (ℕ × Item)) (rs : List Row) → globalsFirst (globalLines gs (rowLines k rs)) ≡ gs
-  unfolding globalsFirst globalLines rowLines
-  globals-are [] [] = refl
-  globals-are [] (r ∷ rs) = refl
-  globals-are (g ∷ gs) rs = ap (λ (x : List (ℕ × Item)). g ∷ x) (globals-are gs rs)
-
-  globals-behind : (gs : List (ℕ × Item)) (rs : List Row) → behindGlobals (globalLines gs (rowLines k rs)) ≡ rowLines k rs
-  unfolding behindGlobals globalLines rowLines
-  globals-behind [] [] = refl
-  globals-behind [] (r ∷ rs) = refl
-  globals-behind (g ∷ gs) rs = globals-behind gs rs
-
-starts-are : (ts : List (List ℕ)) (ls : List Line) → startsFirst ls ≡ [] → startsFirst (startLines ts ls) ≡ ts
-unfolding startsFirst startLines
-starts-are [] ls e = e
-starts-are (t ∷ ts) ls e = ap (λ (x : List (List ℕ)). t ∷ x) (starts-are ts ls e)
-
-starts-behind : (ts : List (List ℕ)) (ls : List Line) → behindStarts ls ≡ ls → behindStarts (startLines ts ls) ≡ ls
-unfolding behindStarts startLines
-starts-behind [] ls e = e
-starts-behind (t ∷ ts) ls e = starts-behind ts ls e
-
-entries-starts : (ts : List (List ℕ)) (ls : List Line) → entriesIn (startLines ts ls) ≡ entriesIn ls
-unfolding entriesIn startLines
-entries-starts [] ls = refl
-entries-starts (t ∷ ts) ls = entries-starts ts ls
-
-entries-globals : (gs : List (ℕ × Item)) (ls : List Line) → entriesIn (globalLines gs ls) ≡ entriesIn ls
-unfolding entriesIn globalLines
-entries-globals [] ls = refl
-entries-globals (g ∷ gs) ls = entries-globals gs ls
+no-global : (rs : List Row) → globalsFirst (rowLines 0 rs) ≡ []
+unfolding globalsFirst rowLines
+no-global [] = refl
+no-global (r ∷ rs) = refl
 
 module _ (s : Sheet) where
   pub sheet-starts : startsFirst (linesOf s) ≡ s .starts
-  unfolding linesOf
-  sheet-starts = starts-are (s .starts) (globalLines (s .globals) (rowLines 0 (s .rows))) (rows-no-start 0 (s .globals) (s .rows))
+  unfolding linesOf startsFirst
+  sheet-starts = first-laid starts-laid startGiven (λ t. refl) (globalLines (s .globals) (rowLines 0 (s .rows))) (no-start (s .globals) (s .rows)) (s .starts)
 
   sheet-behind : behindStarts (linesOf s) ≡ globalLines (s .globals) (rowLines 0 (s .rows))
-  unfolding linesOf
-  sheet-behind = starts-behind (s .starts) (globalLines (s .globals) (rowLines 0 (s .rows))) (rows-behind-start 0 (s .globals) (s .rows))
+  unfolding linesOf startsFirst behindStarts
+  sheet-behind = behind-laid starts-laid startGiven (λ t. refl) (globalLines (s .globals) (rowLines 0 (s .rows))) (no-start (s .globals) (s .rows)) (s .starts)
 
   pub sheet-fields : fieldsIn (linesOf s) ≡ s .globals
-  sheet-fields = ap globalsFirst sheet-behind ∙ globals-are 0 (s .globals) (s .rows)
+  unfolding globalsFirst
+  sheet-fields = ap globalsFirst sheet-behind ∙ first-laid globals-laid globalGiven (λ g. refl) (rowLines 0 (s .rows)) (no-global (s .rows)) (s .globals)
 
   pub sheet-rows : behindGlobals (behindStarts (linesOf s)) ≡ rowLines 0 (s .rows)
-  sheet-rows = ap behindGlobals sheet-behind ∙ globals-behind 0 (s .globals) (s .rows)
+  unfolding globalsFirst behindGlobals
+  sheet-rows = ap behindGlobals sheet-behind ∙ behind-laid globals-laid globalGiven (λ g. refl) (rowLines 0 (s .rows)) (no-global (s .rows)) (s .globals)
 
   pub sheet-entries : entriesIn (linesOf s) ≡ map carriedOf (s .rows)
-  unfolding linesOf
-  sheet-entries = entries-starts (s .starts) (globalLines (s .globals) (rowLines 0 (s .rows))) ∙ entries-globals (s .globals) (rowLines 0 (s .rows)) ∙ entries-rows 0 (s .rows)
+  unfolding entriesIn
+  sheet-entries = all-sheet entryGiven (λ t ls. refl) (λ g ls. refl) s ∙ entries-rows 0 (s .rows)

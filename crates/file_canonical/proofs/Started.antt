@@ -15,11 +15,12 @@ use Rattle.sheets.specs.declared.Said.{Said}
 use Rattle.sheets.specs.declared.Said.the-variants.{Start, Global, Entry, Value as Given, Last, Nothing}
 use Rattle.sheets.specs.Line.{run}
 use Rattle.sheets.specs.Reading.{Within}
-use Rattle.sheets.specs.Sheet.{Line, start, lineFrom, lastPiece, saysOf, linesIn}
+use Rattle.sheets.specs.Sheet.{Line, lineFrom, lastPiece, saysOf, linesIn}
 use Rattle.sheets.proofs.Bounds.{says-within}
 use Rattle.sheets.proofs.Walk.{lines-first, line-says}
+use Rattle.sheets_rows.proofs.Rows.{behind-none}
 use Rattle.file_blocks.proofs.Said.{line-part, lines-whole}
-use Rattle.file_canonical.specs.Laying.{startsFirst, behindStarts, StartStands, startBytes}
+use Rattle.file_canonical.specs.Laying.{startGiven, startsFirst, behindStarts, StartStands, startBytes}
 use Rattle.sheets.proofs.Limits.{Can, says-can}
 
 -- the last piece is no start line
@@ -98,17 +99,8 @@ starts-all {o} {bs} {o1} {r} t at k s w z q h =
     let n : startsFirst (linesIn (drop at t)) ≡ [] = empty (startsFirst (linesIn (drop at t))) (omega arith) in
     rw (← e, ← z) (owes-none (rw (n, start-none (k + 1)) at w))
 
-behind-none : (ls : List Line) → startsFirst ls ≡ [] → behindStarts ls ≡ ls
-unfolding startsFirst behindStarts
-behind-none [] e = refl
-behind-none (Line.start t ∷ ls) e = let z : _≡_ {A = ℕ} 0 1 = cc in absurd (omega arith)
-behind-none (Line.global n v ∷ ls) e = refl
-behind-none (Line.entry known n x label ∷ ls) e = refl
-behind-none (Line.value reference v ∷ ls) e = refl
-behind-none (Line.last n ∷ ls) e = refl
-behind-none (Line.none b ∷ ls) e = refl
-
 pub starts-end : (t : List ℕ) (at k s : ℕ) (ls : List Line) → behindStarts (linesIn (drop at t)) ≡ ls → k + length (startsFirst (linesIn (drop at t))) ≡ s → s ≤ k → linesIn (drop at t) ≡ ls
-starts-end t at k s ls q c h = sym (behind-none (linesIn (drop at t)) (empty (startsFirst (linesIn (drop at t))) (omega arith))) ∙ q
+unfolding startsFirst behindStarts
+starts-end t at k s ls q c h = sym (behind-none startGiven (linesIn (drop at t)) (empty (startsFirst (linesIn (drop at t))) (omega arith))) ∙ q
 
 pub ruleset starts = (start-here, starts-text, starts-less, starts-behind, starts-laid, starts-some, starts-all, starts-end, owes-all, owes-length)

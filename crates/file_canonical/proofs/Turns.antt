@@ -21,30 +21,24 @@ use Rattle.sheets.specs.Sheet.{Line, entry, lineFrom, lastPiece, saysOf, saidBy
 use Rattle.sheets.proofs.Round.{Fits, eight, plain, AllFit, cons, Spelt, entry-back, label-eight}
 use Rattle.sheets.proofs.Walk.{lines-first, line-says}
 use Rattle.model.specs.Model.{valueIn, carriedOf}
-use Rattle.sheets_rows.proofs.Rows.{values-first}
+use Rattle.sheets_rows.specs.Rows.{valueGiven, valuesFirst}
+use Rattle.sheets_rows.proofs.Rows.{values-laid, behind-laid, all-laid, rows-no-value, values-first}
 use Rattle.file_blocks.specs.Blocks.{behindValues, firstBegins, itemsFirst}
 use Rattle.file_blocks.proofs.Said.{line-part, lines-whole}
-use Rattle.file_canonical.specs.Laying.{carried, entriesIn, entriesAt, valuesBehind, labelBefore}
+use Rattle.file_canonical.specs.Laying.{carried, entryGiven, entriesIn, entriesAt, valuesBehind, labelBefore}
 use Rattle.sheets.proofs.Limits.{Can, says-can}
 
 -- ---- the entries of rows
 
-pub entries-values : (vs : List (Bool × Item)) (ls : List Line) → entriesIn (valueLines vs ls) ≡ entriesIn ls
-unfolding entriesIn valueLines
-entries-values [] ls = refl
-entries-values (v ∷ vs) ls = entries-values vs ls
-
 pub entries-rows : (k : ℕ) (rs : List Row) → entriesIn (rowLines k rs) ≡ map carriedOf rs
 unfolding entriesIn rowLines
 entries-rows k [] = refl
-entries-rows k (r ∷ rs) = rw (values-first (r .values) (k + 1) rs, entries-values (r .values) (rowLines (k + 1) rs), entries-rows (k + 1) rs)
+entries-rows k (r ∷ rs) = rw (values-first (r .values) (k + 1) rs, all-laid values-laid entryGiven (λ v ls. refl) (r .values) (rowLines (k + 1) rs), entries-rows (k + 1) rs)
 
 -- behind an entry's values stand the next entries
 behind-values : (vs : List (Bool × Item)) (k : ℕ) (rs : List Row) → behindValues (valueLines vs (rowLines k rs)) ≡ rowLines k rs
-unfolding behindValues valueLines rowLines
-behind-values [] k [] = refl
-behind-values [] k (r ∷ rs) = refl
-behind-values (v ∷ vs) k rs = behind-values vs k rs
+unfolding valuesFirst behindValues
+behind-values vs k rs = behind-laid values-laid valueGiven (λ v. refl) (rowLines k rs) (rows-no-value k rs) vs
 
 -- no entry and no Z line begins as a value line does
 pub rows-begin : (k : ℕ) (rs : List Row) → firstBegins (rowLines k rs) ≡ false

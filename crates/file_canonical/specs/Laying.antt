@@ -17,7 +17,7 @@ use Rattle.directory.specs.declared.Fields.{Fields}
 use Rattle.directory.specs.Lines.{entryLines}
 use Rattle.directory.specs.Rules.{rangesOk}
 use Rattle.sheets.specs.Sheet.{Line, start, global, entry, value, last, none, Row, rowLines, linesIn}
-use Rattle.sheets_rows.specs.Rows.{linesAt}
+use Rattle.sheets_rows.specs.Rows.{linesAt, firstOf, behindOf, allOf}
 use Rattle.model.specs.Model.{Carried}
 use Rattle.model.specs.Canonical.{startColumns, globalText, directoryLines, parameterLines}
 use Rattle.file_blocks.specs.Blocks.{behindValues, Unbroken, itemsFirst, itemsAt, globalsFirst, behindGlobals}
@@ -26,33 +26,22 @@ use Rattle.file_canonical.specs.declared.Place.{Place}
 
 -- ---- S
 
--- a start line adds its text to those behind it; no other line has any
-abbrev pub startWith : Line → List (List ℕ) → List (List ℕ)
-startWith (start t) ts = t ∷ ts
-startWith (global n v) ts = []
-startWith (entry known n x label) ts = []
-startWith (value reference v) ts = []
-startWith (last n) ts = []
-startWith (none b) ts = []
+-- a start line gives its text
+abbrev pub startGiven : Line → List (List ℕ)
+startGiven (start t) = t ∷ []
+startGiven (global n v) = []
+startGiven (entry known n x label) = []
+startGiven (value reference v) = []
+startGiven (last n) = []
+startGiven (none b) = []
 
 -- the texts of the start lines that stand first
 unfoldable pub startsFirst : List Line → List (List ℕ)
-startsFirst [] = []
-startsFirst (l ∷ ls) = startWith l (startsFirst ls)
-
--- a start line is passed over, any other line stops
-abbrev pub passStart : Line → List Line → List Line → List Line
-passStart (start t) ls rest = rest
-passStart (global n v) ls rest = global n v ∷ ls
-passStart (entry known n x label) ls rest = entry known n x label ∷ ls
-passStart (value reference v) ls rest = value reference v ∷ ls
-passStart (last n) ls rest = last n ∷ ls
-passStart (none b) ls rest = none b ∷ ls
+startsFirst ls = firstOf startGiven ls
 
 -- the lines behind the start lines that stand first
 unfoldable pub behindStarts : List Line → List Line
-behindStarts [] = []
-behindStarts (l ∷ ls) = passStart l ls (behindStarts ls)
+behindStarts ls = behindOf startGiven ls
 
 -- a start line stands at this place and ends at end
 pub record StartStands (t : List ℕ) (at end : ℕ) : Type 0 where
@@ -72,19 +61,18 @@ startBytes n ts = joined (section 83 n (map (toLeft startColumns) ts))
 abbrev pub carried : Fields → List ℕ → List Item → Carried
 carried x label vs = record { fields = x; label = label; values = vs }
 
--- an entry line adds its entry: its values stand in the lines behind it
-abbrev pub entryWith : Line → List Line → List Carried → List Carried
-entryWith (start t) ls es = es
-entryWith (global n v) ls es = es
-entryWith (entry known n x label) ls es = carried x label (itemsFirst ls) ∷ es
-entryWith (value reference v) ls es = es
-entryWith (last n) ls es = es
-entryWith (none b) ls es = es
+-- an entry line gives its entry: its values stand in the lines behind it
+abbrev pub entryGiven : Line → List Line → List Carried
+entryGiven (start t) ls = []
+entryGiven (global n v) ls = []
+entryGiven (entry known n x label) ls = carried x label (itemsFirst ls) ∷ []
+entryGiven (value reference v) ls = []
+entryGiven (last n) ls = []
+entryGiven (none b) ls = []
 
 -- the entries in these lines
 unfoldable pub entriesIn : List Line → List Carried
-entriesIn [] = []
-entriesIn (l ∷ ls) = entryWith l ls (entriesIn ls)
+entriesIn ls = allOf entryGiven ls
 
 -- those of a text from a place on
 abbrev pub entriesAt : List ℕ → ℕ → List Carried

@@ -26,7 +26,8 @@ use Rattle.sheets.proofs.Walk.{line-says, lines-first}
 use Rattle.model.specs.Canonical.{filled}
 use Rattle.file_blocks.specs.declared.GlobalLine.{GlobalLine}
 use Rattle.file_blocks.specs.declared.GlobalLine.the-variants.{Field, Otherwise}
-use Rattle.file_blocks.specs.Blocks.{globalsFirst, behindGlobals}
+use Rattle.sheets_rows.proofs.Rows.{behind-none}
+use Rattle.file_blocks.specs.Blocks.{globalGiven, globalsFirst, behindGlobals}
 use Rattle.file_blocks.specs.Writing.{parted, FieldStands, FieldsEnd, FieldAt}
 use Rattle.file_blocks.proofs.Ended.{put-same}
 use Rattle.file_blocks.proofs.Said.{global-writable, line-part, lines-whole}
@@ -34,16 +35,16 @@ use Rattle.file_blocks.proofs.Said.{global-writable, line-part, lines-whole}
 -- ---- a line
 
 -- the fields end
-abbrev Ends : List Line → Type 0
-Ends ls = (globalsFirst ls ≡ []) × (behindGlobals ls ≡ ls)
+ends-at : (t : List ℕ) (at : ℕ) {ls : List Line} → linesIn (drop at t) ≡ ls → globalsFirst ls ≡ [] → FieldsEnd t at
+unfolding globalsFirst behindGlobals
+ends-at t at e h =
+    let f : globalsFirst (linesIn (drop at t)) ≡ [] = ap globalsFirst e ∙ h in
+    record { fields = f; behind = behind-none globalGiven (linesIn (drop at t)) f }
 
-ends-at : (t : List ℕ) (at : ℕ) {ls : List Line} → linesIn (drop at t) ≡ ls → Ends ls → FieldsEnd t at
-ends-at t at e h = record { fields = ap globalsFirst e ∙ h .0; behind = ap behindGlobals e ∙ h .1 ∙ sym e }
-
-piece-ends : (t : List ℕ) → Ends (lastPiece t)
-unfolding lastPiece globalsFirst behindGlobals
-piece-ends [] = (refl, refl)
-piece-ends (b ∷ bs) = (refl, refl)
+piece-ends : (t : List ℕ) → globalsFirst (lastPiece t) ≡ []
+unfolding lastPiece globalsFirst
+piece-ends [] = refl
+piece-ends (b ∷ bs) = refl
 
 module _ (t : List ℕ) (at end : ℕ) (run-is : end ≡ at + run 10 (drop at t)) where
   pub field-none : end ≡ length t → FieldsEnd t at
@@ -73,24 +74,24 @@ module _ (t : List ℕ) (at end : ℕ) (run-is : end ≡ at + run 10 (drop at t)
         }
 
     pub start-here : x ≡ Start → FieldsEnd t at
-    unfolding globalsFirst behindGlobals
-    start-here q = ends-at t at (lines-are (start (drop 2 (columns t at end))) (ap (lineFrom (columns t at end)) q)) (refl, refl)
+    unfolding globalsFirst
+    start-here q = ends-at t at (lines-are (start (drop 2 (columns t at end))) (ap (lineFrom (columns t at end)) q)) refl
 
     pub value-here : {reference : Bool} {v : Value} → x ≡ Given reference v → FieldsEnd t at
-    unfolding globalsFirst behindGlobals
-    value-here {reference} {v} q = ends-at t at (lines-are (lineFrom (columns t at end) (Given reference v)) (ap (lineFrom (columns t at end)) q)) (refl, refl)
+    unfolding globalsFirst
+    value-here {reference} {v} q = ends-at t at (lines-are (lineFrom (columns t at end) (Given reference v)) (ap (lineFrom (columns t at end)) q)) refl
 
     pub entry-here : {known : Bool} {n : Signed} {f : Fields} → x ≡ Entry known n f → FieldsEnd t at
-    unfolding globalsFirst behindGlobals
-    entry-here {known} {n} {f} q = ends-at t at (lines-are (lineFrom (columns t at end) (Entry known n f)) (ap (lineFrom (columns t at end)) q)) (refl, refl)
+    unfolding globalsFirst
+    entry-here {known} {n} {f} q = ends-at t at (lines-are (lineFrom (columns t at end) (Entry known n f)) (ap (lineFrom (columns t at end)) q)) refl
 
     pub last-here : {n : ℕ} → x ≡ Last n → FieldsEnd t at
-    unfolding globalsFirst behindGlobals
-    last-here {n} q = ends-at t at (lines-are (last n) (ap (lineFrom (columns t at end)) q)) (refl, refl)
+    unfolding globalsFirst
+    last-here {n} q = ends-at t at (lines-are (last n) (ap (lineFrom (columns t at end)) q)) refl
 
     pub nothing-here : {b : Bool} → x ≡ Nothing b → FieldsEnd t at
-    unfolding globalsFirst behindGlobals
-    nothing-here {b} q = ends-at t at (lines-are (none b) (ap (lineFrom (columns t at end)) q)) (refl, refl)
+    unfolding globalsFirst
+    nothing-here {b} q = ends-at t at (lines-are (none b) (ap (lineFrom (columns t at end)) q)) refl
 
 pub field-fits : (t : List ℕ) (at end : ℕ) (x : Said) {n k : ℕ} {v : Value} → Within (end - at) x → x ≡ Global n k v → at ≤ end → end ≤ length t → length t < 2 ^ 64 → at + k < 2 ^ 64
 field-fits t at end x {n} {k} {v} w q l h m =

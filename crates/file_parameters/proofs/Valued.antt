@@ -21,13 +21,13 @@ use Rattle.records.specs.Flow.{piece}
 use Rattle.records.specs.Written.{Put}
 use Rattle.records.proofs.Puts.{Owed, owed-all, owed-none, put-length}
 use Rattle.sheets.specs.declared.Said.{Said}
-use Rattle.sheets.specs.declared.Said.the-variants.{Start, Global, Entry, Value as Given, Last, Nothing}
+use Rattle.sheets.specs.declared.Said.the-variants.{Value as Given, Nothing}
 use Rattle.sheets.specs.Line.{run}
 use Rattle.sheets.specs.Sheet.{Line, value, lineFrom, isMark, isValue, saysOf, lastPiece, linesIn}
-use Rattle.sheets.specs.Reading.{NoValue}
 use Rattle.sheets.proofs.Walk.{line-says, lines-first}
 use Rattle.sheets.proofs.Valued.{no-value, value-long as begun-long, value-given, value-not}
-use Rattle.sheets_rows.specs.Rows.{valuesFirst}
+use Rattle.sheets_rows.specs.Rows.{valueGiven, valuesFirst}
+use Rattle.sheets_rows.proofs.Rows.{behind-none, no-values}
 use Rattle.file_blocks.specs.Blocks.{itemsFirst, behindValues, firstBegins, Unbroken}
 use Rattle.file_blocks.specs.Writing.{parted}
 use Rattle.file_blocks.proofs.Ended.{parted-next}
@@ -36,23 +36,10 @@ use Rattle.file_blocks.proofs.Said.{line-part, lines-whole}
 -- ---- a line
 
 -- the values end
-abbrev Ends : List Line → Type 0
-Ends ls = (itemsFirst ls ≡ []) × (behindValues ls ≡ ls)
-
-piece-ends : (t : List ℕ) → Ends (lastPiece t)
-unfolding lastPiece valuesFirst behindValues
-piece-ends [] = (refl, refl)
-piece-ends (b ∷ bs) = (refl, refl)
-
--- a line that says no value ends them
-line-ends : (l : List ℕ) (x : Said) (ls : List Line) → NoValue x → Ends (lineFrom l x ∷ ls)
-unfolding valuesFirst behindValues
-line-ends l Start ls h = (refl, refl)
-line-ends l (Global n k v) ls h = (refl, refl)
-line-ends l (Entry known n f) ls h = (refl, refl)
-line-ends l (Given reference v) ls h = absurd h
-line-ends l (Last n) ls h = (refl, refl)
-line-ends l (Nothing b) ls h = (refl, refl)
+piece-ends : (t : List ℕ) → valuesFirst (lastPiece t) ≡ []
+unfolding lastPiece valuesFirst
+piece-ends [] = refl
+piece-ends (b ∷ bs) = refl
 
 -- a piece that no LF ends begins so or not
 piece-begins : (s : List ℕ) → isMark (getD s 0 0) ≡ true → firstBegins (behindValues (lastPiece s)) ≡ true
@@ -70,19 +57,20 @@ module _ (t : List ℕ) (at end : ℕ) (run-is : end ≡ at + run 10 (drop at t)
   -- ---- the line is no value line
 
   module _ (no-is : b ≡ false) where
-    ends : Ends (linesIn (drop at t))
+    ends : valuesFirst (linesIn (drop at t)) ≡ []
     ends = pick (ℕ-discrete end (length t))
       where
-        pick : Dec (end ≡ length t) → Ends (linesIn (drop at t))
+        pick : Dec (end ≡ length t) → valuesFirst (linesIn (drop at t)) ≡ []
         pick (yes h) = rw (lines-whole t at end run-is h) (piece-ends (drop at t))
-        pick (no h) = rw (lines-are (omega arith) (saysOf (columns t at end)) refl) (line-ends (columns t at end) (saysOf (columns t at end)) (linesIn (drop (end + 1) t)) (no-value t at end b eb no-is))
+        pick (no h) = rw (lines-are (omega arith) (saysOf (columns t at end)) refl) (no-values (columns t at end) (linesIn (drop (end + 1) t)) (saysOf (columns t at end)) (no-value t at end b eb no-is))
 
     pub values-behind : (ls : List Line) → behindValues (linesIn (drop at t)) ≡ ls → linesIn (drop at t) ≡ ls
-    values-behind ls e = sym (ends .1) ∙ e
+    unfolding valuesFirst behindValues
+    values-behind ls e = sym (behind-none valueGiven (linesIn (drop at t)) ends) ∙ e
 
     pub values-all : {base w p r : ℕ} {o bs o1 : List ℕ} → Owed base w o p bs o1 r (parted w r (itemsFirst (linesIn (drop at t)))) → Put base w o p bs o1 r
     unfolding parted
-    values-all a = owed-none (rw (ends .0) at a)
+    values-all a = owed-none (rw ends at a)
 
   -- ---- it begins as one does, and so it is one
 

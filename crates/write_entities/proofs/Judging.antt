@@ -42,6 +42,7 @@ use Rattle.sheets.proofs.Valued.{no-value, value-long, value-not}
 use Rattle.model.specs.Model.{valueIn, markIn, entityOf}
 use Rattle.model.specs.Write.{equal, allEqual, rowEntityRules}
 use Rattle.sheets_rows.specs.Rows.{valuesFirst}
+use Rattle.sheets_rows.proofs.Rows.{no-values}
 use Rattle.write_entities.specs.declared.Judged.{Judged}
 use Rattle.write_entities.specs.declared.Values.{Values}
 use Rattle.write_lines.specs.declared.Pass.{Pass}
@@ -50,7 +51,7 @@ use Rattle.write_lines.specs.Lines.{passOf, Skipped}
 use Rattle.write_lines.specs.Heads.{saidEntity}
 use Rattle.write_entities.specs.Judging.{rightToo, judgedSo, judged, valuesOf, verdictIf, answerOf}
 use Rattle.write_lines.proofs.Lines.{lines-piece, lines-none, line-read, skipped-none}
-use Rattle.write_lines.proofs.Others.{no-values, names-other, entity-other}
+use Rattle.write_lines.proofs.Others.{names-other, entity-other}
 
 -- ---- one value
 

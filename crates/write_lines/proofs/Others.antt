@@ -12,10 +12,7 @@ use Rattle.values.proofs.Value.{the-type as valueType}
 use Rattle.layouts.specs.Named.{named}
 use Rattle.sheets.specs.declared.Said.{Said}
 use Rattle.sheets.specs.declared.Said.the-variants.{Start, Global, Entry, Value as Given, Last, Nothing}
-use Rattle.sheets.specs.Sheet.{Line, lineFrom}
-use Rattle.sheets.specs.Reading.{NoValue}
 use Rattle.sheets.proofs.Said.{the-type as saidType}
-use Rattle.sheets_rows.specs.Rows.{valuesFirst}
 use Rattle.write_lines.specs.declared.Pass.the-variants.{Good}
 use Rattle.write_lines.specs.Heads.{saidRule, saidReferences, saidEntity}
 use Rattle.write_lines.specs.Classes.{saidClass}
@@ -54,16 +51,6 @@ entity-other list types place vs (Entry known n fields) h = absurd (miss (0 ∷ 
 entity-other list types place vs (Given reference v) h = refl
 entity-other list types place vs (Last n) h = refl
 entity-other list types place vs (Nothing b) h = refl
-
--- no value line
-pub no-values : (l : List ℕ) (ls : List Line) (x : Said) → NoValue x → valuesFirst (lineFrom l x ∷ ls) ≡ []
-unfolding valuesFirst
-no-values l ls Start h = refl
-no-values l ls (Global n at v) h = refl
-no-values l ls (Entry known n fields) h = refl
-no-values l ls (Given reference v) h = absurd h
-no-values l ls (Last n) h = refl
-no-values l ls (Nothing b) h = refl
 
 -- no whole number
 pub names-other : (types : List ℕ) (v : Value) → OneOf (0 ∷ 2 ∷ 3 ∷ []) (tagOf valueType v) → 0 ≡ named types v
