@@ -12,6 +12,9 @@ use Rattle.model.specs.Model.{Model}
 use Rattle.model.specs.Write.{writeModel}
 use Rattle.file_canonical.specs.declared.Lines.{Lines}
 use Rattle.file_canonical.specs.Counting.{linesOfSheet}
+use Rattle.file_canonical.specs.declared.Tally.{Tally}
+use Rattle.write_lines.specs.declared.Pass.{Pass}
+use Rattle.write_check.specs.declared.Walked.{Walked}
 use Rattle.write_check.specs.declared.Ruled.{Ruled}
 use Rattle.write_check.specs.declared.Ruled.the-variants.{Good, Refused}
 
@@ -23,6 +26,10 @@ told k (refused n place) = Refused n (sheetLine place)
 -- of a text under a list
 unfoldable pub ruledOf : ℕ → List ℕ → Ruled
 ruledOf list t = told (linesOfSheet (linesIn t)) (writeModel list t)
+
+-- what the first walk tells
+abbrev pub walkedSo : Verdict → Pass → Tally → Walked
+walkedSo v p x = record { verdict = v; pass = p; tally = x }
 
 -- what holds where a sheet's lines are good
 pub record IfGood (v : Verdict) (A : Type 0) : Type 0 where

@@ -34,8 +34,27 @@ ghost use Rattle.sheets_rows.specs.Rows.{linesAt};
 ghost use Rattle.file_canonical.specs.Counting.{within, linesOfSheet, Under};
 ghost use Rattle.write_lines.specs.Classes.{classesIn};
 ghost use Rattle.write_lines.specs.Passes.{rulesPass};
-ghost use Rattle.write_check.specs.Answers.{IfGood};
+ghost use Rattle.write_check.specs.Answers.{walkedSo, IfGood};
 ghost use Rattle.write_check.specs.Ahead.{Ahead};
+
+// Before the first line.
+const BEGIN: State = State {
+    section: BEFORE_STARTS,
+    field: NO_FIELD,
+    entries: 0,
+    run: SheetLine(NO_RUN),
+    line: 0,
+};
+
+// What no lines come to: the G record's opening has eight columns.
+const BEGUN: Tally = Tally {
+    s: 0,
+    global: 8,
+    field: NO_FIELD,
+    d: 0,
+    p: 0,
+    at: 0,
+};
 
 // Past the value lines from `from` on, as far as they are in order: they have no rule and no class. The first value stands at position p
 // of its record.
@@ -77,6 +96,17 @@ fn past_values(t: &[u8], from: usize, begun: State, p: usize) -> Past
     Past { state, next, at }
 }
 
+// What the walk tells behind the last line that it read.
+fn told(verdict: Verdict, pass: Pass, tally: Tally) -> Walked
+    ensures { λ r. ⌜ r ≡ walkedSo verdict pass tally ⌝ }
+{
+    Walked {
+        verdict,
+        pass,
+        tally,
+    }
+}
+
 // All lines; the classes of all entries are laid over the table. A sheet whose lines are wrong is not asked further.
 pub fn walk(classes: &mut [u8], t: &[u8]) -> Walked
     ensures { λ r. ⌜ r .verdict ≡ verdictOf (now (t .entry)) ⌝ }
@@ -87,33 +117,15 @@ pub fn walk(classes: &mut [u8], t: &[u8]) -> Walked
     ensures { λ r. ⌜ Under (2 ^ 36) (r .tally) ⌝ }
 {
     let n = t.len();
-    let mut st = State {
-        section: BEFORE_STARTS,
-        field: NO_FIELD,
-        entries: 0,
-        run: SheetLine(NO_RUN),
-        line: 0,
-    };
-    let mut tally = Tally {
-        s: 0,
-        global: 8,
-        field: NO_FIELD,
-        d: 0,
-        p: 0,
-        at: 0,
-    };
+    let mut st = BEGIN;
+    let mut tally = BEGUN;
     let mut pass = Pass::Good;
     let mut at = 0;
     let mut k = 0;
     while at < n {
         let end = end_of(t, at);
         if end == n {
-            let verdict = order::wrong_piece(st, is_mark(t[at]));
-            return Walked {
-                verdict,
-                pass,
-                tally,
-            };
+            return told(order::wrong_piece(st, is_mark(t[at])), pass, tally);
         }
         let said = line_at(t, at, end);
         pass = rule_too(pass, said, SheetLine(st.line + 1));
@@ -127,19 +139,9 @@ pub fn walk(classes: &mut [u8], t: &[u8]) -> Walked
                 at = past.next;
             }
             Step::Off(line) => {
-                let verdict = Verdict::Wrong(line);
-                return Walked {
-                    verdict,
-                    pass,
-                    tally,
-                };
+                return told(Verdict::Wrong(line), pass, tally);
             }
         }
     }
-    let verdict = order::finish_of(st);
-    Walked {
-        verdict,
-        pass,
-        tally,
-    }
+    told(order::finish_of(st), pass, tally)
 }

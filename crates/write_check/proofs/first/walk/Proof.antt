@@ -46,8 +46,9 @@ walk-spec =
     (λ c. search (needs, asking, laying, ordering))
     (λ c κs. search (needs, asking, laying, ordering))
     (λ c κs. search (needs, asking, laying, ordering))
+    (λ c κs. search needs)
     (λ c. search (needs, asking, laying, ordering))
-    (λ c. (search (needs, go-piece), (if-good _ (search (needs, rules-piece)), (if-good _ (search (needs, fill-piece)), (if-good _ (search (needs, count-piece)), search needs)))))
+    (λ c. rw (c .told .ensures) (search (needs, go-piece), (if-good _ (search (needs, rules-piece)), (if-good _ (search (needs, fill-piece)), (if-good _ (search (needs, count-piece)), search needs)))))
     (λ c κs. search (needs, asking, laying, ordering))
     (λ c. search (needs, asking, laying, ordering))
     (λ c κs. search (needs, asking, laying, ordering))
@@ -110,8 +111,25 @@ walk-spec =
       ahead-counted _ _ (c7 .tally-said .result) _ _ _ (past .0) _ (c1 .with-values .ensures .0) _ (count-on _ t (c18 .loop .tally) at _ (inv .10) (inv .3) _ taken (end .1 .0) (end .1 .1) (end .0) more (said .result) _ (said .ensures .0) (c7 .tally-said .ensures .0)),
     ))
     (λ c. search (needs, asking, laying, ordering))
-    (λ c. search (needs, asking, laying, ordering))
-    (λ c. (search (needs, go-off), (if-wrong _, (if-wrong _, (if-wrong _, search needs)))))
+    (λ c κs. search needs)
+    (λ c.
+    let c8 = c .before .before .before .before .before .before .before .before in
+    wrote-length (c8 .keep .ensures .0) _ (c8 .before .before .before .before .before .before .before .before .loop .inv .5))
+    (λ c.
+    let c2 = c .before .before in
+    let c4 = c2 .before .before in
+    let c12 = c4 .before .before .before .before .before .before .before .before in
+    let c14 = c12 .before .before in
+    let c16 = c14 .before .before in
+    let inv = c16 .loop .inv in
+    let said = c12 .line-at in
+    let step = c4 .step-line in
+    let end = c14 .end-of .ensures in
+    rw (c .told2 .ensures) (
+      go-off _ (c16 .before .before .before .args .t .now) _ _ _ (inv .6) (inv .3) _ (c14 .before .loop-test .taken) (end .1 .0) (end .1 .1) (end .0) (step .result) (said .result) (c12 .before .if1 .left) (said .ensures .0) (step .ensures) _ (c2 .line .given .1),
+      (if-wrong _, (if-wrong _, (if-wrong _, inv .9))),
+    ))
     (λ c κs. search (needs, asking, laying, ordering))
+    (λ c κs. search needs)
     (λ c. search (needs, asking, laying, ordering))
-    (λ c. (search (needs, go-end), (if-good _ (search (needs, rules-end)), (if-good _ (search (needs, fill-end)), (if-good _ (search (needs, count-end)), search needs))))))
+    (λ c. rw (c .told3 .ensures) (search (needs, go-end), (if-good _ (search (needs, rules-end)), (if-good _ (search (needs, fill-end)), (if-good _ (search (needs, count-end)), search needs))))))
