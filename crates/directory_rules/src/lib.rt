@@ -12,7 +12,7 @@ ghost use Prim.Native.Nat.{_<_};
 ghost use lib.ListN.{length};
 ghost use lib.Dec.{leb};
 ghost use Rattle.columns.specs.Decimal.{signedDec};
-ghost use Rattle.directory.specs.Fields.{inOrder, attributeOf, numberOf, entryOf};
+ghost use Rattle.directory.specs.Fields.{inOrder, attributeOf, entryOf};
 ghost use Rattle.directory.specs.Rules.{orLess, upTo, signsOk, limitsOk, pairOk, statusOk, narrow, rangesOk};
 ghost use Rattle.directory.specs.Asking.{ruleOf, ofNumber, ofAttribute, referenceCount, wantedOf};
 
@@ -25,22 +25,6 @@ fn attribute_of(x: Signed) -> Attribute
         return Attribute::Reference(DirectoryNumber(x.size));
     }
     Attribute::Number(x.size)
-}
-
-// The number of an attribute, a reference negated.
-pub fn number_of(a: Attribute) -> Signed
-    ensures { λ r. ⌜ r ≡ numberOf a ⌝ }
-{
-    match a {
-        Attribute::Number(n) => Signed {
-            neg: false,
-            size: n,
-        },
-        Attribute::Reference(d) => Signed {
-            neg: d.0 != 0,
-            size: d.0,
-        },
-    }
 }
 
 // The directory record of an entry's numbers.
@@ -103,55 +87,28 @@ pub fn in_order(x: Fields) -> [Signed; 12]
 fn signs_ok(x: Fields) -> bool
     ensures { λ r. ⌜ r ≡ signsOk x ⌝ }
 {
-    if x.entity.neg {
-        return false;
-    }
-    if x.view.neg {
-        return false;
-    }
-    if x.matrix.neg {
-        return false;
-    }
-    if x.display.neg {
-        return false;
-    }
-    if x.weight.neg {
-        return false;
-    }
-    if x.form.neg {
-        return false;
-    }
-    !x.subscript.neg
+    !x.entity.neg
+        && (!x.view.neg
+            && (!x.matrix.neg
+                && (!x.display.neg && (!x.weight.neg && (!x.form.neg && !x.subscript.neg)))))
 }
 
 fn or_less(x: Signed) -> bool
     ensures { λ r. ⌜ r ≡ orLess x ⌝ }
 {
-    if x.neg {
-        return true;
-    }
-    x.size == 0
+    x.neg || x.size == 0
 }
 
 fn up_to(most: u32, x: Signed) -> bool
     ensures { λ r. ⌜ r ≡ upTo most x ⌝ }
 {
-    if x.neg {
-        return true;
-    }
-    x.size <= most
+    x.neg || x.size <= most
 }
 
 fn limits_ok(x: Fields) -> bool
     ensures { λ r. ⌜ r ≡ limitsOk x ⌝ }
 {
-    if !or_less(x.structure) {
-        return false;
-    }
-    if !up_to(5, x.font) {
-        return false;
-    }
-    up_to(8, x.colour)
+    or_less(x.structure) && (up_to(5, x.font) && up_to(8, x.colour))
 }
 
 fn pair_ok(pair: u32, most: u32) -> bool
@@ -163,16 +120,7 @@ fn pair_ok(pair: u32, most: u32) -> bool
 fn status_ok(n: u32) -> bool
     ensures { λ r. ⌜ r ≡ statusOk n ⌝ }
 {
-    if !pair_ok(n / 1000000, 1) {
-        return false;
-    }
-    if !pair_ok(n / 10000, 3) {
-        return false;
-    }
-    if !pair_ok(n / 100, 5) {
-        return false;
-    }
-    pair_ok(n, 2)
+    pair_ok(n / 1000000, 1) && (pair_ok(n / 10000, 3) && (pair_ok(n / 100, 5) && pair_ok(n, 2)))
 }
 
 // Whether x fits eight columns, its sign counted.
@@ -200,21 +148,10 @@ fn all_narrow(xs: [Signed; 12]) -> bool
 }
 
 // Whether every number is in its range and fits its columns.
-pub fn ranges_ok(x: Fields) -> bool
+fn ranges_ok(x: Fields) -> bool
     ensures { λ r. ⌜ r ≡ rangesOk x ⌝ }
 {
-    if !signs_ok(x) {
-        return false;
-    }
-    if !limits_ok(x) {
-        return false;
-    }
-    let status = x.status.size;
-    if !status_ok(status) {
-        return false;
-    }
-    let xs = in_order(x);
-    all_narrow(xs)
+    signs_ok(x) && (limits_ok(x) && (status_ok(x.status.size) && all_narrow(in_order(x))))
 }
 
 // Rules 9 and 13.

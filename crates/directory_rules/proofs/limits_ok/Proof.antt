@@ -9,8 +9,8 @@ limits-ok-spec =
     tie.close
     (tie.spec
     (λ c κs. search (needs, ranging))
-    (λ c. search (needs, ranging))
+    (λ c κs. search (needs, ranging))
     (λ c κs. search (needs, ranging))
     (λ c. search (needs, ranging))
-    (λ c κs. search (needs, ranging))
+    (λ c. search (needs, ranging))
     (λ c. search (needs, ranging)))

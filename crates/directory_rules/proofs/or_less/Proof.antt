@@ -1,6 +1,6 @@
 -- A negative number, or nought.
 use borrow.Author.Needs.{needs}
-use Rattle.directory.proofs.Ranges.{numbered}
+use Rattle.directory.proofs.Ranges.{ranging}
 use Rattle.directory_rules.proofs.or_less.Statement.{statement}
 use Rattle.directory_rules.proofs.or_less.Tie as tie
 
@@ -8,5 +8,5 @@ pub or-less-spec : {M : Type 1} → statement M
 or-less-spec =
     tie.close
     (tie.spec
-    (λ c. search (needs, numbered))
-    (λ c. search (needs, numbered)))
+    (λ c. search (needs, ranging))
+    (λ c. search (needs, ranging)))
