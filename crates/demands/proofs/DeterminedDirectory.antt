@@ -4,22 +4,14 @@ use Rattle.directory_read.proofs.entry_at.Kinds as dlines-entry-at-kinds
 use Rattle.directory_read.proofs.entry_at.Reads as dlines-entry-at-reads
 use Rattle.directory_read.proofs.type_at.Kinds as dlines-type-at-kinds
 use Rattle.directory_read.proofs.type_at.Reads as dlines-type-at-reads
-use Rattle.directory_read.proofs.pointer_at.Kinds as dlines-pointer-at-kinds
-use Rattle.directory_read.proofs.pointer_at.Reads as dlines-pointer-at-reads
-use Rattle.directory_read.proofs.lines_at.Kinds as dlines-lines-at-kinds
-use Rattle.directory_read.proofs.lines_at.Reads as dlines-lines-at-reads
 use Rattle.directory_read.proofs.label_at.Kinds as dlines-label-at-kinds
 use Rattle.directory_read.proofs.label_at.Reads as dlines-label-at-reads
 use Rattle.directory_lookup.proofs.class_at.Kinds as classes-class-at-kinds
 use Rattle.directory_lookup.proofs.class_at.Reads as classes-class-at-reads
-use Rattle.directory_rules.proofs.number_of.Kinds as entryrules-number-of-kinds
-use Rattle.directory_rules.proofs.number_of.Reads as entryrules-number-of-reads
 use Rattle.directory_rules.proofs.entry_of.Kinds as entryrules-entry-of-kinds
 use Rattle.directory_rules.proofs.entry_of.Reads as entryrules-entry-of-reads
 use Rattle.directory_rules.proofs.in_order.Kinds as entryrules-in-order-kinds
 use Rattle.directory_rules.proofs.in_order.Reads as entryrules-in-order-reads
-use Rattle.directory_rules.proofs.ranges_ok.Kinds as entryrules-ranges-ok-kinds
-use Rattle.directory_rules.proofs.ranges_ok.Reads as entryrules-ranges-ok-reads
 use Rattle.directory_rules.proofs.entry_rules.Kinds as entryrules-entry-rules-kinds
 use Rattle.directory_rules.proofs.entry_rules.Reads as entryrules-entry-rules-reads
 use Rattle.directory_rules.proofs.wanted.Kinds as entryrules-wanted-kinds
@@ -29,7 +21,7 @@ use Rattle.directory_lay.proofs.put_first.Reads as dsection-put-first-reads
 use Rattle.directory_lay.proofs.put_second.Kinds as dsection-put-second-kinds
 use Rattle.directory_lay.proofs.put_second.Reads as dsection-put-second-reads
 use Rattle.demands.specs.Unique.{NoSecond}
-use Rattle.demands.proofs.Unique.{once, line-once, wrote-first}
+use Rattle.demands.proofs.Unique.{once, wrote-first}
 
 -- ---- dlines
 
@@ -38,12 +30,6 @@ dlines-entry-at κs a z z′ left left′ p q = (once (p .0) (q .0), refl)
 
 pub dlines-type-at : NoSecond dlines-type-at-kinds.ps dlines-type-at-kinds.r dlines-type-at-reads.Post
 dlines-type-at κs a z z′ left left′ p q = (once (p .0) (q .0), refl)
-
-pub dlines-pointer-at : NoSecond dlines-pointer-at-kinds.ps dlines-pointer-at-kinds.r dlines-pointer-at-reads.Post
-dlines-pointer-at κs a z z′ left left′ p q = (line-once (p .0) (q .0), refl)
-
-pub dlines-lines-at : NoSecond dlines-lines-at-kinds.ps dlines-lines-at-kinds.r dlines-lines-at-reads.Post
-dlines-lines-at κs a z z′ left left′ p q = (once (p .0) (q .0), refl)
 
 pub dlines-label-at : NoSecond dlines-label-at-kinds.ps dlines-label-at-kinds.r dlines-label-at-reads.Post
 dlines-label-at κs a z z′ left left′ p q = (once p q, refl)
@@ -55,17 +41,11 @@ classes-class-at κs a z z′ left left′ p q = (once p q, refl)
 
 -- ---- entryrules
 
-pub entryrules-number-of : NoSecond entryrules-number-of-kinds.ps entryrules-number-of-kinds.r entryrules-number-of-reads.Post
-entryrules-number-of κs a z z′ left left′ p q = (once p q, refl)
-
 pub entryrules-entry-of : NoSecond entryrules-entry-of-kinds.ps entryrules-entry-of-kinds.r entryrules-entry-of-reads.Post
 entryrules-entry-of κs a z z′ left left′ p q = (once p q, refl)
 
 pub entryrules-in-order : NoSecond entryrules-in-order-kinds.ps entryrules-in-order-kinds.r entryrules-in-order-reads.Post
 entryrules-in-order κs a z z′ left left′ p q = (once p q, refl)
-
-pub entryrules-ranges-ok : NoSecond entryrules-ranges-ok-kinds.ps entryrules-ranges-ok-kinds.r entryrules-ranges-ok-reads.Post
-entryrules-ranges-ok κs a z z′ left left′ p q = (once p q, refl)
 
 pub entryrules-entry-rules : NoSecond entryrules-entry-rules-kinds.ps entryrules-entry-rules-kinds.r entryrules-entry-rules-reads.Post
 entryrules-entry-rules κs a z z′ left left′ p q = (once p q, refl)

@@ -31,16 +31,6 @@ attribute-minus x h = rw h
 pub attribute-plain : (x : Signed) → x .neg ≡ false → Number (x .size) ≡ attributeOf x
 attribute-plain x h = rw h
 
-pub number-plain : (a : Attribute) (n : ℕ) → a ≡ Number n → record { neg = false; size = n } ≡ numberOf a
-number-plain a n e = rw (e, cond-same (eqb n 0) false)
-
-pub number-minus : (a : Attribute) (d : DirectoryNumber) → a ≡ Reference d → record { neg = not (eqb (d .0) 0); size = d .0 } ≡ numberOf a
-number-minus a d e = rw e (pick (eqb (d .0) 0))
-  where
-    pick : (b : Bool) → _≡_ {A = Signed} (record { neg = not b; size = d .0 }) (record { neg = cond b false true; size = d .0 })
-    pick true = refl
-    pick false = refl
-
 -- a number that is no nought with a sign comes back
 pub attribute-number : (x : Signed) → NormalSign x → numberOf (attributeOf x) ≡ x
 attribute-number x h = pick (x .neg) (eqb (x .size) 0) refl refl
@@ -68,7 +58,7 @@ pub entry-is : (x : Fields) (font level colour : Attribute) → font ≡ attribu
 unfolding entryOf
 entry-is x font level colour e f g = rw (e, f, g)
 
-pub ruleset meaning = (attribute-minus, attribute-plain, number-plain, number-minus, entry-is)
+pub ruleset meaning = (attribute-minus, attribute-plain, entry-is)
 
 -- ---- what a reference asks
 

@@ -314,29 +314,13 @@ fn size_in(file: &[u8], k: usize, j: usize) -> u32
     size_of(f)
 }
 
-// Its type; its parameter pointer and parameter line count.
+// Its type.
 pub fn type_at(file: &[u8], k: usize) -> u32
     requires { ⌜ 81 * k + 162 ≤ length (now file) ⌝ }
     ensures { λ r. ⌜ r ≡ sizeOf (signedOf (slotIn (now (file .entry)) k (Slot.number typeAt))) ⌝ }
     ensures { λ r. ⌜ r < 100000000 ⌝ }
 {
     size_in(file, k, TYPE)
-}
-
-pub fn pointer_at(file: &[u8], k: usize) -> ParameterLine
-    requires { ⌜ 81 * k + 162 ≤ length (now file) ⌝ }
-    ensures { λ r. ⌜ r .0 ≡ sizeOf (signedOf (slotIn (now (file .entry)) k Slot.pointer)) ⌝ }
-    ensures { λ r. ⌜ r .0 < 100000000 ⌝ }
-{
-    ParameterLine(size_in(file, k, POINTER))
-}
-
-pub fn lines_at(file: &[u8], k: usize) -> u32
-    requires { ⌜ 81 * k + 162 ≤ length (now file) ⌝ }
-    ensures { λ r. ⌜ r ≡ sizeOf (signedOf (slotIn (now (file .entry)) k Slot.lines)) ⌝ }
-    ensures { λ r. ⌜ r < 100000000 ⌝ }
-{
-    size_in(file, k, LINES)
 }
 
 // The byte where its label starts.
