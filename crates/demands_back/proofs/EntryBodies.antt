@@ -8,7 +8,7 @@ use native.Mathlib.Omega.{arith}
 use lib.ListN.{length, getD, take, drop, length-append}
 use lib.Dec.{eqb}
 use Rattle.columns.specs.declared.Signed.{Signed}
-use Rattle.columns.specs.Columns.{printable}
+use Rattle.columns.specs.Columns.{printable, joined}
 use Rattle.columns.specs.Decimal.{dec, signedDec, padded, toRight}
 use Rattle.columns.proofs.Tests.{cond-cases}
 use Rattle.columns.proofs.Looks.{print-both, print-cons, print-replicate}
@@ -16,7 +16,7 @@ use Rattle.columns.proofs.Decimals.{dec-digits, print-digits, print-signed, pri
 use Rattle.records.proofs.Round.{print-flow}
 use Rattle.directory.specs.declared.Fields.{Fields}
 use Rattle.directory.specs.Fields.{nought, inOrder}
-use Rattle.directory.specs.Lines.{Slot, number, again, pointer, lines, reserved, label, slots, written, slotOf, joined, entryLines}
+use Rattle.directory.specs.Lines.{Slot, number, again, pointer, lines, reserved, label, slots, written, slotOf, entryLines}
 use Rattle.directory.specs.Reading.{firstLine, secondLine, Writable}
 use Rattle.directory.proofs.Puts.{entry-lines}
 use Rattle.directory.proofs.Round.{first-length, second-length}
@@ -54,7 +54,7 @@ module _ (x : Fields) (from count : ℕ) (name : List ℕ) (good : printable nam
   print-slot label = good
 
   print-slots : (ss : List Slot) → printable (joined (map (slotOf x from count name) ss)) ≡ true
-  unfolding printable
+  unfolding printable joined
   print-slots [] = refl
   print-slots (s ∷ ss) = print-both (slotOf x from count name s) (joined (map (slotOf x from count name) ss)) (print-slot s) (print-slots ss)
 

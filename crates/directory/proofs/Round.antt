@@ -1,4 +1,4 @@
--- Round trips of an entry: the two D lines that are written of it are read back as it, and what was read fits the columns that it was read from.
+-- Round trips of an entry: the two D lines that are written of it are read back as it; how large what was read is.
 use mathlib.Core.Path.{_≡_, refl, sym, ap, _∙_}
 use mathlib.Core.Bool.{Bool, true, false, cond, not, _&&_}
 use mathlib.Core.List.{List, [], _∷_, _++_, map, append-assoc}
@@ -13,7 +13,7 @@ use borrow.Author.Tests.{le-leb, leb-true, eq-eqb, ne-eqb, eqb-true, not-true}
 use Rattle.columns.specs.declared.Signed.{Signed}
 use Rattle.columns.specs.declared.SignedField.the-variants.{Number}
 use Rattle.columns.specs.declared.ParameterLine.{ParameterLine}
-use Rattle.columns.specs.Columns.{columns, lineAt}
+use Rattle.columns.specs.Columns.{columns, lineAt, joined}
 use Rattle.columns.specs.Fixed.{fieldOf, signedOf, withSign, signed, NormalSign}
 use Rattle.columns.specs.Decimal.{dec, signedDec, toRight}
 use Rattle.columns.proofs.Tests.{cond-cases, cond-true, cond-same, both-left, both-right, both-true}
@@ -23,9 +23,9 @@ use Rattle.columns.proofs.Round.{field-padded, field-zero-filled, signed-padded
 use Rattle.directory.specs.declared.Fields.{Fields}
 use Rattle.directory.specs.declared.EntryRead.the-variants.{Spelt, Wrong}
 use Rattle.directory.specs.Fields.{nought, inOrder}
-use Rattle.directory.specs.Lines.{Slot, number, again, pointer, lines, reserved, label, slots, seek, slotIn, unsigned, numberIn, numbers, with, numbersFrom, isSame, parameterLine, entryAt, labelAt, written, slotOf, joined, entryLines}
+use Rattle.directory.specs.Lines.{Slot, number, again, pointer, lines, reserved, label, slots, seek, slotIn, unsigned, numberIn, numbers, with, numbersFrom, isSame, parameterLine, entryAt, labelAt, written, slotOf, entryLines}
 use Rattle.directory.specs.Rules.{narrow, rangesOk, signsOk, limitsOk, statusOk}
-use Rattle.directory.specs.Reading.{slotAt, firstLine, secondLine, Eight, Within, Normals, Writable}
+use Rattle.directory.specs.Reading.{slotAt, firstLine, secondLine, Within, Normals, Writable}
 use Rattle.directory.proofs.Slots.{in-at, first-slot, second-slot, placed, placed-low, others-signed}
 use Rattle.directory.proofs.Within.{small}
 use Rattle.directory.proofs.Puts.{entry-lines}
@@ -38,11 +38,13 @@ AllEight [] = Unit {0}
 AllEight (l ∷ ls) = (length l ≡ 8) × AllEight ls
 
 joined-length : (ls : List (List ℕ)) → AllEight ls → length (joined ls) ≡ 8 * length ls
+unfolding joined
 joined-length [] a = refl
 joined-length (l ∷ ls) a = rw length-append (omega (arith, a .0, joined-length ls (a .1)))
 
 -- the columns of one of them
 joined-columns : (ls : List (List ℕ)) (d rest : List ℕ) → AllEight ls → (j : ℕ) → j < length ls → columns (joined ls ++ rest) (8 * j) (8 * j + 8) ≡ getD ls j d
+unfolding joined
 joined-columns [] d rest a j h = absurd (omega arith)
 joined-columns (l ∷ ls) d rest a zero h = rw append-assoc (columns-part l (joined ls ++ rest) 8 (a .0))
 joined-columns (l ∷ ls) d rest a (suc j) h =
@@ -313,58 +315,5 @@ entry-back x from count name f k w b = back (rw (entry-lines x from count name) 
 
 -- ---- what was read
 
-module _ (x : Fields) (from : ParameterLine) (count : ℕ) (w : Within x from count) where
-  -- a number that was read from eight columns fits them: a file's entry is never too wide
-  pub read-narrow : narrow (inOrder x) ≡ true
-  read-narrow =
-      one (x .entity) (w .entity) (one (x .form) (w .form) (one (x .structure) (w .structure) (one (x .font) (w .font) (one (x .level) (w .level)
-      (one (x .view) (w .view) (one (x .matrix) (w .matrix) (one (x .display) (w .display) (one (x .status) (w .status) (one (x .weight) (w .weight)
-      (one (x .colour) (w .colour) (one (x .subscript) (w .subscript) refl)))))))))))
-    where
-      one : {b : Bool} (y : Signed) → Eight y → b ≡ true → leb (length (signedDec y)) 8 && b ≡ true
-      one y e h = both-true (le-leb (length (signedDec y)) 8 (e .fits)) h
-
-  pub read-normal : Normals (inOrder x)
-  read-normal = (
-    w .entity .normal,
-    (
-      w .form .normal,
-      (
-        w .structure .normal,
-        (
-          w .font .normal,
-          (
-            w .level .normal,
-            (
-              w .view .normal,
-              (
-                w .matrix .normal,
-                (w .display .normal, (w .status .normal, (w .weight .normal, (w .colour .normal, (w .subscript .normal, tt))))),
-              ),
-            ),
-          ),
-        ),
-      ),
-    ),
-  )
-
-  -- what was read and is in its ranges can be written, with any pointer and line count that fit, under any label
-  pub read-writable : (from′ count′ : ℕ) (name : List ℕ) → rangesOk x ≡ true → 1 ≤ from′ → from′ ≤ 99999999 → 1 ≤ count′ → count′ ≤ 99999999 → length name ≡ 8
-      → Writable x from′ count′ name
-  read-writable from′ count′ name r a b c d l = record {
-    ranges = r;
-    normal = read-normal;
-    statusPlain = w .statusPlain;
-    fromLow = a;
-    fromHigh = b;
-    countLow = c;
-    countHigh = d;
-    label = l;
-  }
-
--- of an entry of a file
 pub spelt-within : (f : List ℕ) (k : ℕ) (x : Fields) (from : ParameterLine) (count : ℕ) → entryAt f k ≡ Spelt x from count → Within x from count
 spelt-within f k x from count e = rw e at (small f k)
-
-pub spelt-narrow : (f : List ℕ) (k : ℕ) (x : Fields) (from : ParameterLine) (count : ℕ) → entryAt f k ≡ Spelt x from count → narrow (inOrder x) ≡ true
-spelt-narrow f k x from count e = read-narrow x from count (spelt-within f k x from count e)

@@ -18,8 +18,8 @@ use Rattle.columns.specs.Fixed.{fieldOf, signedOf, withSign}
 use Rattle.columns.proofs.Tests.{cond-same, both-left, both-right}
 use Rattle.columns.proofs.Columns.{line-columns}
 use Rattle.columns.proofs.First.{getD-upFrom}
-use Rattle.directory.specs.Fields.{typeAt, formAt, structureAt, fontAt, levelAt, viewAt, matrixAt, displayAt, statusAt, weightAt, colourAt, subscriptAt, fieldCount}
-use Rattle.directory.specs.Lines.{Slot, number, again, pointer, lines, label, slots, seek, slotsALine, slotColumns, slotIn, unsigned, numberIn, labelAt}
+use Rattle.directory.specs.Fields.{fieldCount}
+use Rattle.directory.specs.Lines.{Slot, number, pointer, lines, label, slots, seek, slotsALine, slotColumns, slotIn, unsigned, numberIn, labelAt}
 use Rattle.directory.specs.Reading.{slotAt, startOf}
 
 -- ---- the columns of each slot
@@ -44,69 +44,17 @@ module _ (f : List ℕ) (k : ℕ) where
       let b : (9 + j) % 9 ≡ j = omega arith in
       rw (a, b)
 
-  pub type-slot : slotIn f k (number typeAt) ≡ columns (lineAt f k) 0 8
-  unfolding slots
-  type-slot = in-at f k (number typeAt) ∙ first-slot 0 (omega arith)
-
   pub pointer-slot : slotIn f k pointer ≡ columns (lineAt f k) 8 16
   unfolding slots
   pointer-slot = in-at f k pointer ∙ first-slot 1 (omega arith)
-
-  pub structure-slot : slotIn f k (number structureAt) ≡ columns (lineAt f k) 16 24
-  unfolding slots
-  structure-slot = in-at f k (number structureAt) ∙ first-slot 2 (omega arith)
-
-  pub font-slot : slotIn f k (number fontAt) ≡ columns (lineAt f k) 24 32
-  unfolding slots
-  font-slot = in-at f k (number fontAt) ∙ first-slot 3 (omega arith)
-
-  pub level-slot : slotIn f k (number levelAt) ≡ columns (lineAt f k) 32 40
-  unfolding slots
-  level-slot = in-at f k (number levelAt) ∙ first-slot 4 (omega arith)
-
-  pub view-slot : slotIn f k (number viewAt) ≡ columns (lineAt f k) 40 48
-  unfolding slots
-  view-slot = in-at f k (number viewAt) ∙ first-slot 5 (omega arith)
-
-  pub matrix-slot : slotIn f k (number matrixAt) ≡ columns (lineAt f k) 48 56
-  unfolding slots
-  matrix-slot = in-at f k (number matrixAt) ∙ first-slot 6 (omega arith)
-
-  pub display-slot : slotIn f k (number displayAt) ≡ columns (lineAt f k) 56 64
-  unfolding slots
-  display-slot = in-at f k (number displayAt) ∙ first-slot 7 (omega arith)
-
-  pub status-slot : slotIn f k (number statusAt) ≡ columns (lineAt f k) 64 72
-  unfolding slots
-  status-slot = in-at f k (number statusAt) ∙ first-slot 8 (omega arith)
-
-  pub again-slot : slotIn f k again ≡ columns (lineAt f (k + 1)) 0 8
-  unfolding slots
-  again-slot = in-at f k again ∙ second-slot 0 (omega arith)
-
-  pub weight-slot : slotIn f k (number weightAt) ≡ columns (lineAt f (k + 1)) 8 16
-  unfolding slots
-  weight-slot = in-at f k (number weightAt) ∙ second-slot 1 (omega arith)
-
-  pub colour-slot : slotIn f k (number colourAt) ≡ columns (lineAt f (k + 1)) 16 24
-  unfolding slots
-  colour-slot = in-at f k (number colourAt) ∙ second-slot 2 (omega arith)
 
   pub lines-slot : slotIn f k lines ≡ columns (lineAt f (k + 1)) 24 32
   unfolding slots
   lines-slot = in-at f k lines ∙ second-slot 3 (omega arith)
 
-  pub form-slot : slotIn f k (number formAt) ≡ columns (lineAt f (k + 1)) 32 40
-  unfolding slots
-  form-slot = in-at f k (number formAt) ∙ second-slot 4 (omega arith)
-
   pub label-slot : slotIn f k label ≡ columns (lineAt f (k + 1)) 56 64
   unfolding slots
   label-slot = in-at f k label ∙ second-slot 7 (omega arith)
-
-  pub subscript-slot : slotIn f k (number subscriptAt) ≡ columns (lineAt f (k + 1)) 64 72
-  unfolding slots
-  subscript-slot = in-at f k (number subscriptAt) ∙ second-slot 8 (omega arith)
 
   -- the slots in the file
   pub slot-columns : (j : ℕ) → slotAt f k j ≡ columns f (startOf k j) (startOf k j + slotColumns)

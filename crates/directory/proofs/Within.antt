@@ -12,19 +12,16 @@ use Rattle.columns.specs.declared.Field.the-variants.{Number as FieldNumber, Ba
 use Rattle.columns.specs.declared.Signed.{Signed}
 use Rattle.columns.specs.declared.SignedField.{SignedField}
 use Rattle.columns.specs.declared.SignedField.the-variants.{Number, Bad}
-use Rattle.columns.specs.declared.ParameterLine.{ParameterLine}
 use Rattle.columns.specs.Columns.{columns}
 use Rattle.columns.specs.Fixed.{fieldOf, signedOf, withSign, signed}
 use Rattle.columns.specs.Decimal.{dec, signedDec}
 use Rattle.columns.proofs.Tests.{cond-cases, cond-same, both-left, both-right, true-false}
 use Rattle.columns.proofs.Decimals.{dec-below, length-signed, dec-nought}
 use Rattle.columns.proofs.Round.{signed-fits, signed-normal, field-fits}
-use Rattle.directory.specs.declared.Fields.{Fields}
 use Rattle.directory.specs.declared.EntryRead.{EntryRead}
-use Rattle.directory.specs.declared.EntryRead.the-variants.{Spelt}
 use Rattle.directory.specs.Fields.{nought, fieldsOf}
 use Rattle.directory.specs.Lines.{Slot, number, again, pointer, lines, slotIn, unsigned, numberIn, Numbers, numbers, misspelt, with, numbersFrom, positive, sizeOf, isSame, speltAs, spelt, entryAt}
-use Rattle.directory.specs.Reading.{Eight, Within, Small}
+use Rattle.directory.specs.Reading.{Eight, Small}
 
 pub slot-length : (f : List ℕ) (k : ℕ) (x : Slot) → length (slotIn f k x) ≤ 8
 unfolding slotIn columns
@@ -179,7 +176,3 @@ small f k = pick (numbersFrom f k 0 12) (all-good f k 12 0)
 
 pub small-read : (f : List ℕ) (k : ℕ) (r : EntryRead) → r ≡ entryAt f k → Small r
 small-read f k r e = rw e (small f k)
-
--- of a caller that has matched what was read
-pub within-spelt : (r : EntryRead) (x : Fields) (from : ParameterLine) (count : ℕ) → Small r → r ≡ Spelt x from count → Within x from count
-within-spelt r x from count h e = rw e at h

@@ -1,6 +1,6 @@
 -- The two D lines of an entry: eight-column fields, nine to a line.
 use mathlib.Core.Bool.{Bool, true, false, cond, not, _&&_, _||_}
-use mathlib.Core.List.{List, [], _∷_, _++_, map}
+use mathlib.Core.List.{List, [], _∷_, map}
 use Prim.Native.Nat.{ℕ, zero, suc, _+_, _*_, _/_, _%_}
 use lib.ListN.{getD, replicate, take, drop}
 use lib.Dec.{leb, eqb}
@@ -8,7 +8,7 @@ use Rattle.columns.specs.declared.Signed.{Signed}
 use Rattle.columns.specs.declared.SignedField.{SignedField}
 use Rattle.columns.specs.declared.SignedField.the-variants.{Number, Bad}
 use Rattle.columns.specs.declared.ParameterLine.{ParameterLine}
-use Rattle.columns.specs.Columns.{columns, lineAt}
+use Rattle.columns.specs.Columns.{columns, lineAt, joined}
 use Rattle.columns.specs.Fixed.{fieldOf, signedOf, withSign}
 use Rattle.columns.specs.Decimal.{dec, signedDec, padded, zeroFilled}
 use Rattle.directory.specs.declared.Fields.{Fields}
@@ -145,11 +145,6 @@ slotOf x from count name pointer = padded slotColumns (dec from)
 slotOf x from count name lines = padded slotColumns (dec count)
 slotOf x from count name reserved = replicate slotColumns 32
 slotOf x from count name label = name
-
--- fields, one behind the other
-abbrev pub joined : List (List ℕ) → List ℕ
-joined [] = []
-joined (l ∷ ls) = l ++ joined ls
 
 -- the columns 1-72 of an entry's two D lines: its numbers, the pointer and line count of its parameters, its label
 unfoldable pub entryLines : Fields → ℕ → ℕ → List ℕ → List (List ℕ)

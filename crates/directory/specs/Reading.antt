@@ -8,7 +8,7 @@ use lib.ListN.{length, take, drop}
 use Rattle.columns.specs.declared.Signed.{Signed}
 use Rattle.columns.specs.declared.SignedField.the-variants.{Number}
 use Rattle.columns.specs.declared.ParameterLine.{ParameterLine}
-use Rattle.columns.specs.Columns.{columns, lineBytes, lineAt}
+use Rattle.columns.specs.Columns.{columns, lineBytes, lineAt, joined}
 use Rattle.columns.specs.Fixed.{NormalSign}
 use Rattle.columns.specs.Decimal.{signedDec, padded}
 use Rattle.directory.specs.declared.Fields.{Fields}
@@ -16,7 +16,7 @@ use Rattle.directory.specs.declared.EntryRead.{EntryRead}
 use Rattle.directory.specs.declared.EntryRead.the-variants.{Spelt, Wrong}
 use Rattle.directory.specs.Fields.{inOrder}
 use Rattle.directory.specs.Rules.{rangesOk}
-use Rattle.directory.specs.Lines.{label, slots, slotsALine, slotColumns, numberIn, slotOf, joined}
+use Rattle.directory.specs.Lines.{label, slots, slotsALine, slotColumns, numberIn, slotOf}
 
 -- ---- where a slot stands
 
