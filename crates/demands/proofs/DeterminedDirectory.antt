@@ -1,5 +1,13 @@
--- No second result fits the contract of a public function of crates dlines, classes, entryrules and dsection. Assumes nothing.
+-- No second result fits the contract of a public function of crates directory, dlines, classes, entryrules and dsection. Assumes nothing.
 use mathlib.Core.Path.{refl}
+use Rattle.directory.proofs.lines.place_of.Kinds as directory-place-of-kinds
+use Rattle.directory.proofs.lines.place_of.Reads as directory-place-of-reads
+use Rattle.directory.proofs.lines.start_of.Kinds as directory-start-of-kinds
+use Rattle.directory.proofs.lines.start_of.Reads as directory-start-of-reads
+use Rattle.directory.proofs.order.in_order.Kinds as directory-in-order-kinds
+use Rattle.directory.proofs.order.in_order.Reads as directory-in-order-reads
+use Rattle.directory.proofs.order.fields_of.Kinds as directory-fields-of-kinds
+use Rattle.directory.proofs.order.fields_of.Reads as directory-fields-of-reads
 use Rattle.directory_read.proofs.entry_at.Kinds as dlines-entry-at-kinds
 use Rattle.directory_read.proofs.entry_at.Reads as dlines-entry-at-reads
 use Rattle.directory_read.proofs.type_at.Kinds as dlines-type-at-kinds
@@ -10,8 +18,6 @@ use Rattle.directory_lookup.proofs.class_at.Kinds as classes-class-at-kinds
 use Rattle.directory_lookup.proofs.class_at.Reads as classes-class-at-reads
 use Rattle.directory_rules.proofs.entry_of.Kinds as entryrules-entry-of-kinds
 use Rattle.directory_rules.proofs.entry_of.Reads as entryrules-entry-of-reads
-use Rattle.directory_rules.proofs.in_order.Kinds as entryrules-in-order-kinds
-use Rattle.directory_rules.proofs.in_order.Reads as entryrules-in-order-reads
 use Rattle.directory_rules.proofs.entry_rules.Kinds as entryrules-entry-rules-kinds
 use Rattle.directory_rules.proofs.entry_rules.Reads as entryrules-entry-rules-reads
 use Rattle.directory_rules.proofs.wanted.Kinds as entryrules-wanted-kinds
@@ -22,6 +28,20 @@ use Rattle.directory_lay.proofs.put_second.Kinds as dsection-put-second-kinds
 use Rattle.directory_lay.proofs.put_second.Reads as dsection-put-second-reads
 use Rattle.demands.specs.Unique.{NoSecond}
 use Rattle.demands.proofs.Unique.{once, wrote-first}
+
+-- ---- directory
+
+pub directory-place-of : NoSecond directory-place-of-kinds.ps directory-place-of-kinds.r directory-place-of-reads.Post
+directory-place-of κs a z z′ left left′ p q = (once (p .0) (q .0), refl)
+
+pub directory-start-of : NoSecond directory-start-of-kinds.ps directory-start-of-kinds.r directory-start-of-reads.Post
+directory-start-of κs a z z′ left left′ p q = (once p q, refl)
+
+pub directory-in-order : NoSecond directory-in-order-kinds.ps directory-in-order-kinds.r directory-in-order-reads.Post
+directory-in-order κs a z z′ left left′ p q = (once p q, refl)
+
+pub directory-fields-of : NoSecond directory-fields-of-kinds.ps directory-fields-of-kinds.r directory-fields-of-reads.Post
+directory-fields-of κs a z z′ left left′ p q = (once p q, refl)
 
 -- ---- dlines
 
@@ -43,9 +63,6 @@ classes-class-at κs a z z′ left left′ p q = (once p q, refl)
 
 pub entryrules-entry-of : NoSecond entryrules-entry-of-kinds.ps entryrules-entry-of-kinds.r entryrules-entry-of-reads.Post
 entryrules-entry-of κs a z z′ left left′ p q = (once p q, refl)
-
-pub entryrules-in-order : NoSecond entryrules-in-order-kinds.ps entryrules-in-order-kinds.r entryrules-in-order-reads.Post
-entryrules-in-order κs a z z′ left left′ p q = (once p q, refl)
 
 pub entryrules-entry-rules : NoSecond entryrules-entry-rules-kinds.ps entryrules-entry-rules-kinds.r entryrules-entry-rules-reads.Post
 entryrules-entry-rules κs a z z′ left left′ p q = (once p q, refl)

@@ -106,20 +106,26 @@ module _ (f : List ℕ) (k j at : ℕ) (start : at ≡ startOf k j) where
   pub slot-plain : (x : Field) (r : SignedField) → x ≡ fieldOf (columns f at (at + 8)) → r ≡ withSign false x → r ≡ withSign false (fieldOf (slotAt f k j))
   slot-plain x r e h = rw (slot-columns f k j, ← start, ← e) h
 
--- a number of the entry
-module _ (f : List ℕ) (k n j : ℕ) (r : SignedField) (place : j ≡ seek (number n) slots) where
-  pub number-plain : unsigned n ≡ true → r ≡ withSign false (fieldOf (slotAt f k j)) → r ≡ numberIn f k n
+-- a number of the entry, with a sign or without
+module _ (f : List ℕ) (k n j : ℕ) (r : SignedField) (place : j ≡ seek (number n) slots) (b : Bool) (plain : b ≡ unsigned n) where
+  pub number-plain : b ≡ true → r ≡ withSign false (fieldOf (slotAt f k j)) → r ≡ numberIn f k n
   unfolding numberIn
-  number-plain h e = rw (h, in-at f k (number n), ← place) e
+  number-plain h e = rw (← plain, h, in-at f k (number n), ← place) e
 
-  pub number-signed : unsigned n ≡ false → r ≡ signedOf (slotAt f k j) → r ≡ numberIn f k n
+  pub number-signed : b ≡ false → r ≡ signedOf (slotAt f k j) → r ≡ numberIn f k n
   unfolding numberIn
-  number-signed h e = rw (h, in-at f k (number n), ← place) e
+  number-signed h e = rw (← plain, h, in-at f k (number n), ← place) e
+
+pub unsigned-yes : (n : ℕ) → n ≡ 8 → eqb n 8 ≡ unsigned n
+unsigned-yes n h = rw h
+
+pub unsigned-no : (n : ℕ) → (n ≡ 8 → ⊥) → eqb n 11 ≡ unsigned n
+unsigned-no n h = simp (ne-eqb _ _ h)
 
 pub others-signed : (n : ℕ) → (n ≡ 8 → ⊥) → (n ≡ 11 → ⊥) → unsigned n ≡ false
 others-signed n h l = simp (ne-eqb _ _ h, ne-eqb _ _ l)
 
-pub ruleset slotted = (placed, placed-low, plain-number, plain-bad, slot-signed, slot-plain, number-signed)
+pub ruleset slotted = (placed, placed-low, plain-number, plain-bad, slot-signed, slot-plain, unsigned-yes, unsigned-no, number-plain, number-signed)
 
 -- the label in the file
 pub label-columns : (f : List ℕ) (k : ℕ) → labelAt f k ≡ columns f (81 * (k + 1) + 56) (81 * (k + 1) + 64)

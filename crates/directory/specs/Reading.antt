@@ -6,7 +6,6 @@ use mathlib.Core.List.{List, [], _∷_, _++_, map}
 use Prim.Native.Nat.{ℕ, _+_, _*_, _/_, _%_, _≤_, _<_}
 use lib.ListN.{length, take, drop}
 use Rattle.columns.specs.declared.Signed.{Signed}
-use Rattle.columns.specs.declared.SignedField.the-variants.{Number}
 use Rattle.columns.specs.declared.ParameterLine.{ParameterLine}
 use Rattle.columns.specs.Columns.{columns, lineBytes, lineAt, joined}
 use Rattle.columns.specs.Fixed.{NormalSign}
@@ -16,7 +15,7 @@ use Rattle.directory.specs.declared.EntryRead.{EntryRead}
 use Rattle.directory.specs.declared.EntryRead.the-variants.{Spelt, Wrong}
 use Rattle.directory.specs.Fields.{inOrder}
 use Rattle.directory.specs.Rules.{rangesOk}
-use Rattle.directory.specs.Lines.{label, slots, slotsALine, slotColumns, numberIn, slotOf}
+use Rattle.directory.specs.Lines.{label, slots, slotsALine, slotColumns, slotOf}
 
 -- ---- where a slot stands
 
@@ -27,10 +26,6 @@ slotAt f k j = columns (lineAt f (k + j / slotsALine)) (slotColumns * (j % slots
 -- its first byte in the file
 abbrev pub startOf : ℕ → ℕ → ℕ
 startOf k j = lineBytes * (k + j / slotsALine) + slotColumns * (j % slotsALine)
-
--- number n of the entry is x
-abbrev pub NumberIs : List ℕ → ℕ → ℕ → Signed → Type 0
-NumberIs f k n x = numberIn f k n ≡ Number x
 
 -- ---- the lines as they are written
 

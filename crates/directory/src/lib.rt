@@ -1,16 +1,17 @@
 // Directory entries: the numbers of two D lines, what they mean, and what rules 9, 13 and 10 ask of them.
-// Crate `directory_rules` says what the numbers mean and asks the rules, `directory_read` reads the two lines, `directory_lay` lays them, `directory_lookup` looks up what a
-// directory number names.
+// `order` has the numbers' order, `lines` their places on the two lines. Crate `directory_rules` says what the numbers mean and asks the
+// rules, `directory_read` reads the two lines, `directory_lay` lays them, `directory_lookup` looks up what a directory number names.
+
+pub mod lines;
+pub mod order;
 
 use columns::DirectoryNumber;
 use columns::Fault;
 use columns::ParameterLine;
 use columns::Signed;
 
-// Columns of a slot on a D line, and slots of a line.
+// Columns of a slot on a D line.
 pub const SLOT_COLUMNS: usize = 8;
-
-pub const SLOTS_A_LINE: usize = 9;
 
 // The numbers of an entry as they are spelt, in a file or in a sheet; `entity` is its type, `display` its label display.
 pub struct Fields {

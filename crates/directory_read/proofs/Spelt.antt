@@ -1,26 +1,29 @@
 -- An entry put together of its numbers, its type again, its parameter pointer and its line count.
 use mathlib.Core.Path.{_≡_, refl, sym, ap, _∙_}
 use mathlib.Core.Bool.{Bool, true, false, not}
-use mathlib.Core.List.{List, [], _∷_}
-use Prim.Native.Nat.{ℕ, zero, suc, _+_, _<_}
+use mathlib.Core.List.{List, [], _∷_, _++_}
+use Prim.Native.Nat.{ℕ, zero, suc, _+_, _-_, _≤_, _<_}
 use native.Mathlib.Nat.{zero-add}
+use native.Mathlib.Numerals.{add-one}
 use native.Mathlib.Omega.{arith}
+use lib.ListN.{length, take, set}
+use lib.Seq.{take-suc-set, take-all}
 use lib.Dec.{leb}
 use borrow.Author.Tests.{eq-eqb, ne-eqb, not-true, not-false}
 use Rattle.columns.specs.declared.Signed.{Signed}
 use Rattle.columns.specs.declared.SignedField.{SignedField}
 use Rattle.columns.specs.declared.SignedField.the-variants.{Number, Bad}
 use Rattle.columns.specs.Columns.{columns}
-use Rattle.columns.specs.Fixed.{fieldOf, signedOf, withSign}
+use Rattle.columns.specs.Fixed.{signedOf}
 use Rattle.columns.specs.Reading.{SizeBelow}
 use Rattle.columns.proofs.Tests.{and-false}
 use Rattle.directory.specs.declared.Fields.{Fields}
 use Rattle.directory.specs.declared.EntryRead.{EntryRead}
 use Rattle.directory.specs.declared.EntryRead.the-variants.{Spelt, Wrong}
-use Rattle.directory.specs.Fields.{typeAt, inOrder, fieldsOf}
-use Rattle.directory.specs.Lines.{Slot, number, again, pointer, lines, slots, seek, slotIn, numberIn, numbers, misspelt, with, numbersFrom, positive, sizeOf, isSame, parameterLine, speltAs, entryAt}
-use Rattle.directory.specs.Reading.{slotAt, startOf, NumberIs}
-use Rattle.directory.proofs.Slots.{in-at, number-plain, slot-signed}
+use Rattle.directory.specs.Fields.{typeAt, fieldsOf}
+use Rattle.directory.specs.Lines.{Slot, number, again, pointer, lines, slots, seek, slotIn, numberIn, Numbers, numbers, misspelt, with, numbersFrom, positive, sizeOf, isSame, parameterLine, speltAs, entryAt}
+use Rattle.directory.specs.Reading.{slotAt, startOf}
+use Rattle.directory.proofs.Slots.{in-at, slot-signed}
 
 -- ---- one field
 
@@ -91,50 +94,54 @@ numbers-bad f k n (suc j) (suc more) h e =
     none (Number x) = refl
     none Bad = refl
 
+-- numbers that are read already, ahead of those that follow
+abbrev pub ahead : List Signed → Numbers → Numbers
+ahead [] ns = ns
+ahead (x ∷ xs) ns = with (Number x) (ahead xs ns)
+
+ahead-one : (xs : List Signed) (x : Signed) (ns : Numbers) → ahead (xs ++ (x ∷ [])) ns ≡ ahead xs (with (Number x) ns)
+ahead-one [] x ns = refl
+ahead-one (y ∷ xs) x ns = ap (with (Number y)) (ahead-one xs x ns)
+
+ahead-none : (xs : List Signed) → ahead xs (numbers []) ≡ numbers xs
+ahead-none [] = refl
+ahead-none (x ∷ xs) = ap (with (Number x)) (ahead-none xs)
+
+numbers-none : (f : List ℕ) (k n : ℕ) (xs : List Signed) → ahead xs (numbersFrom f k n 0) ≡ numbers xs
+unfolding numbersFrom
+numbers-none f k n xs = ahead-none xs
+
 module _ (f : List ℕ) (k : ℕ) where
-  pub number-is : (n : ℕ) (x : Signed) (r : SignedField) → r ≡ numberIn f k n → r ≡ Number x → NumberIs f k n x
-  number-is n x r e h = sym e ∙ h
+  pub number-start : (xs : List Signed) → ahead (take 0 xs) (numbersFrom f k 0 (12 - 0)) ≡ numbersFrom f k 0 12
+  number-start xs = refl
 
   pub number-wrong : (n : ℕ) (r : SignedField) → r ≡ numberIn f k n → r ≡ Bad → n < 12 → Wrong ≡ entryAt f k
   unfolding entryAt
   number-wrong n r e h l = rw (numbers-bad f k 0 n 12 l (rw zero-add (sym e ∙ h)))
 
-  -- status and subscript
-  pub status-in : (r : SignedField) → r ≡ withSign false (fieldOf (slotAt f k 8)) → r ≡ numberIn f k 8
-  unfolding slots
-  status-in r e = number-plain f k 8 8 r refl refl e
-
-  pub subscript-in : (r : SignedField) → r ≡ withSign false (fieldOf (slotAt f k 17)) → r ≡ numberIn f k 11
-  unfolding slots
-  subscript-in r e = number-plain f k 11 17 r refl refl e
-
-  pub status-is : (x : Signed) (r : SignedField) → r ≡ withSign false (fieldOf (slotAt f k 8)) → r ≡ Number x → NumberIs f k 8 x
-  status-is x r e h = number-is 8 x r (status-in r e) h
-
-  pub subscript-is : (x : Signed) (r : SignedField) → r ≡ withSign false (fieldOf (slotAt f k 17)) → r ≡ Number x → NumberIs f k 11 x
-  subscript-is x r e h = number-is 11 x r (subscript-in r e) h
-
-  pub status-wrong : (r : SignedField) → r ≡ withSign false (fieldOf (slotAt f k 8)) → r ≡ Bad → Wrong ≡ entryAt f k
-  status-wrong r e h = number-wrong 8 r (status-in r e) h (omega arith)
-
-  pub subscript-wrong : (r : SignedField) → r ≡ withSign false (fieldOf (slotAt f k 17)) → r ≡ Bad → Wrong ≡ entryAt f k
-  subscript-wrong r e h = number-wrong 11 r (subscript-in r e) h (omega arith)
-
-  -- all of them
-  pub numbers-are : (entity form structure font level view matrix display status weight colour subscript : Signed)
-      → NumberIs f k 0 entity → NumberIs f k 1 form → NumberIs f k 2 structure → NumberIs f k 3 font → NumberIs f k 4 level → NumberIs f k 5 view → NumberIs f k 6 matrix → NumberIs f k 7 display → NumberIs f k 8 status → NumberIs f k 9 weight → NumberIs f k 10 colour → NumberIs f k 11 subscript
-      → numbersFrom f k 0 12 ≡ numbers (entity ∷ form ∷ structure ∷ font ∷ level ∷ view ∷ matrix ∷ display ∷ status ∷ weight ∷ colour ∷ subscript ∷ [])
+  next : (n : ℕ) (xs : List Signed) (x : Signed) (more : ℕ) (all : Numbers) → ahead (take n xs) (numbersFrom f k n (suc more)) ≡ all → n < length xs → numberIn f k n ≡ Number x
+      → ahead (take (suc n) (set xs n x)) (numbersFrom f k (n + 1) more) ≡ all
   unfolding numbersFrom
-  numbers-are entity form structure font level view matrix display status weight colour subscript e0 e1 e2 e3 e4 e5 e6 e7 e8 e9 e10 e11 = rw (e0, e1, e2, e3, e4, e5, e6, e7, e8, e9, e10, e11)
+  next n xs x more all inv h e = rw (take-suc-set xs n x h, ahead-one) (rw e at inv)
 
-  pub numbers-of : (x : Fields) (ns : List Signed) → x ≡ fieldsOf ns → inOrder (fieldsOf ns) ≡ ns → numbersFrom f k 0 12 ≡ numbers ns → numbersFrom f k 0 12 ≡ numbers (inOrder x)
-  numbers-of x ns e h n = n ∙ ap numbers (sym h ∙ ap inOrder (sym e))
+  -- one number more, and all of them
+  module _ (n : ℕ) (xs : List Signed) (inv : ahead (take n xs) (numbersFrom f k n (12 - n)) ≡ numbersFrom f k 0 12) (l : length xs ≡ 12) where
+    pub number-on : (x : Signed) (r : SignedField) → n < 12 → r ≡ numberIn f k n → r ≡ Number x
+        → ahead (take (n + 1) (set xs n x)) (numbersFrom f k (n + 1) (12 - (n + 1))) ≡ numbersFrom f k 0 12
+    number-on x r h e q =
+        let m : 12 - n ≡ suc (12 - (n + 1)) = omega arith in
+        rw (add-one n) (rw (add-one n) at (next n xs x (12 - (n + 1)) (numbersFrom f k 0 12) (rw m at inv) (omega arith) (sym e ∙ q)))
 
-  pub entry-good : (x : Fields) (a from count : SignedField) (r : EntryRead) → numbersFrom f k 0 12 ≡ numbers (inOrder x)
+    pub number-end : 12 ≤ n → n ≤ 12 → numbersFrom f k 0 12 ≡ numbers xs
+    number-end lo hi =
+        let m : 12 - n ≡ 0 = omega arith in
+        sym (rw (take-all n xs (omega arith), m) at inv) ∙ numbers-none f k n xs
+
+  pub entry-good : (xs : List Signed) (x : Fields) (a from count : SignedField) (r : EntryRead) → numbersFrom f k 0 12 ≡ numbers xs → x ≡ fieldsOf xs
       → a ≡ signedOf (slotAt f k 9) → from ≡ signedOf (slotAt f k 1) → count ≡ signedOf (slotAt f k 12) → r ≡ speltAs x a from count → r ≡ entryAt f k
   unfolding entryAt slots
-  entry-good x a from count r e ea ef ec er =
-      rw (e, in-at f k again, in-at f k pointer, in-at f k lines) (er ∙ rw (ea, ef, ec))
+  entry-good xs x a from count r e ex ea ef ec er =
+      rw (e, in-at f k again, in-at f k pointer, in-at f k lines) (er ∙ rw (ex, ea, ef, ec))
 
 -- one field alone
 module _ (f : List ℕ) (k r : ℕ) where
@@ -154,4 +161,4 @@ size-small Bad r m z h e = omega arith
 
 pub ruleset sizes = (size-at, type-size, size-small)
 
-pub ruleset entries = (number-is, number-wrong, status-is, subscript-is, status-wrong, subscript-wrong, entry-good)
+pub ruleset entries = (number-start, number-wrong, number-on, number-end, entry-good)

@@ -7,12 +7,13 @@ use directory::Entry;
 use directory::Fields;
 use directory::Rule;
 use directory::Wanted;
+use directory::order;
 ghost use mathlib.Core.Path.{_≡_};
 ghost use Prim.Native.Nat.{_<_};
 ghost use lib.ListN.{length};
 ghost use lib.Dec.{leb};
 ghost use Rattle.columns.specs.Decimal.{signedDec};
-ghost use Rattle.directory.specs.Fields.{inOrder, attributeOf, entryOf};
+ghost use Rattle.directory.specs.Fields.{attributeOf, entryOf};
 ghost use Rattle.directory.specs.Rules.{orLess, upTo, signsOk, limitsOk, pairOk, statusOk, narrow, rangesOk};
 ghost use Rattle.directory.specs.Asking.{ruleOf, ofNumber, ofAttribute, referenceCount, wantedOf};
 
@@ -48,38 +49,6 @@ pub fn entry_of(x: Fields) -> Entry
         colour,
         subscript: x.subscript.size,
     }
-}
-
-// The numbers in their order.
-pub fn in_order(x: Fields) -> [Signed; 12]
-    ensures { λ r. ⌜ r ≡ inOrder x ⌝ }
-{
-    let entity = x.entity;
-    let form = x.form;
-    let structure = x.structure;
-    let font = x.font;
-    let level = x.level;
-    let view = x.view;
-    let matrix = x.matrix;
-    let display = x.display;
-    let status = x.status;
-    let weight = x.weight;
-    let colour = x.colour;
-    let subscript = x.subscript;
-    [
-        entity,
-        form,
-        structure,
-        font,
-        level,
-        view,
-        matrix,
-        display,
-        status,
-        weight,
-        colour,
-        subscript,
-    ]
 }
 
 // ---- 9 and 13
@@ -133,11 +102,11 @@ fn is_narrow(x: Signed) -> bool
     x.size < 100000000
 }
 
-fn all_narrow(xs: [Signed; 12]) -> bool
+fn all_narrow(xs: [Signed; order::NUMBERS]) -> bool
     ensures { λ r. ⌜ r ≡ narrow xs ⌝ }
 {
     let mut n = 0;
-    while n < 12 {
+    while n < order::NUMBERS {
         let x = xs[n];
         if !is_narrow(x) {
             return false;
@@ -151,7 +120,7 @@ fn all_narrow(xs: [Signed; 12]) -> bool
 fn ranges_ok(x: Fields) -> bool
     ensures { λ r. ⌜ r ≡ rangesOk x ⌝ }
 {
-    signs_ok(x) && (limits_ok(x) && (status_ok(x.status.size) && all_narrow(in_order(x))))
+    signs_ok(x) && (limits_ok(x) && (status_ok(x.status.size) && all_narrow(order::in_order(x))))
 }
 
 // Rules 9 and 13.

@@ -1,8 +1,8 @@
 -- The table holds the slot of each number, by computation from the list of slots.
 use borrow.Author.Needs.{needs}
 use Rattle.directory.proofs.Slots.{slotted}
-use Rattle.directory_read.proofs.place_of.Statement.{statement}
-use Rattle.directory_read.proofs.place_of.Tie as tie
+use Rattle.directory.proofs.lines.place_of.Statement.{statement}
+use Rattle.directory.proofs.lines.place_of.Tie as tie
 
 pub place-of-spec : {M : Type 1} → statement M
 place-of-spec =
