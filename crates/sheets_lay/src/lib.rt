@@ -2,6 +2,7 @@
 use columns::DirectoryNumber;
 use columns::Signed;
 use directory::Fields;
+use directory::order;
 use values::Value;
 ghost use mathlib.Core.Path.{_≡_};
 ghost use mathlib.Core.Bool.{false, cond};
@@ -87,7 +88,7 @@ fn put_num(out: &mut [u8], at: usize, left: usize, x: Signed) -> usize
     columns_decimals::put_signed(out, at, x)
 }
 
-// The numbers of an entry line in their order.
+// The numbers of an entry line in their order: its directory number, and those of the entry.
 fn in_order(n: DirectoryNumber, x: Fields) -> [Signed; 13]
     ensures { λ r. ⌜ r ≡ sized false (n .0) ∷ inOrder x ⌝ }
 {
@@ -95,33 +96,15 @@ fn in_order(n: DirectoryNumber, x: Fields) -> [Signed; 13]
         neg: false,
         size: n.0,
     };
-    let entity = x.entity;
-    let form = x.form;
-    let structure = x.structure;
-    let font = x.font;
-    let level = x.level;
-    let view = x.view;
-    let matrix = x.matrix;
-    let display = x.display;
-    let status = x.status;
-    let weight = x.weight;
-    let colour = x.colour;
-    let subscript = x.subscript;
-    [
-        number,
-        entity,
-        form,
-        structure,
-        font,
-        level,
-        view,
-        matrix,
-        display,
-        status,
-        weight,
-        colour,
-        subscript,
-    ]
+    let numbers = order::in_order(x);
+    let mut xs = [number; 13];
+    let mut k = 0;
+    while k < order::NUMBERS {
+        let y = numbers[k];
+        k += 1;
+        xs[k] = y;
+    }
+    xs
 }
 
 // Writes the numbers, a tab behind each.

@@ -1,7 +1,7 @@
 // Sheets in: where a line ends and what it says.
 use columns::Signed;
 use columns::look;
-use directory::Fields;
+use directory::order;
 use sheets::EntryLine;
 use sheets::Said;
 use values::Strict;
@@ -28,25 +28,19 @@ pub fn end_of(t: &[u8], at: usize) -> usize
     sheets_numbers::find(t, 10, at, t.len())
 }
 
-// What the numbers of an entry line are.
+// What the numbers of an entry line are: its directory number, and those of the entry.
 fn entry_from(known: bool, x: [Signed; 13]) -> EntryLine
     ensures { λ r. ⌜ r ≡ entryFrom known x ⌝ }
 {
-    let fields = Fields {
-        entity: x[1],
-        form: x[2],
-        structure: x[3],
-        font: x[4],
-        level: x[5],
-        view: x[6],
-        matrix: x[7],
-        display: x[8],
-        status: x[9],
-        weight: x[10],
-        colour: x[11],
-        subscript: x[12],
-    };
-    EntryLine::Got(known, x[0], fields)
+    let number = x[0];
+    let mut xs = [number; order::NUMBERS];
+    let mut k = 0;
+    while k < order::NUMBERS {
+        let y = x[k + 1];
+        xs[k] = y;
+        k += 1;
+    }
+    EntryLine::Got(known, number, order::fields_of(xs))
 }
 
 // The numbers and the label of an entry line.
@@ -109,10 +103,7 @@ pub fn entry_at(s: &[u8], at: usize, end: usize) -> EntryLine
 pub fn is_mark(b: u8) -> bool
     ensures { λ r. ⌜ r ≡ isMark b ⌝ }
 {
-    if b == 82 {
-        return true;
-    }
-    b == 86
+    b == 82 || b == 86
 }
 
 // Whether a start text stands from `at` up to `end`.
