@@ -27,7 +27,7 @@ use Rattle.cards.specs.Cards.{mostLines, linesFrom, linesOf, lineOk, sev
 
 -- ---- a line's bytes and LF
 
-pub line-no-end : (f : List ℕ) (at : ℕ) → (getD f (at + 80) 0 ≡ 10 → ⊥) → false ≡ lineOk (columns f at (at + 81))
+pub line-no-end : (f : List ℕ) (at : ℕ) → (getD f (at + 80) 0 ≡ 10 → ⊥) → eqb (getD f (at + 80) 0) 10 ≡ lineOk (columns f at (at + 81))
 unfolding lineOk
 line-no-end f at h = rw (byte-of f at (at + 81) 80 (omega arith), ne-eqb _ _ h)
 
@@ -160,22 +160,7 @@ closes-all f k c r s g d p b h es eg ed ep eb e =
     ) e
 
 -- tests one after the other
-pub five-1 : (a b c d e : Bool) → a ≡ false → false ≡ a && (b && (c && (d && e)))
-five-1 a b c d e h = rw h
-
-pub five-2 : (a b c d e : Bool) → a ≡ true → b ≡ false → false ≡ a && (b && (c && (d && e)))
-five-2 a b c d e h i = rw (h, i)
-
-pub five-3 : (a b c d e : Bool) → a ≡ true → b ≡ true → c ≡ false → false ≡ a && (b && (c && (d && e)))
-five-3 a b c d e h i j = rw (h, i, j)
-
-pub five-4 : (a b c d e : Bool) → a ≡ true → b ≡ true → c ≡ true → d ≡ false → false ≡ a && (b && (c && (d && e)))
-five-4 a b c d e h i j k = rw (h, i, j, k)
-
-pub five-5 : (a b c d e : Bool) → a ≡ true → b ≡ true → c ≡ true → d ≡ true → e ≡ a && (b && (c && (d && e)))
-five-5 a b c d e h i j k = rw (h, i, j, k)
-
-pub ruleset ends = (not-true, not-false, five-1, five-2, five-3, five-4, five-5, tells-not, tells-so, closes-odd, closes-all)
+pub ruleset ends = (tells-not, tells-so, closes-odd, closes-all)
 
 -- ---- all lines: r is the answer
 

@@ -269,9 +269,6 @@ module _ (S G D P : List (List ℕ)) (bs : Bodies S) (bg : Bodies G) (bd : Bodie
     pub g-columns : i < g → columns (lineAt F (s + i)) a e ≡ columns (getD G i []) a e
     g-columns h = rw (g-line i h) (line-body (getD G i []) 71 (i + 1) (body-of bg i h) (omega arith) a e order inside)
 
-    pub d-columns : i < d → columns (lineAt F (s + g + i)) a e ≡ columns (getD D i []) a e
-    d-columns h = rw (d-line i h) (line-body (getD D i []) 68 (i + 1) (body-of bd i h) (omega arith) a e order inside)
-
     pub p-columns : i < p → columns (lineAt F (s + g + d + i)) a e ≡ columns (getD P i []) a e
     p-columns h = rw (p-line i h) (line-body (getD P i []) 80 (i + 1) (body-of bp i h) (omega arith) a e order inside)
 

@@ -1,4 +1,4 @@
--- "Lines" of the paper: bytes and LF, section letters and their order, sequence numbers, the T line; and the refusals 1 to 5 in their order.
+-- "Lines" of the paper: bytes and LF, section letters and their order, sequence numbers, the T line; the refusals 1 to 5 in their order.
 -- What has gone before a line is told by the counts alone: the section reached is the last with a line in it, and a line's number follows.
 use Prim.Native.Nat.{ℕ, zero, suc, _+_, _-_, _*_, _/_, _%_}
 use mathlib.Core.Bool.{Bool, cond, _&&_}
@@ -51,7 +51,7 @@ total c = c .s + c .g + c .d + c .p + c .t
 abbrev pub here : ℕ → ℕ → Counts → ℕ → Placed
 here before later c n = cond (ltb 0 before && eqb later 0) (Here c n) Nowhere
 
--- the counts with a line of letter b, of which left more lines follow, and its number in its section: T (84), S (83), G (71), D (68), P (80)
+-- the counts with a line of letter b, which left more lines follow, and its number in its section: T (84), S (83), G (71), D (68), P (80)
 unfoldable pub placeOf : Counts → ℕ → ℕ → Placed
 placeOf c left b =
     let (s, g, d, p, t) : ℕ × ℕ × ℕ × ℕ × ℕ = (c .s, c .g, c .d, c .p, c .t) in

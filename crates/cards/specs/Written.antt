@@ -46,7 +46,8 @@ countsOf S G D P = counts (length S) (length G) (length D) (length P) 1
 
 -- all its lines
 unfoldable pub fileLines : List (List ℕ) → List (List ℕ) → List (List ℕ) → List (List ℕ) → List (List ℕ)
-fileLines S G D P = section 83 1 S ++ (section 71 1 G ++ (section 68 1 D ++ (section 80 1 P ++ (lineOf (totalsOf (countsOf S G D P)) 84 1 ∷ []))))
+fileLines S G D P =
+    section 83 1 S ++ (section 71 1 G ++ (section 68 1 D ++ (section 80 1 P ++ (lineOf (totalsOf (countsOf S G D P)) 84 1 ∷ []))))
 
 -- the file, given the columns of its S, G, D and P lines
 unfoldable pub fileOf : List (List ℕ) → List (List ℕ) → List (List ℕ) → List (List ℕ) → List ℕ

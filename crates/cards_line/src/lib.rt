@@ -15,10 +15,7 @@ fn line_ok(file: &[u8], at: usize) -> bool
     requires { ⌜ at + lineBytes ≤ length (now file) ⌝ }
     ensures { λ r. ⌜ r ≡ lineOk (columns (now (file .entry)) at (at + lineBytes)) ⌝ }
 {
-    if file[at + 80] != 10 {
-        return false;
-    }
-    columns::look::is_printable(file, at, at + 80)
+    file[at + 80] == 10 && columns::look::is_printable(file, at, at + 80)
 }
 
 // A line that needs the section before it, and nothing of a later section.

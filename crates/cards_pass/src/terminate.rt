@@ -22,19 +22,7 @@ fn tells_at(s: &[u8], at: usize, letter: u8, n: u32) -> bool
 fn all_five(a: bool, b: bool, c: bool, d: bool, e: bool) -> bool
     ensures { λ r. ⌜ r ≡ a && (b && (c && (d && e))) ⌝ }
 {
-    if !a {
-        return false;
-    }
-    if !b {
-        return false;
-    }
-    if !c {
-        return false;
-    }
-    if !d {
-        return false;
-    }
-    e
+    a && (b && (c && (d && e)))
 }
 
 // Whether line k is the T line of these counts.

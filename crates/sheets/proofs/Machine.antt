@@ -30,7 +30,7 @@ use Rattle.sheets.proofs.Plains.{first-byte, no-second, columns-take, c
 use Rattle.sheets.proofs.Digits.{plain-back}
 use Rattle.sheets.proofs.Folds.{tells-good, tells-bad, plain-fold}
 
-pub mark-r : (b : ℕ) → b ≡ 82 → true ≡ isMark b
+pub mark-r : (b : ℕ) → b ≡ 82 → eqb b 82 ≡ isMark b
 unfolding isMark
 mark-r b h = rw h
 

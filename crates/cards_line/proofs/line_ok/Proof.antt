@@ -11,6 +11,6 @@ line-ok-spec =
     (λ c. search (needs, lines))
     (λ c. search (needs, lines))
     (λ c. search (needs, lines))
-    (λ c. search (needs, lines))
     (λ c κs. search (needs, lines))
+    (λ c. search (needs, lines))
     (λ c. search (needs, lines)))
