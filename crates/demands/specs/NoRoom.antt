@@ -21,8 +21,8 @@ use Rattle.directory.specs.Fields.{entryOf as directory-entryOf}
 use Rattle.directory.specs.Lines.{slots, slotIn, numberIn, numbersFrom, entryAt, labelAt}
 use Rattle.directory.specs.Rules.{statusOk, rangesOk, entryRules, referenceRule}
 use Rattle.cards.specs.Cards.{linesFrom, linesOf as cards-linesOf, lineOk, seven, placeOf, numberedOf, stepOf, pass, tells, totals, closes, closed as cards-closed, lengthOk, cardsOf}
-use Rattle.owners.specs.InFile.{numberOr0, sizeOr0, sizeAt, nameOf, ownerIn, fromIn, countIn, ownersIn}
-use Rattle.owners.specs.Owners.{nameIs, entryOwns, inRange as owners-inRange, lineOwned, ownersOf, startOf as owners-startOf}
+use Rattle.owners.specs.InFile.{numberOr0, sizeOr0, nameOf, ownerIn, fromIn, countIn, ownersIn}
+use Rattle.owners.specs.Owners.{nameIs, entryOwns, inRange as owners-inRange, lineOwned, ownersOf}
 use Rattle.layouts.specs.Entities.{everywhere, verdict, entityCheck, referencePlaces, marks}
 use Rattle.layouts.specs.Fits.{placesOf, asked}
 use Rattle.layouts.specs.Known.{mostList, known}
@@ -61,5 +61,5 @@ sheet =
 -- under the list of no type it is read to that, for which there is no room; under the list of all types it is refused
 pub no-room : (reads 0 surface ≡ accepted sheet) × (answerOf 0 (reads 0 surface) ≡ answer 16 0 (length sheet))
     × (answerOf 0 (reads mostList surface) ≡ answer 15 3 0)
-unfolding columns printable blank sameBytes joined lineAt columns-textOf lastDigits dec signedDec firstNot upFrom digitsOf fieldOf isNumber signedOf eachAt headOf power powerAt numberOf spelled mayDelimit opened recordDelimiter openingOf kindOf records-inRange globalFits nextAt valueAt valuesFrom valuesAt positionOf startAt classOf classAt directory-entryOf slots slotIn numberIn numbersFrom entryAt labelAt statusOk rangesOk entryRules referenceRule linesFrom cards-linesOf lineOk seven placeOf numberedOf stepOf pass tells totals closes cards-closed lengthOk cardsOf numberOr0 sizeOr0 sizeAt nameOf ownerIn fromIn countIn ownersIn nameIs entryOwns owners-inRange lineOwned ownersOf owners-startOf verdict entityCheck marks known paper bitOf named spell spells entryLine sheets-startLines sheets-globalLines valueLines rowLines sheets-linesOf sheets-lineOf sheets-textOf sheetText marked rowOf model-sheetOf startsIn noStray given globalIn entryIn entriesIn referencesIn entityIn lastPass before readModel reads toRight answerOf everywhere referencePlaces placesOf asked
+unfolding columns printable blank sameBytes joined lineAt columns-textOf lastDigits dec signedDec firstNot upFrom digitsOf fieldOf isNumber signedOf eachAt headOf power powerAt numberOf spelled mayDelimit opened recordDelimiter openingOf kindOf records-inRange globalFits nextAt valueAt valuesFrom valuesAt positionOf startAt classOf classAt directory-entryOf slots slotIn numberIn numbersFrom entryAt labelAt statusOk rangesOk entryRules referenceRule linesFrom cards-linesOf lineOk seven placeOf numberedOf stepOf pass tells totals closes cards-closed lengthOk cardsOf numberOr0 sizeOr0 nameOf ownerIn fromIn countIn ownersIn nameIs entryOwns owners-inRange lineOwned ownersOf verdict entityCheck marks known paper bitOf named spell spells entryLine sheets-startLines sheets-globalLines valueLines rowLines sheets-linesOf sheets-lineOf sheets-textOf sheetText marked rowOf model-sheetOf startsIn noStray given globalIn entryIn entriesIn referencesIn entityIn lastPass before readModel reads toRight answerOf everywhere referencePlaces placesOf asked
 no-room = (refl, refl, refl)

@@ -20,9 +20,8 @@ use Rattle.directory.specs.declared.Fields.{Fields}
 use Rattle.directory.specs.declared.EntryRead.the-variants.{Spelt, Wrong}
 use Rattle.directory.specs.Fields.{fieldsOf, fieldCount}
 use Rattle.directory.specs.Lines.{again, pointer, lines, slotIn, Numbers, numbers, misspelt, numbersFrom, positive, sizeOf, isSame, parameterLine, spelt, entryAt}
-use Rattle.directory.proofs.Slots.{pointer-slot, lines-slot}
 use Rattle.owners.specs.declared.Owned.the-variants.{Everyone}
-use Rattle.owners.specs.InFile.{sizeOr0, sizeAt, nameOf, ownerIn, fromIn, countIn, ownersIn, outcome}
+use Rattle.owners.specs.InFile.{sizeOr0, nameOf, ownerIn, fromIn, countIn, ownersIn, outcome}
 use Rattle.owners.specs.Rules.{Named}
 use Rattle.owners.proofs.Round.{owner-written, owns-passes}
 use Rattle.sheets.specs.WellFormed.{Each, none, one}
@@ -63,10 +62,10 @@ module _ (x : Fields) (from : ParameterLine) (count : ℕ) (a p l : SignedField)
 
 entry-ranges : (f : List ℕ) (c : Counts) (i : ℕ) (x : Fields) (from : ParameterLine) (count : ℕ) → entryAt f (entryLine c i) ≡ Spelt x from count
     → (fromIn f c i ≡ from .0) × (countIn f c i ≡ count)
-unfolding entryAt fromIn countIn sizeAt
+unfolding entryAt fromIn countIn
 entry-ranges f c i x from count e =
     let k = entryLine c i in
-    rw (← pointer-slot f k, ← lines-slot f k) (spelt-ranges x from count (signedOf (slotIn f k again)) (signedOf (slotIn f k pointer)) (signedOf (slotIn f k lines)) (numbersFrom f k 0 fieldCount) e)
+    spelt-ranges x from count (signedOf (slotIn f k again)) (signedOf (slotIn f k pointer)) (signedOf (slotIn f k lines)) (numbersFrom f k 0 fieldCount) e
 
 -- ---- every P line has its entry
 

@@ -28,7 +28,6 @@ use Rattle.read_passes.specs.declared.Pass.the-variants.{Good as Passes}
 use Rattle.read_passes.specs.Passes.{passOf}
 use Rattle.read_passes.specs.Listed.{listedOf, listedAt, entryOf, allEntries, allTypes}
 use Rattle.read_passes.specs.Walks.{firstOf, entryCheck}
-use Rattle.read_passes.proofs.Facts.{pointer-same, lines-same}
 use Rattle.read_passes.proofs.Spellings.{stood, types-length, types-at}
 use Rattle.read_passes.proofs.Walks.{row-walk, entries-walk}
 use Rattle.read_passes.proofs.Whole.{good-entries}
@@ -88,7 +87,7 @@ module _ (list : ℕ) (f : List ℕ) (r : MeetsRules list f) where
       let b = size-same (signedOf (slotIn f (entryLine c i) lines)) (w .count-some) in
       let some = a .1 in
       let from = w .from-is in
-      (w .from-is ∙ (a .0 ∙ sym (pointer-same f c i)), (w .count-is ∙ (b .0 ∙ sym (lines-same f c i)), omega arith))
+      (w .from-is ∙ a .0, (w .count-is ∙ b .0, omega arith))
 
   owns : Owns (ownerIn f c) (fromIn f c) (countIn f c) (entries c) (c .p)
   owns = record {

@@ -38,7 +38,7 @@ use Rattle.read_passes.specs.declared.Pass.the-variants.{Good as Passes}
 use Rattle.read_passes.specs.Passes.{passOf}
 use Rattle.read_passes.specs.Listed.{entryOf, allTypes}
 use Rattle.read_passes.specs.Walks.{entryCheck}
-use Rattle.read_passes.proofs.Facts.{Passed, passed-all, passed-entry, pointer-same, lines-same}
+use Rattle.read_passes.proofs.Facts.{Passed, passed-all, passed-entry}
 use Rattle.read_passes.proofs.Spellings.{stood, types-length, types-at}
 use Rattle.read_passes.proofs.Walks.{each-good, row-walk, entries-walk}
 use Rattle.desk.specs.Rules.{Spells, EntryIs, InRange, EntryMeets, MeetsRules}
@@ -172,8 +172,8 @@ module _ (list : ℕ) (f : List ℕ) (b : Before) (ys : List Carried) (p : Passe
   range-is i h =
       let e = passed-entry f b p i h in
       let w = stood f (entryLine c i) (e .fields) (e .from) (e .count) (e .is) in (
-        rw (e .listed) (w .from-is ∙ (size-same (signedOf (slotIn f (entryLine c i) pointer)) (w .from-some) ∙ sym (pointer-same f c i))),
-        rw (e .listed) (w .count-is ∙ (size-same (signedOf (slotIn f (entryLine c i) lines)) (w .count-some) ∙ sym (lines-same f c i))),
+        rw (e .listed) (w .from-is ∙ size-same (signedOf (slotIn f (entryLine c i) pointer)) (w .from-some)),
+        rw (e .listed) (w .count-is ∙ size-same (signedOf (slotIn f (entryLine c i) lines)) (w .count-some)),
       )
 
   owns : Owns (ownerIn f c) (fromIn f c) (countIn f c) (entries c) (c .p)

@@ -24,8 +24,8 @@ use Rattle.directory.specs.Lines.{slots, slotIn, numberIn, numbersFrom, entryAt
 use Rattle.directory.specs.Rules.{statusOk, rangesOk, entryRules, referenceRule}
 use Rattle.cards.specs.Cards.{linesFrom, linesOf as cards-linesOf, lineOk, seven, placeOf, numberedOf, stepOf, pass, tells, totals, closes, closed as cards-closed, lengthOk, cardsOf}
 use Rattle.cards.specs.Written.{zeros, lineOf as cards-lineOf, section, totalsOf, fileLines, fileOf}
-use Rattle.owners.specs.InFile.{numberOr0, sizeOr0, sizeAt, nameOf, ownerIn, fromIn, countIn, ownersIn}
-use Rattle.owners.specs.Owners.{nameIs, entryOwns, inRange as owners-inRange, lineOwned, ownersOf, startOf as owners-startOf}
+use Rattle.owners.specs.InFile.{numberOr0, sizeOr0, nameOf, ownerIn, fromIn, countIn, ownersIn}
+use Rattle.owners.specs.Owners.{nameIs, entryOwns, inRange as owners-inRange, lineOwned, ownersOf}
 use Rattle.layouts.specs.Entities.{everywhere, verdict, entityCheck, referencePlaces, marks}
 use Rattle.layouts.specs.Fits.{placesOf, asked}
 use Rattle.layouts.specs.Known.{known}
@@ -75,10 +75,10 @@ sheet-length = refl
 
 -- the file is read to the sheet
 pub read-chair : reads mostList file ≡ accepted sheet
-unfolding columns printable blank sameBytes joined lineAt columns-textOf lastDigits dec signedDec toRight toLeft firstNot upFrom digitsOf fieldOf isNumber signedOf eachAt headOf power powerAt numberOf strictOf spelled firm gap piece flow lineCount cut inLines mayDelimit opened recordDelimiter openingOf canonicalOpening kindOf records-inRange globalFits nextAt valueAt valuesFrom valuesAt positionOf startAt classOf classAt directory-entryOf slots slotIn numberIn numbersFrom entryAt labelAt entryLines statusOk rangesOk entryRules referenceRule linesFrom cards-linesOf lineOk seven placeOf numberedOf stepOf pass tells totals closes cards-closed lengthOk cardsOf zeros cards-lineOf section totalsOf fileLines fileOf numberOr0 sizeOr0 sizeAt nameOf ownerIn fromIn countIn ownersIn nameIs entryOwns owners-inRange lineOwned ownersOf owners-startOf verdict entityCheck marks known paper bitOf named sheets-run isLabel isEntryNumber entryNumber numbersOf sheets-entryOf labelOf spell spells entryLine sheets-closed startStep globalStep entryStep valueStep lastStep noneStep sheets-finish goLines verdictOf readSheet isPlain isSigned signedNumber allDigits isStatus statusNumber sheets-startLines sheets-globalLines valueLines rowLines sheets-linesOf sheets-lineOf sheets-textOf sheetText isMark isStart startLine isFieldNumber isNumbered globalLine lastLine byMark saysOf saidBy into piecesOf lastPiece saidByAll linesIn partsOf sheets-sheetOf model-startLines filled globalText model-globalLines parameterText blockOf directoryLines parameterLines lineTotal canonical marked rowOf model-sheetOf modelOf startsIn noStray given globalIn entryIn entriesIn referencesIn entityIn lastPass before readModel reads sheetRules writeModel writes everywhere referencePlaces placesOf asked
+unfolding columns printable blank sameBytes joined lineAt columns-textOf lastDigits dec signedDec toRight toLeft firstNot upFrom digitsOf fieldOf isNumber signedOf eachAt headOf power powerAt numberOf strictOf spelled firm gap piece flow lineCount cut inLines mayDelimit opened recordDelimiter openingOf canonicalOpening kindOf records-inRange globalFits nextAt valueAt valuesFrom valuesAt positionOf startAt classOf classAt directory-entryOf slots slotIn numberIn numbersFrom entryAt labelAt entryLines statusOk rangesOk entryRules referenceRule linesFrom cards-linesOf lineOk seven placeOf numberedOf stepOf pass tells totals closes cards-closed lengthOk cardsOf zeros cards-lineOf section totalsOf fileLines fileOf numberOr0 sizeOr0 nameOf ownerIn fromIn countIn ownersIn nameIs entryOwns owners-inRange lineOwned ownersOf verdict entityCheck marks known paper bitOf named sheets-run isLabel isEntryNumber entryNumber numbersOf sheets-entryOf labelOf spell spells entryLine sheets-closed startStep globalStep entryStep valueStep lastStep noneStep sheets-finish goLines verdictOf readSheet isPlain isSigned signedNumber allDigits isStatus statusNumber sheets-startLines sheets-globalLines valueLines rowLines sheets-linesOf sheets-lineOf sheets-textOf sheetText isMark isStart startLine isFieldNumber isNumbered globalLine lastLine byMark saysOf saidBy into piecesOf lastPiece saidByAll linesIn partsOf sheets-sheetOf model-startLines filled globalText model-globalLines parameterText blockOf directoryLines parameterLines lineTotal canonical marked rowOf model-sheetOf modelOf startsIn noStray given globalIn entryIn entriesIn referencesIn entityIn lastPass before readModel reads sheetRules writeModel writes everywhere referencePlaces placesOf asked
 read-chair = refl
 
 -- the sheet is written to the file
 pub written-chair : writes mostList sheet ≡ accepted file
-unfolding columns printable blank sameBytes joined lineAt columns-textOf lastDigits dec signedDec toRight toLeft firstNot upFrom digitsOf fieldOf isNumber signedOf eachAt headOf power powerAt numberOf strictOf spelled firm gap piece flow lineCount cut inLines mayDelimit opened recordDelimiter openingOf canonicalOpening kindOf records-inRange globalFits nextAt valueAt valuesFrom valuesAt positionOf startAt classOf classAt directory-entryOf slots slotIn numberIn numbersFrom entryAt labelAt entryLines statusOk rangesOk entryRules referenceRule linesFrom cards-linesOf lineOk seven placeOf numberedOf stepOf pass tells totals closes cards-closed lengthOk cardsOf zeros cards-lineOf section totalsOf fileLines fileOf numberOr0 sizeOr0 sizeAt nameOf ownerIn fromIn countIn ownersIn nameIs entryOwns owners-inRange lineOwned ownersOf owners-startOf verdict entityCheck marks known paper bitOf named sheets-run isLabel isEntryNumber entryNumber numbersOf sheets-entryOf labelOf spell spells entryLine sheets-closed startStep globalStep entryStep valueStep lastStep noneStep sheets-finish goLines verdictOf readSheet isPlain isSigned signedNumber allDigits isStatus statusNumber sheets-startLines sheets-globalLines valueLines rowLines sheets-linesOf sheets-lineOf sheets-textOf sheetText isMark isStart startLine isFieldNumber isNumbered globalLine lastLine byMark saysOf saidBy into piecesOf lastPiece saidByAll linesIn partsOf sheets-sheetOf model-startLines filled globalText model-globalLines parameterText blockOf directoryLines parameterLines lineTotal canonical marked rowOf model-sheetOf modelOf startsIn noStray given globalIn entryIn entriesIn referencesIn entityIn lastPass before readModel reads sheetRules writeModel writes everywhere referencePlaces placesOf asked
+unfolding columns printable blank sameBytes joined lineAt columns-textOf lastDigits dec signedDec toRight toLeft firstNot upFrom digitsOf fieldOf isNumber signedOf eachAt headOf power powerAt numberOf strictOf spelled firm gap piece flow lineCount cut inLines mayDelimit opened recordDelimiter openingOf canonicalOpening kindOf records-inRange globalFits nextAt valueAt valuesFrom valuesAt positionOf startAt classOf classAt directory-entryOf slots slotIn numberIn numbersFrom entryAt labelAt entryLines statusOk rangesOk entryRules referenceRule linesFrom cards-linesOf lineOk seven placeOf numberedOf stepOf pass tells totals closes cards-closed lengthOk cardsOf zeros cards-lineOf section totalsOf fileLines fileOf numberOr0 sizeOr0 nameOf ownerIn fromIn countIn ownersIn nameIs entryOwns owners-inRange lineOwned ownersOf verdict entityCheck marks known paper bitOf named sheets-run isLabel isEntryNumber entryNumber numbersOf sheets-entryOf labelOf spell spells entryLine sheets-closed startStep globalStep entryStep valueStep lastStep noneStep sheets-finish goLines verdictOf readSheet isPlain isSigned signedNumber allDigits isStatus statusNumber sheets-startLines sheets-globalLines valueLines rowLines sheets-linesOf sheets-lineOf sheets-textOf sheetText isMark isStart startLine isFieldNumber isNumbered globalLine lastLine byMark saysOf saidBy into piecesOf lastPiece saidByAll linesIn partsOf sheets-sheetOf model-startLines filled globalText model-globalLines parameterText blockOf directoryLines parameterLines lineTotal canonical marked rowOf model-sheetOf modelOf startsIn noStray given globalIn entryIn entriesIn referencesIn entityIn lastPass before readModel reads sheetRules writeModel writes everywhere referencePlaces placesOf asked
 written-chair = refl

@@ -1,8 +1,8 @@
 -- The laws of the check of ownership in a file.
-use mathlib.Core.Path.{_≡_, sym, _∙_}
+use mathlib.Core.Path.{_≡_, sym, ap, _∙_}
 use mathlib.Core.Bool.{Bool, true, false}
 use Prim.Native.Nat.{ℕ, _+_, _-_, _*_, _/_, _%_, _≤_, _<_}
-use native.Mathlib.Nat.{add-assoc, sub-zero}
+use native.Mathlib.Nat.{sub-zero}
 use native.Mathlib.Omega.{arith}
 use mathlib.Core.List.{List}
 use lib.ListN.{getD}
@@ -23,11 +23,14 @@ use Rattle.cards.specs.Rules.{Holds}
 use Rattle.cards.specs.Shared.{fileLine}
 use Rattle.columns.proofs.Tests.{cond-cases}
 use Rattle.columns.proofs.Columns.{line-byte, line-columns}
+use Rattle.directory.specs.Lines.{pointer, lines, slots}
+use Rattle.directory.specs.Reading.{slotAt, startOf}
+use Rattle.directory.proofs.Slots.{in-at, slot-signed}
 use Rattle.owners.specs.declared.Owned.{Owned}
 use Rattle.owners.specs.declared.Owned.the-variants.{Everyone, Entry, Line}
 use Rattle.columns.specs.First.{firstNot}
 use Rattle.owners.specs.Owners.{nameIs, entryOwns, inRange, lineOwned, ownersOf, verdict}
-use Rattle.owners.specs.InFile.{numberOr0, sizeOr0, sizeAt, nameOf, ownerIn, fromIn, countIn, entryIn, lineIn, ownersIn, lineOf, Small}
+use Rattle.owners.specs.InFile.{numberOr0, sizeOr0, nameOf, ownerIn, fromIn, countIn, entryIn, lineIn, ownersIn, lineOf, Small}
 use Rattle.columns.proofs.First.{first-ge, first-on, first-here, first-end, call-on, call-here, from-start}
 
 pub number-0 : (f : Field) → f ≡ Bad → 0 ≡ numberOr0 f
@@ -51,9 +54,8 @@ pub size-some : (f : SignedField) (x : Signed) → f ≡ SignedNumber x → x .n
 unfolding sizeOr0
 size-some f x e h = rw (e, h)
 
-pub size-of : (f : List ℕ) (l a r : ℕ) (x : SignedField) → a + 8 ≤ 81 → x ≡ signedOf (columns f (81 * l + a) (81 * l + a + 8)) → r ≡ sizeOr0 x → r ≡ sizeAt (lineAt f l) a
-unfolding sizeAt
-size-of f l a r x h e q = rw (line-columns f l a (a + 8) (omega arith) (omega arith), ← add-assoc, ← e) q
+pub size-of : (f : List ℕ) (k j at r : ℕ) (x : SignedField) → at ≡ startOf k j → x ≡ signedOf (columns f at (at + 8)) → r ≡ sizeOr0 x → r ≡ sizeOr0 (signedOf (slotAt f k j))
+size-of f k j at r x s e q = q ∙ ap sizeOr0 (slot-signed f k j at s x e)
 
 pub name-none : (f : List ℕ) (l : ℕ) → (getD f (81 * l + 64) 0 ≡ 32 → ⊥) → 0 ≡ nameOf (lineAt f l)
 unfolding nameOf
@@ -67,13 +69,13 @@ pub owner-is : (f : List ℕ) (c : Counts) (k l r : ℕ) → l ≡ c .s + c .g +
 unfolding ownerIn
 owner-is f c k l r e h = rw (← e) h
 
-pub from-is : (f : List ℕ) (c : Counts) (i l r : ℕ) → l ≡ c .s + c .g + 2 * i → r ≡ sizeAt (lineAt f l) 8 → r ≡ fromIn f c i
-unfolding fromIn
-from-is f c i l r e h = rw (← e) h
+pub from-is : (f : List ℕ) (c : Counts) (i l r : ℕ) → l ≡ c .s + c .g + 2 * i → r ≡ sizeOr0 (signedOf (slotAt f l 1)) → r ≡ fromIn f c i
+unfolding fromIn slots
+from-is f c i l r e h = rw (in-at f (c .s + c .g + 2 * i) pointer, ← e) h
 
-pub count-is : (f : List ℕ) (c : Counts) (i l r : ℕ) → l ≡ c .s + c .g + 2 * i → r ≡ sizeAt (lineAt f (l + 1)) 24 → r ≡ countIn f c i
-unfolding countIn
-count-is f c i l r e h = rw (← e) h
+pub count-is : (f : List ℕ) (c : Counts) (i l r : ℕ) → l ≡ c .s + c .g + 2 * i → r ≡ sizeOr0 (signedOf (slotAt f l 12)) → r ≡ countIn f c i
+unfolding countIn slots
+count-is f c i l r e h = rw (in-at f (c .s + c .g + 2 * i) lines, ← e) h
 
 pub ruleset fields = (number-0, number-n, size-bad, size-negative, size-some, size-of, name-none, name-some, owner-is, from-is, count-is)
 

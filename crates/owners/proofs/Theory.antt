@@ -1,33 +1,17 @@
--- The check of ownership passes exactly if the rules hold; then every P line lies in exactly one entry's range; blocks that follow one another pass.
+-- The check of ownership passes exactly if the rules hold.
 use mathlib.Core.Path.{_≡_, refl}
 use mathlib.Core.Bool.{Bool, true, false, _&&_}
-use mathlib.Core.Logic.{_↔_}
-use Prim.Native.Nat.{ℕ, zero, suc, _+_, _*_, _/_, _%_, _≤_, _<_}
+use Prim.Native.Nat.{ℕ, _+_, _*_, _/_, _%_, _≤_, _<_}
 use native.Mathlib.Omega.{arith}
-use native.Mathlib.Decide.{decLt, ℕ-discrete}
 use lib.Dec.{leb, ltb, eqb}
 use borrow.Author.Tests.{le-leb, lt-leb, lt-ltb, le-ltb, eq-eqb, leb-true, ltb-true, eqb-true, leb-false, ltb-false}
 use Rattle.columns.specs.First.{firstNot}
 use Rattle.columns.proofs.Tests.{both}
-use Rattle.columns.proofs.First.{none-fails, all-pass, first-same}
+use Rattle.columns.proofs.First.{none-fails, all-pass}
 use Rattle.owners.specs.declared.Owned.{Owned}
 use Rattle.owners.specs.declared.Owned.the-variants.{Everyone, Entry, Line}
-use Rattle.owners.specs.Owners.{nameIs, entryOwns, inRange, lineOwned, ownersOf, verdict, startOf}
-use Rattle.owners.specs.Rules.{In, Named, Owns, Once, Blocks}
-
--- ---- where blocks start
-
-pub rising : (count : ℕ → ℕ) (m i : ℕ) → i ≤ m → startOf count i ≤ startOf count m
-unfolding startOf
-rising count zero i h =
-    let e : i ≡ 0 = omega arith in
-    rw e (omega arith)
-rising count (suc m) i h = elim (ℕ-discrete i (suc m)) [ yes e ↦ rw e (omega arith) | no e ↦ omega (arith, rising count m i (omega arith)) ]
-
-pub start-same : (f g : ℕ → ℕ) (n : ℕ) → ((i : ℕ) → i < n → f i ≡ g i) → startOf f n ≡ startOf g n
-unfolding startOf
-start-same f g zero h = refl
-start-same f g (suc n) h = rw (start-same f g n (λ i l. h i (omega arith)), h n (omega arith))
+use Rattle.owners.specs.Owners.{nameIs, entryOwns, inRange, lineOwned, ownersOf, verdict}
+use Rattle.owners.specs.Rules.{Named, Owns}
 
 -- ---- passed exactly if the rules hold
 
@@ -102,57 +86,3 @@ module _ (owner from count : ℕ → ℕ) (n p : ℕ) where
       le-ltb (0 + n) n (omega arith),
       lt-leb (1 + p) p (omega arith),
     )
-
-    -- every P line lies in exactly one entry's range
-    pub once : (k : ℕ) → 1 ≤ k → k ≤ p → Once from count n k
-    once k lo hi =
-        let h : Named owner from count n k = o .lines k lo hi in
-        record { entry = h .entry; has = h .has; only = λ j q. omega (arith, o .names j k q, h .name) }
-
-  pub rules : (ownersOf owner from count n p ≡ Everyone) ↔ Owns owner from count n p
-  rules = (sound, complete)
-
-  -- ---- blocks that follow one another
-
-  -- each line is in a block
-  block-of : (m k : ℕ) → 1 ≤ k → k < startOf count m → (i : ℕ) × (i < m) × (startOf count i ≤ k) × (k < startOf count i + count i)
-  unfolding startOf
-  block-of zero k lo hi = absurd (omega arith)
-  block-of (suc m) k lo hi = elim (decLt k (startOf count m)) [
-    | yes h ↦ let (i, a, b, c) = block-of m k lo h in (i, omega arith, b, c)
-    | no h ↦ (m, omega arith, omega arith, hi)
-  ]
-
-  pub blocks-own : Blocks owner from count n p → Owns owner from count n p
-  unfolding startOf
-  blocks-own bl = record {
-    starts = λ i h. omega (arith, bl .starts i h, rising count i 0 (omega arith));
-    stays = λ i h. omega (arith, bl .starts i h, rising count n (suc i) (omega arith), bl .end);
-    names = bl .names;
-    lines = λ k lo hi.
-        let (i, a, b, c) : (i : ℕ) × (i < n) × (startOf count i ≤ k) × (k < startOf count i + count i) = block-of n k lo (omega (arith, bl .end)) in
-        let h : In from count n i k = record { is = a; after = omega (arith, bl .starts i a); before = omega (arith, bl .starts i a) } in
-        record { entry = i; name = bl .names i k h; has = h };
-  }
-
--- ---- pointers and line counts that are read in another way
-
-module _ (owner from count from′ count′ : ℕ → ℕ) (n p : ℕ) (ef : (i : ℕ) → i < n → from i ≡ from′ i) (ec : (i : ℕ) → i < n → count i ≡ count′ i) where
-  entry-same : (i : ℕ) → i < n → entryOwns owner from count p i ≡ entryOwns owner from′ count′ p i
-  unfolding entryOwns
-  entry-same i h = rw (ef i h, ec i h)
-
-  line-same : (k : ℕ) → lineOwned owner from count n k ≡ lineOwned owner from′ count′ n k
-  unfolding lineOwned inRange
-  line-same k = pick (ltb (owner k / 2) n) refl
-    where
-      pick : (b : Bool) → ltb (owner k / 2) n ≡ b → inRange from count n (owner k) k ≡ inRange from′ count′ n (owner k) k
-      pick true e = rw (ef (owner k / 2) (ltb-true _ _ e), ec (owner k / 2) (ltb-true _ _ e))
-      pick false e = rw e
-
-  pub owners-same : ownersOf owner from count n p ≡ ownersOf owner from′ count′ n p
-  unfolding ownersOf
-  owners-same = rw (
-    first-same (entryOwns owner from count p) (entryOwns owner from′ count′ p) n 0 (λ j lo hi. entry-same j (omega arith)),
-    first-same (lineOwned owner from count n) (lineOwned owner from′ count′ n) p 1 (λ j lo hi. line-same j),
-  )

@@ -1,4 +1,4 @@
--- The same of a file: the directory number in columns 66-72 of a P line, the pointer in 9-16 of an entry's first line, the line count in 25-32 of its second.
+-- The same of a file: the directory number in columns 66-72 of a P line, pointer and line count in their slots of an entry's D lines.
 use Prim.Native.Nat.{ℕ, _+_, _≤_}
 use mathlib.Core.Bool.{Bool, cond}
 use mathlib.Core.List.{List}
@@ -14,6 +14,7 @@ use Rattle.columns.specs.Columns.{columns, lineAt}
 use Rattle.columns.specs.Fixed.{fieldOf, signedOf}
 use Rattle.cards.specs.declared.Counts.{Counts}
 use Rattle.cards.specs.Cards.{mostLines, firstD, firstP, entries, entryLine, parameterLine}
+use Rattle.directory.specs.Lines.{pointer, lines, slotIn}
 use Rattle.owners.specs.declared.Owned.{Owned}
 use Rattle.owners.specs.declared.Owned.the-variants.{Everyone, Entry, Line}
 use Rattle.owners.specs.Owners.{entryOwns, lineOwned, ownersOf}
@@ -28,10 +29,6 @@ unfoldable pub sizeOr0 : SignedField → ℕ
 sizeOr0 SignedBad = 0
 sizeOr0 (SignedNumber x) = cond (x .neg) 0 (x .size)
 
--- in the eight columns from a on
-unfoldable pub sizeAt : List ℕ → ℕ → ℕ
-sizeAt l a = sizeOr0 (signedOf (columns l a (a + 8)))
-
 -- the directory number that a P line names: none if column 65 is not blank
 unfoldable pub nameOf : List ℕ → ℕ
 nameOf l = cond (eqb (getD l 64 0) 32) (numberOr0 (fieldOf (columns l 65 72))) 0
@@ -42,11 +39,11 @@ ownerIn f c k = nameOf (lineAt f (parameterLine c k))
 
 -- entry i's pointer
 unfoldable pub fromIn : List ℕ → Counts → ℕ → ℕ
-fromIn f c i = sizeAt (lineAt f (entryLine c i)) 8
+fromIn f c i = sizeOr0 (signedOf (slotIn f (entryLine c i) pointer))
 
 -- entry i's line count
 unfoldable pub countIn : List ℕ → Counts → ℕ → ℕ
-countIn f c i = sizeAt (lineAt f (entryLine c i + 1)) 24
+countIn f c i = sizeOr0 (signedOf (slotIn f (entryLine c i) lines))
 
 -- entry i passes
 abbrev pub entryIn : List ℕ → Counts → ℕ → Bool

@@ -1,7 +1,7 @@
 -- "Every line in an entry's range names that entry, and every P line lies in the range of the entry it names."
 -- P lines are numbered from 1, entries from 0; entry i has the directory number 2 * i + 1.
 -- owner k is the directory number that line k names (0: none); entry i asks for the lines from (from i) on, (count i) of them.
-use Prim.Native.Nat.{ℕ, zero, suc, _+_, _*_, _/_, _%_}
+use Prim.Native.Nat.{ℕ, _+_, _*_, _/_, _%_}
 use mathlib.Core.Bool.{Bool, cond, _&&_}
 use lib.Dec.{leb, ltb, eqb}
 use Rattle.columns.specs.First.{firstNot}
@@ -32,8 +32,3 @@ verdict n p i k = cond (ltb i n) (Entry (record { 0 = 2 * i + 1 })) (cond (leb k
 -- n entries, p lines: the entries first, then the lines
 unfoldable pub ownersOf : (ℕ → ℕ) → (ℕ → ℕ) → (ℕ → ℕ) → ℕ → ℕ → Owned
 ownersOf owner from count n p = verdict n p (firstNot (entryOwns owner from count p) 0 n) (firstNot (lineOwned owner from count n) 1 p)
-
--- where the block of entry i starts if each block follows the one before
-unfoldable pub startOf : (ℕ → ℕ) → ℕ → ℕ
-startOf count zero = 1
-startOf count (suc i) = startOf count i + count i

@@ -1,8 +1,6 @@
--- On the way: the rules of ownership with no order in them over any names and ranges, what follows for each P line, and the blocks of a
--- canonical file.
+-- On the way: the rules of ownership with no order in them, over any names and ranges.
 use Prim.Native.Nat.{ℕ, _+_, _*_, _≤_, _<_}
 use mathlib.Core.Path.{_≡_}
-use Rattle.owners.specs.Owners.{startOf}
 
 -- line k lies in the range of entry i, of n
 pub record In (from count : ℕ → ℕ) (n i k : ℕ) : Type 0 where
@@ -22,15 +20,3 @@ pub record Owns (owner from count : ℕ → ℕ) (n p : ℕ) : Type 0 where
   pub stays : (i : ℕ) → i < n → from i + count i ≤ p + 1
   pub names : (i k : ℕ) → In from count n i k → owner k ≡ 2 * i + 1
   pub lines : (k : ℕ) → 1 ≤ k → k ≤ p → Named owner from count n k
-
--- line k lies in the range of one entry and of no other
-pub record Once (from count : ℕ → ℕ) (n k : ℕ) : Type 0 where
-  pub entry : ℕ
-  pub has : In from count n entry k
-  pub only : (j : ℕ) → In from count n j k → j ≡ entry
-
--- each block follows the one before, they fill P, and their lines name their entries
-pub record Blocks (owner from count : ℕ → ℕ) (n p : ℕ) : Type 0 where
-  pub starts : (i : ℕ) → i < n → from i ≡ startOf count i
-  pub end : startOf count n ≡ p + 1
-  pub names : (i k : ℕ) → In from count n i k → owner k ≡ 2 * i + 1

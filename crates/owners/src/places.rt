@@ -5,13 +5,17 @@ use columns::DirectoryNumber;
 use columns::Field;
 use columns::ParameterLine;
 use columns::SignedField;
+use directory::SLOT_COLUMNS;
+use directory::lines;
 ghost use mathlib.Core.Path.{_≡_};
 ghost use Prim.Native.Nat.{_+_, _*_, _<_, _≤_};
 ghost use lib.ListN.{length};
 ghost use Rattle.columns.specs.Columns.{lineBytes, lineAt};
+ghost use Rattle.columns.specs.Fixed.{signedOf};
 ghost use Rattle.cards.specs.Cards.{entries};
 ghost use Rattle.cards.specs.Rules.{Holds};
-ghost use Rattle.owners.specs.InFile.{numberOr0, sizeOr0, sizeAt, nameOf, ownerIn, fromIn, countIn};
+ghost use Rattle.directory.specs.Reading.{slotAt};
+ghost use Rattle.owners.specs.InFile.{numberOr0, sizeOr0, nameOf, ownerIn, fromIn, countIn};
 
 fn number_or_0(f: Field) -> u32
     ensures { λ r. ⌜ r ≡ numberOr0 f ⌝ }
@@ -34,13 +38,13 @@ fn size_or_0(f: SignedField) -> u32
     x.size
 }
 
-// The number in the eight columns of a line from a on.
-fn size_at(file: &[u8], line: usize, a: usize) -> u32
-    requires { ⌜ (lineBytes * line + lineBytes ≤ length (now file)) × (a + 8 ≤ lineBytes) ⌝ }
-    ensures { λ r. ⌜ r ≡ sizeAt (lineAt (now (file .entry)) line) a ⌝ }
+// The number in slot j of the entry whose first D line is line k.
+fn size_at(file: &[u8], k: usize, j: usize) -> u32
+    requires { ⌜ (lineBytes * (k + 2) ≤ length (now file)) × (j < 18) ⌝ }
+    ensures { λ r. ⌜ r ≡ sizeOr0 (signedOf (slotAt (now (file .entry)) k j)) ⌝ }
 {
-    let at = LINE_BYTES * line + a;
-    let f = columns_fixed::read_signed(file, at, at + 8);
+    let at = lines::start_of(k, j);
+    let f = columns_fixed::read_signed(file, at, at + SLOT_COLUMNS);
     size_or_0(f)
 }
 
@@ -72,7 +76,7 @@ pub fn from_at(file: &[u8], c: Counts, i: usize) -> ParameterLine
     ensures { λ r. ⌜ r .0 ≡ fromIn (now (file .entry)) c i ⌝ }
 {
     let line = cards::entry_line(c, i);
-    ParameterLine(size_at(file, line, 8))
+    ParameterLine(size_at(file, line, lines::POINTER))
 }
 
 // Entry i's line count.
@@ -81,5 +85,5 @@ pub fn count_at(file: &[u8], c: Counts, i: usize) -> u32
     ensures { λ r. ⌜ r ≡ countIn (now (file .entry)) c i ⌝ }
 {
     let line = cards::entry_line(c, i);
-    size_at(file, line + 1, 24)
+    size_at(file, line, lines::COUNT)
 }

@@ -3,7 +3,6 @@ use mathlib.Core.Path.{_≡_, refl, sym, ap, _∙_}
 use mathlib.Core.Bool.{Bool, true, false, cond, not, _&&_}
 use mathlib.Core.List.{List, []}
 use Prim.Native.Nat.{ℕ, _+_, _*_, _≤_, _<_}
-use native.Mathlib.Nat.{add-zero}
 use native.Mathlib.Omega.{arith}
 use lib.ListN.{length}
 use lib.Dec.{eqb, leb}
@@ -12,7 +11,6 @@ use Rattle.columns.specs.declared.Fault.the-variants.{Global}
 use Rattle.columns.specs.declared.SignedField.{SignedField}
 use Rattle.columns.specs.declared.SignedField.the-variants.{Number, Bad}
 use Rattle.columns.specs.declared.ParameterLine.{ParameterLine}
-use Rattle.columns.specs.Columns.{lineAt}
 use Rattle.columns.specs.First.{firstNot}
 use Rattle.columns.specs.Fixed.{signedOf}
 use Rattle.columns.specs.Refusal.{accepted, demand, _then_}
@@ -34,9 +32,9 @@ use Rattle.records.specs.Reading.{Stands}
 use Rattle.records.proofs.Globals.{delimits, parameter-above, record-above, they-differ}
 use Rattle.directory.specs.declared.Fields.{Fields}
 use Rattle.directory.specs.declared.EntryRead.the-variants.{Spelt}
-use Rattle.directory.specs.Lines.{slots, slotIn, pointer, lines, positive, sizeOf, entryAt, labelAt}
+use Rattle.directory.specs.Lines.{slotIn, pointer, lines, positive, sizeOf, entryAt, labelAt}
 use Rattle.owners.specs.declared.Owned.the-variants.{Everyone}
-use Rattle.owners.specs.InFile.{sizeOr0, sizeAt, fromIn, countIn, ownersIn, outcome as ownershipOutcome}
+use Rattle.owners.specs.InFile.{sizeOr0, fromIn, countIn, ownersIn, outcome as ownershipOutcome}
 use Rattle.owners.proofs.Round.{passes-owns, accepted-everyone}
 use Rattle.model.specs.Read.{GlobalRead, globalRead, Listed, Before, given, globalText, globalLine, fieldFits, noStray, byValues, byOpening, globalIn, entriesIn, referencesIn, before}
 use Rattle.read_passes.specs.declared.Pass.the-variants.{Good}
@@ -171,14 +169,6 @@ size-some : (f : SignedField) → positive f ≡ true → 1 ≤ sizeOf f
 size-some (Number x) h = leb-true 1 (x .size) (both-right (not (x .neg)) (leb 1 (x .size)) h)
 size-some Bad h = let z : _≡_ {A = ℕ} 0 1 = cc in absurd (omega arith)
 
-pub pointer-same : (f : List ℕ) (c : Counts) (i : ℕ) → sizeAt (lineAt f (entryLine c i)) 8 ≡ sizeOr0 (signedOf (slotIn f (entryLine c i) pointer))
-unfolding sizeAt slotIn slots
-pointer-same f c i = rw add-zero
-
-pub lines-same : (f : List ℕ) (c : Counts) (i : ℕ) → sizeAt (lineAt f (entryLine c i + 1)) 24 ≡ sizeOr0 (signedOf (slotIn f (entryLine c i) lines))
-unfolding sizeAt slotIn slots
-lines-same f c i = refl
-
 -- entry i, and its parameter lines, which stand in the file
 pub record Entered (f : List ℕ) (c : Counts) (i : ℕ) : Type 0 where
   pub fields : Fields
@@ -206,8 +196,8 @@ module _ (f : List ℕ) (c : Counts) (ho : Holds f c) (good : passOf (entriesIn 
       let s = each-spelt f c good i h in
       let w = stood f (entryLine c i) (s .fields) (s .from) (s .count) (s .is) in
       let o = passes-owns f c own in
-      let ef : s .from .0 ≡ fromIn f c i = w .from-is ∙ size-same (signedOf (slotIn f (entryLine c i) pointer)) (w .from-some) ∙ sym (pointer-same f c i) in
-      let ec : s .count ≡ countIn f c i = w .count-is ∙ size-same (signedOf (slotIn f (entryLine c i) lines)) (w .count-some) ∙ sym (lines-same f c i) in
+      let ef : s .from .0 ≡ fromIn f c i = w .from-is ∙ size-same (signedOf (slotIn f (entryLine c i) pointer)) (w .from-some) in
+      let ec : s .count ≡ countIn f c i = w .count-is ∙ size-same (signedOf (slotIn f (entryLine c i) lines)) (w .count-some) in
       let a : 1 ≤ s .from .0 = omega (arith, w .from-is, size-some (signedOf (slotIn f (entryLine c i) pointer)) (w .from-some)) in
       let b : 1 ≤ s .count = omega (arith, w .count-is, size-some (signedOf (slotIn f (entryLine c i) lines)) (w .count-some)) in
       let t : s .from .0 + s .count ≤ c .p + 1 = omega (arith, ef, ec, o .stays i h) in

@@ -1,4 +1,4 @@
--- `count_at`: the line after the one where `entryLine` has it.
+-- `count_at`: the line is where `entryLine` has it.
 use borrow.Author.Needs.{needs}
 use Rattle.owners.proofs.Laws.{fields}
 use Rattle.owners.proofs.places.count_at.Statement.{statement}
@@ -9,6 +9,5 @@ count-at-spec =
     tie.close
     (tie.spec
     (λ c κs. search (needs, fields))
-    (λ c. search (needs, fields))
     (λ c κs. search (needs, fields))
     (λ c. search (needs, fields)))
