@@ -19,7 +19,7 @@ use Rattle.columns.proofs.Tests.{cond-same, both-left, both-right}
 use Rattle.columns.proofs.Columns.{line-columns}
 use Rattle.columns.proofs.First.{getD-upFrom}
 use Rattle.directory.specs.Fields.{fieldCount}
-use Rattle.directory.specs.Lines.{Slot, number, pointer, lines, label, slots, seek, slotsALine, slotColumns, slotIn, unsigned, numberIn, labelAt}
+use Rattle.directory.specs.Lines.{Slot, number, label, slots, seek, slotsALine, slotColumns, slotIn, unsigned, numberIn, labelAt}
 use Rattle.directory.specs.Reading.{slotAt, startOf}
 
 -- ---- the columns of each slot
@@ -43,14 +43,6 @@ module _ (f : List ℕ) (k : ℕ) where
       let a : k + (9 + j) / 9 ≡ k + 1 = omega arith in
       let b : (9 + j) % 9 ≡ j = omega arith in
       rw (a, b)
-
-  pub pointer-slot : slotIn f k pointer ≡ columns (lineAt f k) 8 16
-  unfolding slots
-  pointer-slot = in-at f k pointer ∙ first-slot 1 (omega arith)
-
-  pub lines-slot : slotIn f k lines ≡ columns (lineAt f (k + 1)) 24 32
-  unfolding slots
-  lines-slot = in-at f k lines ∙ second-slot 3 (omega arith)
 
   pub label-slot : slotIn f k label ≡ columns (lineAt f (k + 1)) 56 64
   unfolding slots

@@ -51,8 +51,8 @@ referenceCount = 7
 -- the seven, in the order of references
 abbrev pub wants : Entry → List Wanted
 wants e =
-    ofNumber (e .structure) any ∷ ofAttribute (e .font) any ∷ ofAttribute (e .level) any ∷ ofNumber (e .view) any ∷ ofNumber (e .matrix) entry124
-    ∷ ofNumber (e .display) any ∷ ofAttribute (e .colour) entry314 ∷ []
+    ofNumber (e .structure) any ∷ ofAttribute (e .font) any ∷ ofAttribute (e .level) any ∷ ofNumber (e .view) any
+    ∷ ofNumber (e .matrix) entry124 ∷ ofNumber (e .display) any ∷ ofAttribute (e .colour) entry314 ∷ []
 
 -- one of them
 unfoldable pub wantedOf : Entry → ℕ → Wanted

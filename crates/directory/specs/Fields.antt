@@ -72,8 +72,8 @@ nought = signed false 0
 -- the numbers in order, and back
 abbrev pub inOrder : Fields → List Signed
 inOrder x =
-    x .entity ∷ x .form ∷ x .structure ∷ x .font ∷ x .level ∷ x .view ∷ x .matrix ∷ x .display ∷ x .status ∷ x .weight ∷ x .colour
-    ∷ x .subscript ∷ []
+    x .entity ∷ x .form ∷ x .structure ∷ x .font ∷ x .level ∷ x .view
+    ∷ x .matrix ∷ x .display ∷ x .status ∷ x .weight ∷ x .colour ∷ x .subscript ∷ []
 
 -- and back
 abbrev pub fieldsOf : List Signed → Fields

@@ -14,7 +14,8 @@ use Rattle.columns.specs.Decimal.{dec, signedDec, padded, zeroFilled}
 use Rattle.directory.specs.declared.Fields.{Fields}
 use Rattle.directory.specs.declared.EntryRead.{EntryRead}
 use Rattle.directory.specs.declared.EntryRead.the-variants.{Spelt, Wrong}
-use Rattle.directory.specs.Fields.{typeAt, formAt, structureAt, fontAt, levelAt, viewAt, matrixAt, displayAt, statusAt, weightAt, colourAt, subscriptAt, fieldCount, nought, inOrder, fieldsOf}
+use Rattle.directory.specs.Fields.{typeAt, formAt, structureAt, fontAt, levelAt, viewAt, matrixAt, displayAt}
+use Rattle.directory.specs.Fields.{statusAt, weightAt, colourAt, subscriptAt, fieldCount, nought, inOrder, fieldsOf}
 
 -- ---- the fields of the two lines, said once for reading and writing
 
@@ -31,8 +32,10 @@ pub data Slot : Type 0 where
 -- second: type again, weight, colour, parameter line count, form, two reserved fields, label, subscript
 unfoldable pub slots : List Slot
 slots =
-    number typeAt ∷ pointer ∷ number structureAt ∷ number fontAt ∷ number levelAt ∷ number viewAt ∷ number matrixAt ∷ number displayAt ∷ number statusAt
-    ∷ again ∷ number weightAt ∷ number colourAt ∷ lines ∷ number formAt ∷ reserved ∷ reserved ∷ label ∷ number subscriptAt ∷ []
+    number typeAt ∷ pointer ∷ number structureAt ∷ number fontAt ∷ number levelAt
+    ∷ number viewAt ∷ number matrixAt ∷ number displayAt ∷ number statusAt
+    ∷ again ∷ number weightAt ∷ number colourAt ∷ lines ∷ number formAt
+    ∷ reserved ∷ reserved ∷ label ∷ number subscriptAt ∷ []
 
 -- nine fields fill the columns 1-72 of a line
 abbrev pub slotsALine : ℕ
@@ -50,11 +53,16 @@ isSlot (number j) pointer = false
 isSlot (number j) lines = false
 isSlot (number j) reserved = false
 isSlot (number j) label = false
-isSlot again x = elim x [ number k ↦ false | again ↦ true | pointer ↦ false | lines ↦ false | reserved ↦ false | label ↦ false ]
-isSlot pointer x = elim x [ number k ↦ false | again ↦ false | pointer ↦ true | lines ↦ false | reserved ↦ false | label ↦ false ]
-isSlot lines x = elim x [ number k ↦ false | again ↦ false | pointer ↦ false | lines ↦ true | reserved ↦ false | label ↦ false ]
-isSlot reserved x = elim x [ number k ↦ false | again ↦ false | pointer ↦ false | lines ↦ false | reserved ↦ true | label ↦ false ]
-isSlot label x = elim x [ number k ↦ false | again ↦ false | pointer ↦ false | lines ↦ false | reserved ↦ false | label ↦ true ]
+isSlot again x =
+    elim x [ number k ↦ false | again ↦ true | pointer ↦ false | lines ↦ false | reserved ↦ false | label ↦ false ]
+isSlot pointer x =
+    elim x [ number k ↦ false | again ↦ false | pointer ↦ true | lines ↦ false | reserved ↦ false | label ↦ false ]
+isSlot lines x =
+    elim x [ number k ↦ false | again ↦ false | pointer ↦ false | lines ↦ true | reserved ↦ false | label ↦ false ]
+isSlot reserved x =
+    elim x [ number k ↦ false | again ↦ false | pointer ↦ false | lines ↦ false | reserved ↦ true | label ↦ false ]
+isSlot label x =
+    elim x [ number k ↦ false | again ↦ false | pointer ↦ false | lines ↦ false | reserved ↦ false | label ↦ true ]
 
 -- which of them it is, from 0
 abbrev pub seek : Slot → List Slot → ℕ
@@ -125,7 +133,8 @@ spelt (numbers ns) type² from count = speltAs (fieldsOf ns) type² from count
 
 -- the entry whose first D line is line k of the file
 unfoldable pub entryAt : List ℕ → ℕ → EntryRead
-entryAt f k = spelt (numbersFrom f k 0 fieldCount) (signedOf (slotIn f k again)) (signedOf (slotIn f k pointer)) (signedOf (slotIn f k lines))
+entryAt f k =
+    spelt (numbersFrom f k 0 fieldCount) (signedOf (slotIn f k again)) (signedOf (slotIn f k pointer)) (signedOf (slotIn f k lines))
 
 -- the label, eight columns as they stand
 unfoldable pub labelAt : List ℕ → ℕ → List ℕ

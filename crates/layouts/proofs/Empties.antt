@@ -83,6 +83,3 @@ settled u = go (eqb (times (placeAt (u .at) .times) u) 0) refl
     go : (b : Bool) → eqb (times (placeAt (u .at) .times) u) 0 ≡ b → 1 ≤ settle (enter u) .left
     go true e = let z = eqb-true (times (placeAt (u .at) .times) u) 0 e in rw (← settle-past (enter u) (beyond (enter u)) z refl) (next-some u z)
     go false e = let z = eqb-false (times (placeAt (u .at) .times) u) 0 e in rw (settle-stays u (omega arith)) (omega arith)
-
-pub settle-once : (u : State) → settle (settle (enter u)) ≡ settle (enter u)
-settle-once u = let h = settled u in sym (settle-here (settle (enter u)) (λ z. omega arith))

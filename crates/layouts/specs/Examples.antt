@@ -41,7 +41,8 @@ entity t f vs = record { typ = t; form = f; values = vs }
 
 -- K = 1, M = 1, four flags, four knots, two weights, six coordinates, two reals
 abbrev curve : Item → Item → List Item → List Item
-curve knot weight more = i 1 ∷ i 1 ∷ replicate 4 (i 0) ++ (knot ∷ replicate 3 r) ++ (r ∷ weight ∷ []) ++ replicate 6 r ++ replicate 2 r ++ more
+curve knot weight more =
+    i 1 ∷ i 1 ∷ replicate 4 (i 0) ++ (knot ∷ replicate 3 r) ++ (r ∷ weight ∷ []) ++ replicate 6 r ++ replicate 2 r ++ more
 
 -- K1 = K2 = M1 = M2 = 1, five flags, four and four knots, four weights, twelve coordinates, four reals
 abbrev surface : List Item → List Item
@@ -109,8 +110,10 @@ checks =
 
 -- all of them; 402 form 6 is carried under any list, 402 form 7 is read under list 2048; counts are V, references R
 pub examples : (map (λ (x : Entity × Verdict). verdict types (x .0)) tests ≡ map (λ (x : Entity × Verdict). x .1) tests)
-    × (map (λ (x : ℕ × Entity × Outcome (Unit {0})). entityCheck (x .0) types (x .1) 9) checks ≡ map (λ (x : ℕ × Entity × Outcome (Unit {0})). x .2) checks)
-    × (marks mostList (entity 144 0 (i 1 ∷ i 0 ∷ i 1 ∷ i 0 ∷ i 5 ∷ i 1 ∷ i 1 ∷ [])) ≡ true ∷ false ∷ false ∷ true ∷ true ∷ false ∷ true ∷ [])
+    × (map (λ (x : ℕ × Entity × Outcome (Unit {0})). entityCheck (x .0) types (x .1) 9) checks
+    ≡ map (λ (x : ℕ × Entity × Outcome (Unit {0})). x .2) checks)
+    × (marks mostList (entity 144 0 (i 1 ∷ i 0 ∷ i 1 ∷ i 0 ∷ i 5 ∷ i 1 ∷ i 1 ∷ []))
+    ≡ true ∷ false ∷ false ∷ true ∷ true ∷ false ∷ true ∷ [])
     × (marks 0 (entity 144 0 (i 1 ∷ i 0 ∷ [])) ≡ false ∷ false ∷ [])
 unfolding marks referencePlaces entityCheck known verdict everywhere asked placesOf paper bitOf named classAt classOf
 examples = (refl, refl, refl, refl)

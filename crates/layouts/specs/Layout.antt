@@ -4,7 +4,8 @@ use mathlib.Core.List.{List, [], _∷_}
 use Prim.Native.Nat.{ℕ, suc}
 use lib.Dec.{eqb}
 use Rattle.layouts.specs.declared.Kind.{Kind}
-use Rattle.layouts.specs.declared.Kind.the-variants.{R, Given, Weight, S, I, Flag, Count, Outer, Upper1, Upper2, Degree1, Degree2, P, Q, Bound}
+use Rattle.layouts.specs.declared.Kind.the-variants.{R, Given, Weight, S, I, Flag, Count, Outer}
+use Rattle.layouts.specs.declared.Kind.the-variants.{Upper1, Upper2, Degree1, Degree2, P, Q, Bound}
 use Rattle.layouts.specs.declared.Times.{Times}
 use Rattle.layouts.specs.declared.Times.the-variants.{Fixed, N, Knots1, Knots2, C, ThreeC}
 use Rattle.layouts.specs.declared.Then.the-variants.{Next}
@@ -46,6 +47,18 @@ pub record Row : Type 0 where
 abbrev row : ℕ → Form → List Place → Row
 row t f ps = record { typ = t; form = f; places = ps }
 
+-- the places of 126: K, M, flags, knots, weights, control points, limits, normal
+abbrev curve : List Place
+curve =
+    one Upper1 ∷ one Degree1 ∷ Fixed 4 of Flag ∷ Knots1 of Given ∷ C of Weight ∷ ThreeC of Given
+    ∷ Fixed 2 of Given ∷ Fixed 3 of R ∷ []
+
+-- the places of 128: K1, K2, M1, M2, flags, both knot sequences, weights, control points, limits
+abbrev surface : List Place
+surface =
+    one Upper1 ∷ one Upper2 ∷ one Degree1 ∷ one Degree2 ∷ Fixed 5 of Flag ∷ Knots1 of Given ∷ Knots2 of Given
+    ∷ C of Weight ∷ ThreeC of Given ∷ Fixed 4 of Given ∷ []
+
 -- the table, bit 0 upward
 unfoldable pub paper : List Row
 paper =
@@ -54,8 +67,8 @@ paper =
     ∷ row 110 every (Fixed 6 of R ∷ [])
     ∷ row 116 every (Fixed 3 of R ∷ one (P any) ∷ [])
     ∷ row 124 every (Fixed 12 of R ∷ [])
-    ∷ row 126 every (one Upper1 ∷ one Degree1 ∷ Fixed 4 of Flag ∷ Knots1 of Given ∷ C of Weight ∷ ThreeC of Given ∷ Fixed 2 of Given ∷ Fixed 3 of R ∷ [])
-    ∷ row 128 every (one Upper1 ∷ one Upper2 ∷ one Degree1 ∷ one Degree2 ∷ Fixed 5 of Flag ∷ Knots1 of Given ∷ Knots2 of Given ∷ C of Weight ∷ ThreeC of Given ∷ Fixed 4 of Given ∷ [])
+    ∷ row 126 every curve
+    ∷ row 128 every surface
     ∷ row 142 every (one (I 0 3) ∷ one (Q any) ∷ Fixed 2 of P any ∷ one (I 0 3) ∷ [])
     ∷ row 144 every (one (Q any) ∷ one Outer ∷ one Count ∷ one (Bound entry142) ∷ N of Q entry142 ∷ [])
     ∷ row 308 every (one (I 0 mostInteger) ∷ one S ∷ one Count ∷ N of Q any ∷ [])

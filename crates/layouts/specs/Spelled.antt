@@ -32,10 +32,14 @@ rows =
     ∷ (entity 102 (i 2 ∷ i 1 ∷ i 3 ∷ i 1 ∷ i 5 ∷ []), count ∷ q ∷ q ∷ count ∷ q ∷ count ∷ [])
     ∷ (
       entity 126 (i 2 ∷ i 1 ∷ []),
-      anInteger true 1 10000 ∷ anInteger true 1 2 ∷ replicate 4 (anInteger true 0 1) ++ replicate 5 aGivenReal ++ replicate 3 aWeight ++ replicate 9 aGivenReal
+      anInteger true 1 10000 ∷ anInteger true 1 2 ∷ replicate 4 (anInteger true 0 1) ++ replicate 5 aGivenReal
+          ++ replicate 3 aWeight ++ replicate 9 aGivenReal
           ++ replicate 2 aGivenReal ++ replicate 3 aReal ++ count ∷ count ∷ [],
     )
-    ∷ (entity 144 (i 1 ∷ default ∷ i 1 ∷ []), q ∷ anInteger false 0 1 ∷ count ∷ aReference true entry142 ∷ aReference false entry142 ∷ count ∷ count ∷ [])
+    ∷ (
+      entity 144 (i 1 ∷ default ∷ i 1 ∷ []),
+      q ∷ anInteger false 0 1 ∷ count ∷ aReference true entry142 ∷ aReference false entry142 ∷ count ∷ count ∷ [],
+    )
     ∷ (entity 144 (i 1 ∷ i 1 ∷ []), q ∷ anInteger false 0 1 ∷ count ∷ aReference false entry142 ∷ count ∷ count ∷ [])
     ∷ []
 

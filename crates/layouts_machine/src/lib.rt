@@ -3,7 +3,8 @@
 ghost use mathlib.Core.Path.{_≡_};
 ghost use Prim.Native.Nat.{_+_, _≤_, _<_};
 ghost use Rattle.layouts.specs.Table.{placeAt, startOf};
-ghost use Rattle.layouts.specs.Machine.{times, follow, enter, beyond, settle, onward, step, closed, end, start, reals, refers, kindAt, stand, runsOn};
+ghost use Rattle.layouts.specs.Machine.{times, follow, enter, beyond, settle, onward, step, closed, end, start};
+ghost use Rattle.layouts.specs.Machine.{reals, refers, kindAt, stand, runsOn};
 ghost use Rattle.layouts.specs.Coded.{told};
 use layouts::State;
 use layouts::Stepped;

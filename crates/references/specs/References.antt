@@ -31,7 +31,8 @@ entry142 = 5
 
 -- the class of an entry of a type
 unfoldable pub classOf : ℕ → ℕ
-classOf typ = cond (eqb typ 124) entry124 (cond (eqb typ 314) entry314 (cond (eqb typ 308) entry308 (cond (eqb typ 142) entry142 otherEntry)))
+classOf typ =
+    cond (eqb typ 124) entry124 (cond (eqb typ 314) entry314 (cond (eqb typ 308) entry308 (cond (eqb typ 142) entry142 otherEntry)))
 
 -- "A reference names an odd directory number in the file": types are those of its entries in directory order
 unfoldable pub classAt : List ℕ → ℕ → ℕ
