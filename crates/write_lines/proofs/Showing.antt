@@ -1,73 +1,74 @@
 -- A line that was found by a guess counts if it shows the number asked for. Assumes nothing.
-use mathlib.Core.Path.{_≡_, refl, ap, _∙_}
-use mathlib.Core.Bool.{Bool}
-use mathlib.Core.List.{List, [], _∷_}
-use Prim.Native.Nat.{ℕ, _+_, _-_, _*_, _/_, _≤_, _<_}
+use mathlib.Core.Path.{_≡_, refl, sym, ap, _∙_}
+use mathlib.Core.Bool.{Bool, true, false}
+use mathlib.Core.List.{List}
+use Prim.Native.Nat.{ℕ, _+_, _-_, _*_, _/_, _^_, _≤_, _<_}
 use native.Mathlib.Omega.{arith}
-use native.Mathlib.Decide.{ℕ-discrete}
-use native.Mathlib.Nat.{mul-le-mul-right}
-use lib.ListN.{length, getD, drop}
+use native.Mathlib.Nat.{mul-le-mul-left, mul-le-mul-right, div-mul-le-self}
+use lib.ListN.{length, getD}
+use lib.Dec.{eqb}
 use borrow.Author.Tests.{eq-eqb, ne-eqb}
-use denote.Enum.Declared.{tagOf}
-use types.Run.{OneOf, miss}
 use Rattle.columns.specs.declared.Signed.{Signed}
 use Rattle.columns.specs.Columns.{columns}
-use Rattle.references.specs.References.{classOf, classAt}
-use Rattle.directory.specs.declared.Fields.{Fields}
-use Rattle.sheets.specs.declared.Said.{Said}
-use Rattle.sheets.specs.declared.Said.the-variants.{Start, Global, Entry, Value as Given, Last, Nothing}
+use Rattle.references.specs.References.{classOf}
 use Rattle.sheets.specs.Line.{run}
-use Rattle.sheets.specs.Sheet.{saysOf}
-use Rattle.sheets.proofs.Said.{the-type as saidType}
-use Rattle.write_lines.specs.Classes.{sheetTypes, Tabled}
-use Rattle.write_lines.specs.Shown.{classIf, Shown}
+use Rattle.sheets.specs.Folds.{entryFold}
+use Rattle.write_lines.specs.Classes.{Tabled}
+use Rattle.write_lines.specs.Shown.{beginsEntry, EntryAt, tabbedNumber, Shown}
 use Rattle.write_lines.proofs.Numbered.{class-shown}
 
--- ---- a part's first byte is a place
+-- ---- places are within the sheet
 
-pub part-within : (q n : ℕ) → q < 16666 → q * (n / 16666 + 1) ≤ 16665 * (n / 16666 + 1)
+pub part-within : (q n : ℕ) → q < 16665 → q * (n / 16665 + 1) ≤ 16664 * (n / 16665 + 1)
 part-within q n h =
-    let few : q ≤ 16665 = omega arith in
-    mul-le-mul-right (n / 16666 + 1) few
+    let few : q ≤ 16664 = omega arith in
+    mul-le-mul-right (n / 16665 + 1) few
 
--- ---- by the number that a line shows
+-- so many of all have no more than all
+module _ (bytes all some : ℕ) (few : some < all) where
+  share-within : 256 * bytes / all * some ≤ 256 * bytes
+  share-within =
+      let most : 256 * bytes / all * some ≤ 256 * bytes / all * all = mul-le-mul-left (256 * bytes / all) (omega arith) in
+      omega (arith, most, div-mul-le-self (256 * bytes) all)
 
-module _ (number : ℕ) (s : Said) (known : Bool) (m : Signed) (x : Fields) (e : s ≡ Entry known m x) where
-  pub if-this : m .size ≡ number → (r : ℕ) → r ≡ classOf (x .entity .size) → r ≡ classIf number s
-  if-this h r er = rw e (simp (eq-eqb _ _ h) er)
+  pub share-fits : 256 * bytes < 2 ^ 64 → 256 * bytes / all * some < 2 ^ 64
+  share-fits h = omega (arith, share-within)
 
-  pub if-another : (m .size ≡ number → ⊥) → 0 ≡ classIf number s
-  if-another h = rw e (simp (ne-eqb _ _ h))
+  pub share-less : 256 * bytes / all * some / 256 ≤ bytes
+  share-less = omega (arith, share-within)
 
-pub if-other : (number : ℕ) (s : Said) → OneOf (0 ∷ 1 ∷ 3 ∷ 4 ∷ 5 ∷ []) (tagOf saidType s) → 0 ≡ classIf number s
-if-other number Start h = refl
-if-other number (Global n at v) h = refl
-if-other number (Entry known n fields) h = absurd (miss (0 ∷ 1 ∷ 3 ∷ 4 ∷ 5 ∷ []) 2 tt h)
-if-other number (Given reference v) h = refl
-if-other number (Last n) h = refl
-if-other number (Nothing b) h = refl
+pub ruleset shares = (share-fits, share-less)
 
-pub ruleset ifs = (if-this, if-another, if-other)
+-- ---- an entry's line
 
--- ---- the line from `at` up to `end`, behind an LF
+module _ (before b : ℕ) where
+  pub begins-known : b ≡ 69 → eqb before 10 ≡ beginsEntry before b
+  unfolding beginsEntry
+  begins-known h = simp (eq-eqb _ _ h)
 
-module _ (classes : List ℕ) (n : ℕ) (t : List ℕ) (at end number : ℕ) (tab : Tabled classes n t) (some : 1 ≤ at) (lf : getD t (at - 1) 0 ≡ 10) (lo : at ≤ end) (hi : end < length t) (en : end ≡ at + run 10 (drop at t)) where
-  by-line : (s : Said) → s ≡ saysOf (columns t at end) → (r : ℕ) → r ≡ classIf number s → (r ≡ 0 → ⊥) → r ≡ classAt (sheetTypes t) number
-  by-line Start es r er h = absurd (h er)
-  by-line (Global m place v) es r er h = absurd (h er)
-  by-line (Entry known m x) es r er h = pick (ℕ-discrete (m .size) number)
-    where
-      pick : Dec (m .size ≡ number) → r ≡ classAt (sheetTypes t) number
-      pick (yes e) =
-          let c : classOf (x .entity .size) ≡ classAt (sheetTypes t) (m .size) = class-shown t n at end (tab .good) (omega arith) lf lo hi en (Entry known m x) known m x es refl in
-          (simp (eq-eqb _ _ e) at er) ∙ c ∙ ap (classAt (sheetTypes t)) e
-      pick (no e) = absurd (h (simp (ne-eqb _ _ e) at er))
-  by-line (Given reference v) es r er h = absurd (h er)
-  by-line (Last m) es r er h = absurd (h er)
-  by-line (Nothing b) es r er h = absurd (h er)
+  pub begins-unknown : (b ≡ 69 → ⊥) → b ≡ 85 → eqb before 10 ≡ beginsEntry before b
+  unfolding beginsEntry
+  begins-unknown h k = simp (ne-eqb _ _ h, eq-eqb _ _ k)
 
-pub line-shown : (classes : List ℕ) (n : ℕ) (t : List ℕ) (at end number : ℕ) → Tabled classes n t → 1 ≤ at → getD t (at - 1) 0 ≡ 10 → at ≤ end → end ≤ length t → end ≡ at + run 10 (drop at t)
-    → (end ≡ length t → ⊥) → (s : Said) (r : ℕ) → s ≡ saysOf (columns t at end) → r ≡ classIf number s → Shown t number r
-line-shown classes n t at end number tab some lf lo hi en h s r es er = record { so = by-line classes n t at end number tab some lf lo (omega arith) en s es r er }
+  pub begins-none : (b ≡ 69 → ⊥) → (b ≡ 85 → ⊥) → false ≡ beginsEntry before b
+  unfolding beginsEntry
+  begins-none h k = simp (ne-eqb _ _ h, ne-eqb _ _ k)
 
-pub ruleset shows = (line-shown)
+pub ruleset begins = (begins-known, begins-unknown, begins-none)
+
+pub line-none : (t : List ℕ) (number : ℕ) → Shown t number 0
+line-none t number = record { so = λ h. absurd (h refl) }
+
+-- the type, as it was read
+pub type-read : (t : List ℕ) (at end : ℕ) (y : Signed) (r : ℕ) → r ≡ classOf (y .size) → end ≡ at + run 9 (columns t at (length t)) → y ≡ entryFold 11 (columns t at end) → r ≡ classOf (tabbedNumber 11 t at .size)
+unfolding tabbedNumber
+type-read t at end y r er ee ey = er ∙ ap (λ (x : Signed). classOf (x .size)) (ey ∙ ap (λ (k : ℕ). entryFold 11 (columns t at k)) ee)
+
+pub entry-at : (classes : List ℕ) (n : ℕ) (t : List ℕ) (at : ℕ) → Tabled classes n t → 1 ≤ at → 2 ≤ length t - at → (b : Bool) → b ≡ beginsEntry (getD t (at - 1) 0) (getD t at 0) → b ≡ true → EntryAt t at
+entry-at classes n t at made some two b eb tr = record { entries = n; good = made .good; some = some; two = omega arith; begins = sym eb ∙ tr }
+
+pub line-shown : (t : List ℕ) (at tab : ℕ) (m : Signed) (number r : ℕ) → EntryAt t at → r ≡ classOf (tabbedNumber 11 t (tab + 1) .size) → tab ≡ at + 2 + run 9 (columns t (at + 2) (length t))
+    → m ≡ entryFold 12 (columns t (at + 2) tab) → m .size ≡ number → Shown t number r
+line-shown t at tab m number r e er et em so = record { so = λ h. er ∙ class-shown t at e tab m et em ∙ rw so }
+
+pub ruleset shows = (line-none, type-read, entry-at, line-shown)

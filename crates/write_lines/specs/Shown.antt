@@ -1,22 +1,34 @@
 -- The code's form: what a line shows of the entry with a directory number, where it was found by a guess.
 use mathlib.Core.Path.{_≡_}
-use mathlib.Core.Bool.{cond}
+use mathlib.Core.Bool.{Bool, true, _&&_, _||_}
 use mathlib.Core.List.{List}
-use Prim.Native.Nat.{ℕ}
+use Prim.Native.Nat.{ℕ, _+_, _-_, _≤_}
+use lib.ListN.{length, getD}
 use lib.Dec.{eqb}
-use Rattle.references.specs.References.{noEntry, classOf, classAt}
-use Rattle.sheets.specs.declared.Said.{Said}
-use Rattle.sheets.specs.declared.Said.the-variants.{Start, Global, Entry, Value as Given, Last, Nothing}
+use Rattle.columns.specs.declared.Signed.{Signed}
+use Rattle.columns.specs.Columns.{columns}
+use Rattle.sheets.specs.Line.{run}
+use Rattle.sheets.specs.Folds.{entryFold}
+use Rattle.sheets.specs.declared.Verdict.the-variants.{Good}
+use Rattle.sheets.specs.Order.{verdictOf}
+use Rattle.references.specs.References.{noEntry, classAt}
 use Rattle.write_lines.specs.Classes.{sheetTypes}
 
--- the class of the entry that a line heads, if it has this number
-abbrev pub classIf : ℕ → Said → ℕ
-classIf number Start = noEntry
-classIf number (Global n at v) = noEntry
-classIf number (Entry known n x) = cond (eqb (n .size) number) (classOf (x .entity .size)) noEntry
-classIf number (Given reference v) = noEntry
-classIf number (Last n) = noEntry
-classIf number (Nothing b) = noEntry
+-- b begins an entry's line: E (69) or U (85), behind an LF (10)
+unfoldable pub beginsEntry : ℕ → ℕ → Bool
+beginsEntry before b = (eqb b 69 || eqb b 85) && eqb before 10
+
+-- such a line begins at a place of a good sheet
+pub record EntryAt (t : List ℕ) (at : ℕ) : Type 0 where
+  pub entries : ℕ
+  pub good : verdictOf t ≡ Good entries
+  pub some : 1 ≤ at
+  pub two : at + 2 ≤ length t
+  pub begins : beginsEntry (getD t (at - 1) 0) (getD t at 0) ≡ true
+
+-- the number of an entry line from `at` on, up to the next tab (9); so many others follow it
+unfoldable pub tabbedNumber : ℕ → List ℕ → ℕ → Signed
+tabbedNumber left t at = entryFold left (columns t at (at + run 9 (columns t at (length t))))
 
 -- if any class was found, it is that of the entry with this number
 pub record Shown (t : List ℕ) (number r : ℕ) : Type 0 where

@@ -2,18 +2,20 @@
 // the sheet's bytes, the number of the first entry that starts there or behind. Where it leads is a guess, of which nothing is proved
 // but that it is a place in the sheet: the line that stands there shows its number, and only then counts (`class_shown`). So the
 // contract does not hang on the table, and `table` counts off an entry that is not found. In a table that `write_check` filled none is
-// missed: an entry is found in a dozen looks at the table, a few at the part, and a walk over 256 bytes of entries.
+// missed. The part is found in fourteen looks at the table. In the part entries are looked for where they would be if all were equally
+// long: then the first line looked at is the one. If it isn't, the side of it on which the entry must be is halved down to 256 bytes,
+// and these are walked over. No byte of the part is gone over twice but those of the lines' numbers, so that a look-up costs at most a
+// dozen such looks and the bytes of one part, whatever the entries' lengths are.
 use crate::table::PARTS;
 use columns::DirectoryNumber;
 use references::NO_ENTRY;
-use sheets::Said;
-use sheets_read::end_of;
-use sheets_read::line_at;
+use sheets_numbers::tabbed_at;
 ghost use mathlib.Core.Path.{_≡_};
-ghost use Prim.Native.Nat.{_≤_, _<_};
+ghost use Prim.Native.Nat.{_+_, _-_, _*_, _^_, _≤_, _<_};
 ghost use lib.ListN.{length};
+ghost use Rattle.references.specs.References.{classOf};
 ghost use Rattle.write_lines.specs.Classes.{tableSize, Tabled};
-ghost use Rattle.write_lines.specs.Shown.{classIf, Shown};
+ghost use Rattle.write_lines.specs.Shown.{beginsEntry, EntryAt, tabbedNumber, Shown};
 
 fn wide(b: u8) -> u32
     ensures { λ r. ⌜ r ≡ b ⌝ }
@@ -35,7 +37,7 @@ fn told(table: &[u8], q: usize) -> DirectoryNumber
 // The last part before which no entry with a number above this one starts.
 fn part_of(table: &[u8], number: DirectoryNumber) -> usize
     requires { ⌜ length (now table) ≡ tableSize ⌝ }
-    ensures { λ r. ⌜ r < 16666 ⌝ }
+    ensures { λ r. ⌜ r < 16665 ⌝ }
 {
     let mut low = 0;
     let mut high = PARTS;
@@ -51,29 +53,35 @@ fn part_of(table: &[u8], number: DirectoryNumber) -> usize
     low
 }
 
+// Whether a line that begins with b behind this byte is an entry's.
+fn begins_entry(before: u8, b: u8) -> bool
+    ensures { λ r. ⌜ r ≡ beginsEntry before b ⌝ }
+{
+    if b == 69 {
+        return before == 10;
+    }
+    if b == 85 {
+        return before == 10;
+    }
+    false
+}
+
 // Where the first line at or behind `from` that begins as an entry's does starts, or `stop`.
 fn entry_behind(t: &[u8], from: usize, stop: usize) -> usize
     requires { ⌜ (from ≤ stop) × (stop ≤ length (now t)) × (1 ≤ from) ⌝ }
     ensures { λ r. ⌜ (from ≤ r) × (r ≤ stop) ⌝ }
 {
-    let mut at = from - 1;
+    let mut at = from;
     while at < stop {
-        let end = end_of(t, at);
-        if stop - 1 <= end {
-            return stop;
-        }
-        at = end + 1;
-        if t[at] == 69 {
+        if begins_entry(t[at - 1], t[at]) {
             return at;
         }
-        if t[at] == 85 {
-            return at;
-        }
+        at += 1;
     }
-    stop
+    at
 }
 
-// The number that an entry's line shows.
+// The number that an entry's line shows, if it is no larger than one may be.
 fn number_at(t: &[u8], at: usize) -> DirectoryNumber
     requires { ⌜ at < length (now t) ⌝ }
 {
@@ -81,9 +89,51 @@ fn number_at(t: &[u8], at: usize) -> DirectoryNumber
     if size - at < 2 {
         return DirectoryNumber(0);
     }
-    let tab = sheets_numbers::find(t, 9, at + 2, size);
-    let shown = sheets_numbers::size_at(t, sheets_numbers::UNREAD, at + 2, tab);
-    DirectoryNumber(shown as u32)
+    let mut i = at + 2;
+    let mut number = 0;
+    while i < size {
+        if t[i] < 48 {
+            return DirectoryNumber(number);
+        }
+        if 400000000 < number {
+            return DirectoryNumber(number);
+        }
+        number = number * 10 + wide(t[i] - 48);
+        i += 1;
+    }
+    DirectoryNumber(number)
+}
+
+// The share that `some` of `all` have in so many bytes.
+fn share(bytes: usize, all: usize, some: usize) -> usize
+    requires { ⌜ (some < all) × (256 * bytes < 2 ^ 64) ⌝ }
+    ensures { λ r. ⌜ r ≤ bytes ⌝ }
+{
+    let each = 256 * bytes / all;
+    each * some / 256
+}
+
+// Where in a part the entry with this number stands if all that start in it are equally long: `first` is the first of them, `last` the
+// first behind them.
+fn guess(
+    from: usize,
+    stop: usize,
+    first: DirectoryNumber,
+    last: DirectoryNumber,
+    number: DirectoryNumber,
+) -> usize
+    requires { ⌜ (from ≤ stop) × (256 * (stop - from) < 2 ^ 64) ⌝ }
+    ensures { λ r. ⌜ (from ≤ r) × (r ≤ stop) ⌝ }
+{
+    if number.0 < first.0 {
+        return from;
+    }
+    if last.0 <= number.0 {
+        return from;
+    }
+    let all = (last.0 - first.0) as usize;
+    let some = (number.0 - first.0) as usize;
+    from + share(stop - from, all, some)
 }
 
 // A place from which on the entry with this number is to be found before `stop`, and near it, if it starts from `from` on.
@@ -126,6 +176,45 @@ fn walk_to(t: &[u8], from: usize, stop: usize, number: DirectoryNumber) -> usize
     stop
 }
 
+// Where the entry with this number starts between the two, or `stop`.
+fn search(t: &[u8], from: usize, stop: usize, number: DirectoryNumber) -> usize
+    requires { ⌜ (from ≤ stop) × (stop ≤ length (now t)) × (1 ≤ from) ⌝ }
+    ensures { λ r. ⌜ (1 ≤ r) × (r ≤ stop) ⌝ }
+{
+    let low = near(t, from, stop, number);
+    walk_to(t, low, stop, number)
+}
+
+// The same, looked for first at or behind `place`.
+fn search_by(t: &[u8], from: usize, stop: usize, place: usize, number: DirectoryNumber) -> usize
+    requires { ⌜ (from ≤ place) × (place ≤ stop) × (stop ≤ length (now t)) × (1 ≤ from) ⌝ }
+    ensures { λ r. ⌜ (1 ≤ r) × (r ≤ stop) ⌝ }
+{
+    let found = entry_behind(t, place, stop);
+    if found == stop {
+        return search(t, from, place, number);
+    }
+    let shown = number_at(t, found);
+    if shown.0 == number.0 {
+        return found;
+    }
+    if number.0 < shown.0 {
+        return search(t, from, place, number);
+    }
+    search(t, found, stop, number)
+}
+
+// Where a part ends that starts at `from`.
+fn part_end(from: usize, part: usize, size: usize) -> usize
+    requires { ⌜ from ≤ size ⌝ }
+    ensures { λ r. ⌜ (from ≤ r) × (r ≤ size) × (r ≤ from + part) ⌝ }
+{
+    if size - from < part {
+        return size;
+    }
+    from + part
+}
+
 // Where the table leads for this number.
 fn seek(table: &[u8], t: &[u8], number: DirectoryNumber) -> usize
     requires { ⌜ (length (now table) ≡ tableSize) × (1 ≤ length (now t)) ⌝ }
@@ -133,37 +222,44 @@ fn seek(table: &[u8], t: &[u8], number: DirectoryNumber) -> usize
 {
     let size = t.len();
     let part = size / PARTS + 1;
-    let from = part_of(table, number) * part + 1;
+    let q = part_of(table, number);
+    let from = q * part + 1;
     if size <= from {
         return size;
     }
-    if size - from < part {
-        let low = near(t, from, size, number);
-        return walk_to(t, low, size, number);
-    }
-    let stop = from + part;
-    let low = near(t, from, stop, number);
-    walk_to(t, low, stop, number)
+    let stop = part_end(from, part, size);
+    let first = told(table, q);
+    let last = told(table, q + 1);
+    let place = guess(from, stop, first, last, number);
+    search_by(t, from, stop, place, number)
 }
 
-// The class of the entry that a line heads, if it has this number.
-fn class_if(said: Said, number: DirectoryNumber) -> u8
-    ensures { λ r. ⌜ r ≡ classIf (number .0) said ⌝ }
+// The class of the entry whose type stands from `at` on, with eleven numbers behind it.
+fn class_typed(t: &[u8], at: usize) -> u8
+    requires { ⌜ at ≤ length (now t) ⌝ }
+    ensures { λ r. ⌜ r ≡ classOf (tabbedNumber 11 (now (t .entry)) at .size) ⌝ }
 {
-    match said {
-        Said::Entry {
-            known: _,
-            number: shown,
-            fields,
-        } => {
-            if shown.size == number.0 {
-                let typ = fields.entity.size;
-                return references::class_of(typ);
-            }
-            NO_ENTRY
-        }
-        _ => NO_ENTRY,
+    let next = tabbed_at(t, 11, at, t.len());
+    let typ = next.number;
+    references::class_of(typ.size)
+}
+
+// The class of the entry whose line begins at `at`, if it has this number: the line shows its number first, then its type.
+fn class_if(t: &[u8], at: usize, number: DirectoryNumber) -> u8
+    requires { ⌜ EntryAt (now t) at ⌝ }
+    ensures { λ r. ⌜ Shown (now (t .entry)) (number .0) r ⌝ }
+{
+    let size = t.len();
+    let shown = tabbed_at(t, 12, at + 2, size);
+    let tab = shown.end;
+    let this = shown.number;
+    if this.size != number.0 {
+        return NO_ENTRY;
     }
+    if tab == size {
+        return NO_ENTRY;
+    }
+    class_typed(t, tab + 1)
 }
 
 // The class of the entry with this number, if it starts at `at`.
@@ -171,15 +267,13 @@ fn class_shown(classes: &[u8], n: usize, t: &[u8], at: usize, number: DirectoryN
     requires { ⌜ Tabled (now classes) n (now t) × (1 ≤ at) × (at ≤ length (now t)) ⌝ }
     ensures { λ r. ⌜ Shown (now (t .entry)) (number .0) r ⌝ }
 {
-    if t[at - 1] != 10 {
+    if t.len() - at < 2 {
         return NO_ENTRY;
     }
-    let end = end_of(t, at);
-    if end == t.len() {
-        return NO_ENTRY;
+    if begins_entry(t[at - 1], t[at]) {
+        return class_if(t, at, number);
     }
-    let said = line_at(t, at, end);
-    class_if(said, number)
+    NO_ENTRY
 }
 
 // The class of the entry with this number where the table leads, if it is there.

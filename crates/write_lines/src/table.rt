@@ -20,8 +20,8 @@ ghost use Rattle.write_lines.specs.Classes.{sheetTypes, classesIn, saidC
 // A file of 200,000 lines has three of its own (S, G, T), and three for each entry.
 pub const TABLE: usize = 66665;
 
-// The parts of a sheet of more entries, four bytes of the table for each.
-pub const PARTS: usize = 16666;
+// The parts of a sheet of more entries: four bytes of the table for each, and for what is behind the last.
+pub const PARTS: usize = 16665;
 
 // The class of the entry that a line heads.
 fn class_said(said: Said) -> u8

@@ -1,6 +1,6 @@
--- By the number that the line shows.
+-- The line shows its number, and then its type.
 use borrow.Author.Needs.{needs}
-use Rattle.write_lines.proofs.Showing.{ifs}
+use Rattle.write_lines.proofs.Showing.{shows}
 use Rattle.write_lines.proofs.far.class_if.Statement.{statement}
 use Rattle.write_lines.proofs.far.class_if.Tie as tie
 
@@ -8,8 +8,10 @@ pub class-if-spec : {M : Type 1} → statement M
 class-if-spec =
     tie.close
     (tie.spec
-    (λ c. search (needs, ifs))
-    (λ c κs. search (needs, ifs))
-    (λ c. search (needs, ifs))
-    (λ c. search (needs, ifs))
-    (λ c. search (needs, ifs)))
+    (λ c. search (needs, shows))
+    (λ c κs. search (needs, shows))
+    (λ c. search (needs, shows))
+    (λ c. search (needs, shows))
+    (λ c. search (needs, shows))
+    (λ c κs. search (needs, shows))
+    (λ c. search (needs, shows)))

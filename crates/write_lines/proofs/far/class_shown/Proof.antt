@@ -1,4 +1,4 @@
--- A line behind an LF that shows the number is the line of that entry.
+-- A line behind an LF that begins as an entry's is one: the sheet is good.
 use borrow.Author.Needs.{needs}
 use Rattle.write_lines.proofs.Showing.{shows}
 use Rattle.write_lines.proofs.far.class_shown.Statement.{statement}
@@ -11,8 +11,9 @@ class-shown-spec =
     (λ c. search (needs, shows))
     (λ c. search (needs, shows))
     (λ c. search (needs, shows))
-    (λ c κs. search (needs, shows))
+    (λ c. search (needs, shows))
     (λ c. search (needs, shows))
     (λ c κs. search (needs, shows))
     (λ c κs. search (needs, shows))
+    (λ c. search (needs, shows))
     (λ c. search (needs, shows)))

@@ -5,7 +5,7 @@ use Rattle.write_lines.proofs.far.part_of.Statement.{statement}
 use Rattle.write_lines.proofs.far.part_of.Tie as tie
 
 abbrev Inv-loop : tie.InvT-loop
-Inv-loop table number low₀ high₀ low high = (low < high) × (high ≤ 16666)
+Inv-loop table number low₀ high₀ low high = (low < high) × (high ≤ 16665)
 
 abbrev μ-loop : tie.MeasureT-loop
 μ-loop table number low₀ high₀ low high = high - low
