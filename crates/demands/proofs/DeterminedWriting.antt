@@ -16,6 +16,8 @@ use Rattle.write_lines.proofs.table.keep.Kinds as asking-table-keep-kinds
 use Rattle.write_lines.proofs.table.keep.Reads as asking-table-keep-reads
 use Rattle.write_lines.proofs.table.class_at.Kinds as asking-table-class-at-kinds
 use Rattle.write_lines.proofs.table.class_at.Reads as asking-table-class-at-reads
+use Rattle.write_lines.proofs.table.some_at.Kinds as asking-table-some-at-kinds
+use Rattle.write_lines.proofs.table.some_at.Reads as asking-table-some-at-reads
 use Rattle.demands.specs.Unique.{NoSecond}
 use Rattle.demands.proofs.Unique.{once, wrote-first}
 
@@ -54,3 +56,6 @@ asking-table-keep κs a z z′ left left′ p q = wrote-first (left .1) (p .0) (
 
 pub asking-table-class-at : NoSecond asking-table-class-at-kinds.ps asking-table-class-at-kinds.r asking-table-class-at-reads.Post
 asking-table-class-at κs a z z′ left left′ p q = (once p q, refl)
+
+pub asking-table-some-at : NoSecond asking-table-some-at-kinds.ps asking-table-some-at-kinds.r asking-table-some-at-reads.Post
+asking-table-some-at κs a z z′ left left′ p q = (once p q, refl)

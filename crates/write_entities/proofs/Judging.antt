@@ -23,15 +23,15 @@ use Rattle.layouts.specs.declared.Stepped.the-variants.{Go, Bad}
 use Rattle.layouts.specs.declared.Verdict.{Verdict}
 use Rattle.layouts.specs.declared.Verdict.the-variants.{Good as GoodVerdict, Layout, LayoutReference}
 use Rattle.layouts.specs.Known.{known}
-use Rattle.layouts.specs.Machine.{start, end}
+use Rattle.layouts.specs.Named.{named}
+use Rattle.layouts.specs.Machine.{start, step, end}
 use Rattle.layouts.specs.Walk.{stepped, feed, run as runs, verdictFrom, judged as walked, mark, marksFrom}
 use Rattle.layouts.specs.Entities.{Entity, fault, entityCheck}
 use Rattle.layouts.proofs.Runs.{feed-stepped}
 use Rattle.layouts.proofs.Fits.{accepts-keeps}
 use Rattle.layouts.proofs.Walk.{check-judged}
 use Rattle.read_entities.specs.Marks.{marksBegun}
-use Rattle.read_entities.proofs.Names.{negative-names, whole-names}
-use Rattle.read_entities.proofs.Marking.{stepped-go, stepped-bad, marks-begin}
+use Rattle.read_entities.proofs.Marking.{stepped-bad, marks-begin}
 use Rattle.sheets.specs.declared.Said.{Said}
 use Rattle.sheets.specs.declared.Said.the-variants.{Entry, Nothing}
 use Rattle.sheets.specs.Line.{run}
@@ -51,7 +51,7 @@ use Rattle.write_lines.specs.Lines.{passOf, Skipped}
 use Rattle.write_lines.specs.Heads.{saidEntity}
 use Rattle.write_entities.specs.Judging.{rightToo, judgedSo, judged, valuesOf, verdictIf, answerOf}
 use Rattle.write_lines.proofs.Lines.{lines-piece, lines-none, line-read, skipped-none}
-use Rattle.write_lines.proofs.Others.{names-other, entity-other}
+use Rattle.write_lines.proofs.Others.{no-values, entity-other}
 
 -- ---- one value
 
@@ -61,7 +61,11 @@ right-yes right reference m too g em et e = rw (e, ← em) et
 pub right-no : (right reference : Bool) (g : Stepped) → right ≡ false → false ≡ rightToo right reference g
 right-no right reference g e = rw e
 
-pub ruleset values = (negative-names, whole-names, names-other, stepped-go, stepped-bad, right-yes, right-no)
+-- a step with as much of the class as it asks for
+pub stepped-for : (types : List ℕ) (g : Stepped) (v : Value) {s : State} (class : ℕ) {r : Stepped} → g ≡ Go s → step s v class ≡ step s v (named types v) → r ≡ step s v class → r ≡ stepped types g v
+stepped-for types g v class e q h = rw e (h ∙ q)
+
+pub ruleset values = (stepped-for, stepped-bad, right-yes, right-no)
 
 -- ---- all of them: f is the answer
 

@@ -1,5 +1,8 @@
-// What the entities of a sheet are asked: 10, then 14 and 15 by their layouts, where the list knows them, then 18 by their marks.
-use columns::DirectoryNumber;
+// What the entities of a sheet are asked: 10, then 14 and 15 by their layouts, where the list knows them, then 18 by their marks. `naming`
+// has what a value names.
+mod naming;
+
+use crate::naming::named_for;
 use columns::Fault;
 use columns::SheetLine;
 use layouts::Stepped;
@@ -7,7 +10,6 @@ use layouts::Verdict;
 use layouts_lists::known;
 use read_entities::marks::mark_of;
 use read_entities::marks::marks_begun;
-use references::NO_ENTRY;
 use sheets::Said;
 use sheets_read::end_of;
 use sheets_read::is_value;
@@ -18,12 +20,10 @@ use write_lines::Pass;
 use write_lines::heads::head_at;
 use write_lines::refer::reference_of;
 use write_lines::refer::references;
-use write_lines::table::class_at;
 ghost use mathlib.Core.Path.{_≡_};
 ghost use mathlib.Core.Bool.{true};
 ghost use Prim.Native.Nat.{_+_, _≤_};
 ghost use lib.ListN.{length};
-ghost use Rattle.layouts.specs.Named.{named};
 ghost use Rattle.layouts.specs.Walk.{stepped};
 ghost use Rattle.sheets_rows.specs.Rows.{linesAt, valuesFirst};
 ghost use Rattle.model.specs.Write.{equal};
@@ -54,22 +54,6 @@ pub struct Asked {
     pub lines: usize,
 }
 
-// The class of what a value names: only a whole number without a sign names an entry.
-fn named_at(classes: &[u8], n: usize, t: &[u8], v: Value) -> u8
-    requires { ⌜ Tabled (now classes) n (now t) ⌝ }
-    ensures { λ r. ⌜ r ≡ named (sheetTypes (now (t .entry))) v ⌝ }
-{
-    match v {
-        Value::Whole { neg, size } => {
-            if neg {
-                return NO_ENTRY;
-            }
-            class_at(classes, n, t, DirectoryNumber(size))
-        }
-        _ => NO_ENTRY,
-    }
-}
-
 // The layout behind this value.
 fn step_at(classes: &[u8], n: usize, t: &[u8], g: Stepped, v: Value) -> Stepped
     requires { ⌜ Tabled (now classes) n (now t) ⌝ }
@@ -77,7 +61,7 @@ fn step_at(classes: &[u8], n: usize, t: &[u8], g: Stepped, v: Value) -> Stepped
 {
     match g {
         Stepped::Go(s) => {
-            let class = named_at(classes, n, t, v);
+            let class = named_for(classes, n, t, s, v);
             layouts_machine::step(s, v, class)
         }
         Stepped::Bad => Stepped::Bad,

@@ -19,6 +19,8 @@ use Rattle.sheets.specs.declared.Said.the-variants.{Entry as EntryLine}
 use Rattle.sheets.specs.Order.{sheetLine}
 use Rattle.write_lines.specs.declared.Pass.the-variants.{Good, Refused}
 use Rattle.write_lines.specs.Heads.{saidReferences}
+use Rattle.write_lines.specs.Classes.{sheetTypes, someAt, Tabled}
+use Rattle.write_lines.proofs.Tables.{number-some}
 use Rattle.write_lines.proofs.Others.{references-other}
 
 -- ---- one reference
@@ -30,7 +32,12 @@ module _ (types : List ℕ) (w : Wanted) where
   pub asks-class : w .asked ≡ true → (class : ℕ) (r : Bool) → class ≡ classAt types (w .number .0) → r ≡ fits (w .want) class → r ≡ asksOk types w
   asks-class e class r ec er = rw (e, er, ec)
 
-pub ruleset asks = (not-true, not-false, asks-nothing, asks-class, rest-all, rest-on, rest-no, rest-done)
+-- where no type is asked for
+pub asks-some : (classes : List ℕ) (n : ℕ) (t : List ℕ) (w : Wanted) → Tabled classes n t → w .asked ≡ true → w .want ≡ 0 → (class : ℕ) (r : Bool) → class ≡ someAt n (w .number .0) → r ≡ fits (w .want) class
+    → r ≡ asksOk (sheetTypes t) w
+asks-some classes n t w tab e z class r ec er = rw (e, er, z, ec) (number-some classes n t (w .number .0) tab)
+
+pub ruleset asks = (not-true, not-false, asks-nothing, asks-some, asks-class, rest-all, rest-on, rest-no, rest-done)
 
 -- ---- one entry
 

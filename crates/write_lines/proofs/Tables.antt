@@ -4,8 +4,11 @@ use mathlib.Core.Bool.{Bool}
 use mathlib.Core.List.{List, [], _∷_, _++_, map}
 use Prim.Native.Nat.{ℕ, zero, suc, _+_, _-_, _/_, _%_, _≤_, _<_}
 use native.Mathlib.Omega.{arith}
+use native.Mathlib.Decide.{decLt, ℕ-discrete}
 use lib.ListN.{length, getD, drop, set, replicate, length-set, length-replicate, getD-replicate}
 use lib.Seq.{getD-set-same, getD-set-other}
+use lib.Dec.{leb}
+use borrow.Author.Tests.{eq-eqb, ne-eqb, lt-ltb, le-ltb, le-leb}
 use Rattle.columns.specs.declared.Signed.{Signed}
 use Rattle.columns.specs.Columns.{columns}
 use Rattle.columns.specs.Laid.{laid, length-laid, laid-laid, laid-nil, Wrote}
@@ -21,7 +24,7 @@ use Rattle.sheets.specs.Order.{verdictOf}
 use Rattle.sheets.proofs.Walk.{lines-first}
 use Rattle.sheets_rows.specs.Rows.{typesIn}
 use Rattle.write_lines.specs.Heads.{headOf}
-use Rattle.write_lines.specs.Classes.{sheetTypes, classesIn, saidClass, withClass, tableSize, Tabled}
+use Rattle.write_lines.specs.Classes.{sheetTypes, classesIn, saidClass, withClass, someAt, tableSize, Tabled}
 use Rattle.write_lines.specs.Shown.{Shown}
 use Rattle.write_lines.proofs.Lines.{lines-piece, lines-none}
 use Rattle.write_lines.proofs.Others.{class-other}
@@ -152,30 +155,67 @@ class-of [] i h = absurd (omega arith)
 class-of (x ∷ ts) zero h = refl
 class-of (x ∷ ts) (suc i) h = class-of ts i (omega arith)
 
+module _ (n number : ℕ) where
+  pub some-even : (number % 2 ≡ 1 → ⊥) → 0 ≡ someAt n number
+  unfolding someAt
+  some-even h = simp (ne-eqb (number % 2) 1 h)
+
+  pub some-past : number % 2 ≡ 1 → n ≤ number / 2 → 0 ≡ someAt n number
+  unfolding someAt
+  some-past h k = simp (eq-eqb (number % 2) 1 h, le-ltb (number / 2) n k)
+
+  pub some-one : number % 2 ≡ 1 → number / 2 < n → 1 ≡ someAt n number
+  unfolding someAt
+  some-one h k = simp (eq-eqb (number % 2) 1 h, lt-ltb (number / 2) n k)
+
+  some-is : (someAt n number ≡ 0 → ⊥) → (number % 2 ≡ 1) × (number / 2 < n)
+  some-is h = elim (ℕ-discrete (number % 2) 1) [
+    | no e ↦ absurd (h (sym (some-even e)))
+    | yes e ↦ elim (decLt (number / 2) n) [ yes k ↦ (e, k) | no k ↦ absurd (h (sym (some-past e (omega arith)))) ]
+  ]
+
+pub ruleset somes = (some-even, some-past, some-one)
+
 module _ (classes : List ℕ) (n : ℕ) (t : List ℕ) (number : ℕ) (tab : Tabled classes n t) where
-  pub number-even : (number % 2 ≡ 1 → ⊥) → 0 ≡ classAt (sheetTypes t) number
-  number-even h = class-even (sheetTypes t) number h
+  pub number-none : (s : ℕ) → s ≡ someAt n number → s ≡ 0 → 0 ≡ classAt (sheetTypes t) number
+  number-none s e z = elim (ℕ-discrete (number % 2) 1) [
+    | no h ↦ class-even (sheetTypes t) number h
+    | yes h ↦ elim (decLt (number / 2) n) [
+      | no k ↦ class-past (sheetTypes t) number (omega (arith, tab .count))
+      | yes k ↦ absurd (omega (arith, some-one n number h k))
+    ]
+  ]
 
-  pub number-past : n ≤ number / 2 → 0 ≡ classAt (sheetTypes t) number
-  number-past h = class-past (sheetTypes t) number (omega (arith, tab .count))
+  -- there is an entry exactly if it has a class
+  pub number-some : leb 1 (someAt n number) ≡ leb 1 (classAt (sheetTypes t) number)
+  number-some = elim (ℕ-discrete (someAt n number) 0) [
+    | yes e ↦ rw (e, ← number-none (someAt n number) refl e)
+    | no e ↦ some-class (some-is n number e)
+  ]
+    where
+      some-class : (number % 2 ≡ 1) × (number / 2 < n) → leb 1 (someAt n number) ≡ leb 1 (classAt (sheetTypes t) number)
+      some-class h =
+          let c = class-at (sheetTypes t) number (h .0) (omega (arith, tab .count, h .1)) in
+          rw (← some-one n number (h .0) (h .1), ← c) (sym (le-leb _ _ (class-range (getD (sheetTypes t) (number / 2) 0) .0)))
 
-  module _ (odd : number % 2 ≡ 1) (few : number / 2 < n) where
+  module _ (s : ℕ) (es : s ≡ someAt n number) (some : s ≡ 0 → ⊥) where
     pub number-walk : (r : ℕ) → r ≡ getD (classesIn (linesIn t)) (number / 2) 0 → r ≡ classAt (sheetTypes t) number
     unfolding classesIn sheetTypes
     number-walk r e =
-        let h : number / 2 < length (typesIn (linesIn t)) = omega (arith, tab .count) in
-        e ∙ class-of (typesIn (linesIn t)) (number / 2) h ∙ class-at (typesIn (linesIn t)) number odd h
-
-    pub number-table : n ≤ tableSize → getD classes (number / 2) 0 ≡ classAt (sheetTypes t) number
-    number-table h = number-walk (getD classes (number / 2) 0) (tab .each h (number / 2) (omega arith))
+        let i = some-is n number (λ z. some (es ∙ z)) in
+        let h : number / 2 < length (typesIn (linesIn t)) = omega (arith, tab .count, i .1) in
+        e ∙ class-of (typesIn (linesIn t)) (number / 2) h ∙ class-at (typesIn (linesIn t)) number (i .0) h
 
     pub number-in : n ≤ tableSize → number / 2 < length classes
-    number-in h = omega (arith, tab .size)
+    number-in h = omega (arith, tab .size, some-is n number (λ z. some (es ∙ z)) .1)
+
+    pub number-table : n ≤ tableSize → getD classes (number / 2) 0 ≡ classAt (sheetTypes t) number
+    number-table h = number-walk (getD classes (number / 2) 0) (tab .each h (number / 2) (omega (arith, number-in h, tab .size)))
 
 pub number-shown : (t : List ℕ) (number r : ℕ) → Shown t number r → (r ≡ 0 → ⊥) → r ≡ classAt (sheetTypes t) number
 number-shown t number r s h = s .so h
 
-pub ruleset names = (number-even, number-past, number-walk, number-table, number-in, number-shown)
+pub ruleset names = (number-none, number-walk, number-table, number-in, number-shown)
 
 -- ---- a table that was filled
 

@@ -1,9 +1,11 @@
 -- The code's form: the classes of a sheet's entries, and the table that keeps them.
 use mathlib.Core.Path.{_≡_}
+use mathlib.Core.Bool.{cond, _&&_}
 use mathlib.Core.List.{List, _∷_, map}
-use Prim.Native.Nat.{ℕ, zero, suc, _≤_, _<_}
+use Prim.Native.Nat.{ℕ, zero, suc, _/_, _%_, _≤_, _<_}
+use lib.Dec.{ltb, eqb}
 use lib.ListN.{length, getD}
-use Rattle.references.specs.References.{noEntry, classOf}
+use Rattle.references.specs.References.{noEntry, otherEntry, classOf}
 use Rattle.sheets.specs.declared.Said.{Said}
 use Rattle.sheets.specs.declared.Said.the-variants.{Start, Global, Entry, Value as Given, Last, Nothing}
 use Rattle.sheets.specs.declared.Verdict.the-variants.{Good}
@@ -32,6 +34,10 @@ saidClass (Nothing b) = noEntry
 abbrev pub withClass : ℕ → List ℕ → List ℕ
 withClass zero cs = cs
 withClass (suc c) cs = suc c ∷ cs
+
+-- what a directory number names among n entries, where no type is asked for: an entry, or none
+unfoldable pub someAt : ℕ → ℕ → ℕ
+someAt n number = cond (eqb (number % 2) 1 && ltb (number / 2) n) otherEntry noEntry
 
 -- as many entries as a file of 200,000 lines can have: three lines of its own, and three for each entry
 abbrev pub tableSize : ℕ

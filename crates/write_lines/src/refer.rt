@@ -2,10 +2,12 @@
 use crate::Pass;
 use crate::heads::head_at;
 use crate::table::class_at;
+use crate::table::some_at;
 use columns::Fault;
 use columns::SheetLine;
 use directory::Entry;
 use directory::Wanted;
+use references::ANY;
 use sheets::Said;
 use sheets_read::end_of;
 ghost use mathlib.Core.Path.{_≡_};
@@ -27,6 +29,10 @@ fn asks_ok(classes: &[u8], n: usize, t: &[u8], w: Wanted) -> bool
 {
     if !w.asked {
         return true;
+    }
+    if w.want == ANY {
+        let class = some_at(n, w.number);
+        return references::fits(w.want, class);
     }
     let class = class_at(classes, n, t, w.number);
     references::fits(w.want, class)

@@ -4,6 +4,7 @@ use crate::far::class_near;
 use crate::heads::head_at;
 use columns::DirectoryNumber;
 use references::NO_ENTRY;
+use references::OTHER_ENTRY;
 use sheets::Said;
 use sheets_read::end_of;
 ghost use mathlib.Core.Path.{_≡_};
@@ -15,7 +16,7 @@ ghost use Rattle.columns.specs.Laid.{Wrote};
 ghost use Rattle.references.specs.References.{classAt};
 ghost use Rattle.sheets.specs.Sheet.{linesIn};
 ghost use Rattle.write_lines.specs.Heads.{headOf};
-ghost use Rattle.write_lines.specs.Classes.{sheetTypes, classesIn, saidClass, withClass, Tabled};
+ghost use Rattle.write_lines.specs.Classes.{sheetTypes, classesIn, saidClass, withClass, someAt, Tabled};
 
 // A file of 200,000 lines has three of its own (S, G, T), and three for each entry.
 pub const TABLE: usize = 66665;
@@ -87,10 +88,9 @@ fn class_past(t: &[u8], i: usize) -> u8
     NO_ENTRY
 }
 
-// The class of what a directory number names in a sheet of n entries.
-pub fn class_at(classes: &[u8], n: usize, t: &[u8], number: DirectoryNumber) -> u8
-    requires { ⌜ Tabled (now classes) n (now t) ⌝ }
-    ensures { λ r. ⌜ r ≡ classAt (sheetTypes (now (t .entry))) (number .0) ⌝ }
+// What a directory number names in a sheet of n entries, where no type is asked for: for that no entry is looked at.
+pub fn some_at(n: usize, number: DirectoryNumber) -> u8
+    ensures { λ r. ⌜ r ≡ someAt n (number .0) ⌝ }
 {
     if number.0 % 2 != 1 {
         return NO_ENTRY;
@@ -99,6 +99,18 @@ pub fn class_at(classes: &[u8], n: usize, t: &[u8], number: DirectoryNumber) -> 
     if n <= i {
         return NO_ENTRY;
     }
+    OTHER_ENTRY
+}
+
+// The class of what a directory number names in a sheet of n entries.
+pub fn class_at(classes: &[u8], n: usize, t: &[u8], number: DirectoryNumber) -> u8
+    requires { ⌜ Tabled (now classes) n (now t) ⌝ }
+    ensures { λ r. ⌜ r ≡ classAt (sheetTypes (now (t .entry))) (number .0) ⌝ }
+{
+    if some_at(n, number) == NO_ENTRY {
+        return NO_ENTRY;
+    }
+    let i = (number.0 / 2) as usize;
     if n <= TABLE {
         return classes[i];
     }

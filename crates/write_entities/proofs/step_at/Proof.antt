@@ -1,4 +1,4 @@
--- By whether a value was refused; what the value names is looked up.
+-- By whether a value was refused; what the value names is looked up as far as it is asked for.
 use borrow.Author.Needs.{needs}
 use Rattle.write_entities.proofs.Judging.{values}
 use Rattle.write_entities.proofs.step_at.Statement.{statement}
