@@ -8,4 +8,5 @@ pub mod Round
 pub mod First
 pub mod Text
 pub mod Outcomes
+pub mod Refusals
 pub mod Stops

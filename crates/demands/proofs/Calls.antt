@@ -10,9 +10,10 @@ use lib.ListN.{length, take, drop}
 use lib.Dec.{leb}
 use borrow.Author.Tests.{leb-true, leb-false}
 use Rattle.columns.specs.declared.Fault.{Fault}
-use Rattle.columns.specs.declared.Fault.the-variants.{ListOrLength, Byte, Section, Sequence, Terminate, Spelling, Limit, Global, Directory, Reference, Ownership, FirstValue, Macro, Layout, LayoutReference, Room, SheetLine, Mark, TooLong}
+use Rattle.columns.specs.declared.Fault.the-variants.{Room}
 use Rattle.columns.specs.Refusal.{Outcome, accepted, refused, number}
 use Rattle.columns.specs.Laid.{laid, laid-eq}
+use Rattle.columns.proofs.Refusals.{numbered}
 use Rattle.model.specs.Read.{reads}
 use Rattle.model.specs.Write.{writes}
 use Rattle.desk.specs.declared.Answer.{Answer}
@@ -52,28 +53,6 @@ ends (accepted bs) o a s p q = pick (leb (length bs) (length o)) refl
     pick : (b : Bool) → leb (length bs) (length o) ≡ b → Ends (accepted bs) o a s
     pick true e = whole bs refl (leb-true (length bs) (length o) e) (rw e at p) (rw e at q)
     pick false e = short bs refl (leb-false (length bs) (length o) e) (rw e at p) (rw e at q)
-
--- no refusal has number 0
-pub numbered : (n : Fault) → number n ≡ 0 → ⊥
-numbered ListOrLength e = omega arith
-numbered Byte e = omega arith
-numbered Section e = omega arith
-numbered Sequence e = omega arith
-numbered Terminate e = omega arith
-numbered Spelling e = omega arith
-numbered Limit e = omega arith
-numbered Global e = omega arith
-numbered Directory e = omega arith
-numbered Reference e = omega arith
-numbered Ownership e = omega arith
-numbered FirstValue e = omega arith
-numbered Macro e = omega arith
-numbered Layout e = omega arith
-numbered LayoutReference e = omega arith
-numbered Room e = omega arith
-numbered SheetLine e = omega arith
-numbered Mark e = omega arith
-numbered TooLong e = omega arith
 
 pub read-ends : {list : ℕ} {file o s : List ℕ} {a : Answer} → ReadCall list file o a s → Ends (reads list file) o a s
 read-ends {list} {file} {o} {s} {a} c = ends (reads list file) o a s (read-says c .answers) (read-says c .leaves)

@@ -8,6 +8,7 @@ use native.Mathlib.Decide.{decLe}
 use lib.ListN.{length}
 use Rattle.columns.specs.declared.Fault.the-variants.{TooLong}
 use Rattle.columns.specs.Refusal.{Outcome, accepted, refused}
+use Rattle.columns.proofs.Refusals.{numbered}
 use Rattle.cards.specs.Cards.{mostLines}
 use Rattle.model.specs.Canonical.{lineTotal, canonical}
 use Rattle.model.specs.Read.{reads}
@@ -25,7 +26,7 @@ use Rattle.demands.proofs.Demand.{kept}
 use Rattle.demands.proofs.Impostors.{no-impostor}
 use Rattle.demands.proofs.Written.{written-long}
 use Rattle.demands.proofs.ThereAndBack.{read-to, tells-model, read-writes, written-reads, sheets-exactly}
-use Rattle.demands.proofs.Calls.{Ends, whole, short, stopped, Got, got, gives, refuses, numbered, keeps, asked, read-ends, write-ends}
+use Rattle.demands.proofs.Calls.{Ends, whole, short, stopped, Got, got, gives, refuses, keeps, asked, read-ends, write-ends}
 
 -- ---- what is written of a file's sheet
 

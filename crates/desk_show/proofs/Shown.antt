@@ -8,10 +8,10 @@ use lib.ListN.{length, take}
 use lib.Seq.{length-take-le}
 use lib.Dec.{leb}
 use borrow.Author.Tests.{le-leb, lt-leb, leb-true}
-use Rattle.columns.specs.declared.Fault.{Fault}
-use Rattle.columns.specs.declared.Fault.the-variants.{ListOrLength, Byte, Section, Sequence, Terminate, Spelling, Limit, Global, Directory, Reference, Ownership, FirstValue, Macro, Layout, LayoutReference, Room, SheetLine, Mark, TooLong}
-use Rattle.columns.specs.Refusal.{Outcome, accepted, refused, number, demand, _then_}
+use Rattle.columns.specs.declared.Fault.the-variants.{Room}
+use Rattle.columns.specs.Refusal.{Outcome, accepted, refused, demand, _then_}
 use Rattle.columns.specs.Laid.{laid, length-laid, Wrote}
+use Rattle.columns.proofs.Refusals.{numbered}
 use Rattle.columns.proofs.Writes.{wrote-same, wrote-length}
 use Rattle.model.specs.Read.{reads}
 use Rattle.desk.specs.declared.Answer.{Answer}
@@ -20,28 +20,6 @@ use Rattle.desk_show.specs.Refusal.{refusalLine}
 
 -- ---- what reading answered, by its outcome
 
--- a refusal's number is not 0
-some : (n : Fault) → 0 < number n
-some ListOrLength = omega arith
-some Byte = omega arith
-some Section = omega arith
-some Sequence = omega arith
-some Terminate = omega arith
-some Spelling = omega arith
-some Limit = omega arith
-some Global = omega arith
-some Directory = omega arith
-some Reference = omega arith
-some Ownership = omega arith
-some FirstValue = omega arith
-some Macro = omega arith
-some Layout = omega arith
-some LayoutReference = omega arith
-some Room = omega arith
-some SheetLine = omega arith
-some Mark = omega arith
-some TooLong = omega arith
-
 -- what is accepted, where there is room for so many; else 16
 abbrev limited : ℕ → Outcome (List ℕ) → Outcome (List ℕ)
 limited room x = x then λ bs. demand (leb (length bs) room) Room 0 then λ _. accepted bs
@@ -49,7 +27,7 @@ limited room x = x then λ bs. demand (leb (length bs) room) Room 0 then λ _. a
 by-sheet : (o o′ : List ℕ) (n l : ℕ) (x : Outcome (List ℕ)) → n ≡ answerOf (length o) x .number → l ≡ answerOf (length o) x .length → o′ ≡ leftIn o x → n ≤ 0
     → Wrote o 0 (printed (limited (length o) x)) o′ l × (l ≤ length o)
 unfolding answerOf leftIn
-by-sheet o o′ n l (refused f place) en el eo h = absurd (omega (arith, some f))
+by-sheet o o′ n l (refused f place) en el eo h = absurd (numbered f (omega arith))
 by-sheet o o′ n l (accepted bs) en el eo h = pick (leb (length bs) (length o)) refl en eo
   where
     pick : (b : Bool) → leb (length bs) (length o) ≡ b → n ≡ cond b 0 16 → o′ ≡ cond b (laid o 0 bs) o
