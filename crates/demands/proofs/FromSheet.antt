@@ -5,7 +5,7 @@ use mathlib.Core.List.{List, _∷_, map}
 use Prim.Native.Nat.{ℕ, _≤_}
 use lib.ListN.{length-map}
 use Rattle.columns.specs.declared.Fault.the-variants.{Global, Reference, Mark}
-use Rattle.columns.specs.Refusal.{accepted, eachAt}
+use Rattle.columns.specs.Refusal.{accepted}
 use Rattle.columns.proofs.Outcomes.{then-accepted, demand-accepted}
 use Rattle.columns.proofs.Tests.{both}
 use Rattle.values.specs.Value.{Item, seen}
@@ -22,6 +22,7 @@ use Rattle.sheets.specs.WellFormed.{Each, none, one, Closed, no-rows, a-row, Ro
 use Rattle.sheets.proofs.Sheets.{written-read}
 use Rattle.model.specs.Model.{typeOf, rowOf, sheetOf, marked, valueIn, markIn, carriedOf, modelOf}
 use Rattle.model.specs.Write.{equal, allEqual, globalRule, rowRules, rowReferences, rowEntity, marksRight, rowEntityRules, rowTypes, rowSize, firstGlobal, firstRow, sheetRules, one as oneLine}
+use Rattle.model.proofs.WriteApart.{rules-apart}
 use Rattle.model.specs.Fit.{InKind, EntryFits, Fits}
 use Rattle.desk.proofs.Sound.{Ruled, rules-of}
 use Rattle.sheets_rows.proofs.Each.{each-made, each-accepted}
@@ -90,17 +91,13 @@ record Kept (list : ℕ) (s : Sheet) : Type 0 where
   laid : Each (LaidOut list (rowTypes s)) (s .rows)
 
 kept : (list : ℕ) (s : Sheet) → sheetRules list s ≡ accepted tt → Kept list s
-unfolding sheetRules
 kept list s h =
-    let g = then-accepted (eachAt oneLine globalRule (firstGlobal s) (s .globals)) _ tt h in
-    let r = then-accepted (eachAt rowSize rowRules (firstRow s) (s .rows)) _ tt (g .second) in
-    let f = then-accepted (eachAt rowSize (rowReferences (rowTypes s)) (firstRow s) (s .rows)) _ tt (r .second) in
-    let l = then-accepted (eachAt rowSize (rowEntityRules list (rowTypes s)) (firstRow s) (s .rows)) _ tt (f .second) in
+    let a = rules-apart list s h in
     record {
-      in-kind = each-accepted oneLine globalRule fits (firstGlobal s) (s .globals) (g .value) (g .first);
-      ruled = each-accepted rowSize rowRules (λ p x u k. rules-of (x .fields) p u k) (firstRow s) (s .rows) (r .value) (r .first);
-      refer = each-accepted rowSize (rowReferences (rowTypes s)) (refers (rowTypes s)) (firstRow s) (s .rows) (f .value) (f .first);
-      laid = each-accepted rowSize (rowEntityRules list (rowTypes s)) (laid-out list (rowTypes s)) (firstRow s) (s .rows) (l .value) (l .first);
+      in-kind = each-accepted oneLine globalRule fits (firstGlobal s) (s .globals) (a .fields) (a .globals);
+      ruled = each-accepted rowSize rowRules (λ p x u k. rules-of (x .fields) p u k) (firstRow s) (s .rows) (a .ranged) (a .entries);
+      refer = each-accepted rowSize (rowReferences (rowTypes s)) (refers (rowTypes s)) (firstRow s) (s .rows) (a .named) (a .references);
+      laid = each-accepted rowSize (rowEntityRules list (rowTypes s)) (laid-out list (rowTypes s)) (firstRow s) (s .rows) (a .laid) (a .entities);
     }
   where
     fits : (p : ℕ) (x : ℕ × Item) (u : Unit {0}) → globalRule p x ≡ accepted u → InKind x

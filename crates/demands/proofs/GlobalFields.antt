@@ -12,11 +12,12 @@ use Rattle.columns.specs.Columns.{printable}
 use Rattle.columns.proofs.First.{before-first}
 use Rattle.columns.proofs.Tests.{both-left}
 use Rattle.values.specs.Value.{Item, default, seen, isDefault}
+use Rattle.cards.specs.declared.Counts.{Counts}
 use Rattle.records.specs.Global.{firstField, lastField, kindOf, isKind, globalFits}
 use Rattle.sheets.specs.WellFormed.{Rising, no-more, higher, Each, none, one, Held, Filled}
 use Rattle.model.specs.Read.{GlobalRead, given, fieldFits}
 use Rattle.model.specs.Fit.{InKind}
-use Rattle.read_passes.proofs.Facts.{Said, alone, more}
+use Rattle.model.proofs.ReadApart.{GlobalApart, alone, more}
 use Rattle.demands.proofs.Values.{values-held}
 
 -- values from field n on, each of its field's kind
@@ -65,9 +66,9 @@ pub record GlobalsFit (gs : List (ℕ × Item)) : Type 0 where
   pub rising : Rising 2 gs
   pub each : Each Field gs
 
-pub globals-fit : (t : List ℕ) (g : GlobalRead) → printable t ≡ true → Said t g → GlobalsFit (g .fields)
-globals-fit t g h (alone p d next eo e) = rw e (record { rising = no-more; each = none })
-globals-fit t g h (more p d next vs end eo ev fit e) =
+pub globals-fit : (c : Counts) (t : List ℕ) (g : GlobalRead) → printable t ≡ true → GlobalApart c t g → GlobalsFit (g .fields)
+globals-fit c t g h (alone p d next eo s e) = rw e (record { rising = no-more; each = none })
+globals-fit c t g h (more p d next vs end eo ev s fit e) =
     rw e (record {
       rising = rises vs 2 firstField (omega arith);
       each = all-given firstField (omega arith) (values-held 72 p d t h next ev) (λ k l. before-first (fieldFits vs) (length vs) 0 k (omega arith) (omega arith));

@@ -11,22 +11,21 @@ use Rattle.columns.specs.declared.Signed.{Signed}
 use Rattle.columns.specs.declared.ParameterLine.{ParameterLine}
 use Rattle.columns.specs.Columns.{columns, printable, lineAt}
 use Rattle.columns.specs.Refusal.{accepted}
-use Rattle.columns.proofs.Outcomes.{then-accepted, demand-accepted}
+use Rattle.columns.proofs.Outcomes.{demand-accepted}
 use Rattle.columns.proofs.Tests.{both-true, true-false}
 use Rattle.cards.specs.declared.Counts.{Counts}
-use Rattle.cards.specs.Cards.{total, entries, parameterLine}
+use Rattle.cards.specs.Cards.{total, entries, parameterLine, entryLine}
 use Rattle.cards.specs.Rules.{Meets}
 use Rattle.directory.specs.declared.Fields.{Fields}
-use Rattle.directory.specs.declared.EntryRead.{EntryRead}
-use Rattle.directory.specs.declared.EntryRead.the-variants.{Spelt, Wrong}
 use Rattle.directory.specs.Fields.{entryOf as directoryEntry}
-use Rattle.directory.specs.Lines.{slots, slotIn, entryAt, labelAt}
+use Rattle.directory.specs.Lines.{slots, slotIn, labelAt}
 use Rattle.directory.specs.Reading.{Eight, Within}
-use Rattle.directory.specs.Rules.{entryRules, referenceRule, references, allFit}
+use Rattle.directory.specs.Rules.{referenceRule, references, allFit}
 use Rattle.directory.proofs.Round.{spelt-within}
 use Rattle.sheets.specs.Line.{isLabel}
 use Rattle.sheets.specs.WellFormed.{Each, none, one, Proper, Numbered}
-use Rattle.model.specs.Read.{Listed, Before, byEntry, entryIn, entryLineIn, two, firstEntry, entriesIn, listedType, referencesOf, referencesIn, parametersOf}
+use Rattle.model.specs.Read.{Listed, Before, entryIn, two, firstEntry, entriesIn, listedType, referencesOf, referencesIn, parametersOf}
+use Rattle.model.proofs.ReadApart.{entry-apart}
 use Rattle.read_passes.specs.Listed.{entryOf, allEntries}
 use Rattle.read_passes.proofs.Listing.{entries-are}
 use Rattle.read_passes.proofs.Facts.{Passed, passed-entry}
@@ -68,22 +67,15 @@ module _ (f : List ℕ) (c : Counts) (m : Meets f c) where
       (both-true (eq-eqb (length (columns (lineAt f (k + 1)) 56 64)) 8 (line-wide f c m (k + 1) 56 64 h (omega arith) (omega arith))) (line-prints f c m (k + 1) 56 64 h (omega arith) (omega arith)))
 
   told : (p k : ℕ) (e : Listed) → k + 1 < total c → entryIn f p k ≡ accepted e → Told e
-  unfolding entryIn
-  told p k e l h = by (entryAt f k) refl h
-    where
-      by : (r : EntryRead) → entryAt f k ≡ r → byEntry (labelAt f k) p r ≡ accepted e → Told e
-      by Wrong q h = let z : _≡_ {A = ℕ} 0 1 = cc in absurd (omega arith)
-      by (Spelt x from count) q h =
-          let b = then-accepted (entryRules x p) _ e h in
-          let s = b .second in
-          let z : record { fields = x; label = labelAt f k; pointer = from .0; lines = count } ≡ e = cc in
-          rw (← z) (record { numbers = numbered (spelt-within f k x from count q); label = is-label k l; ruled = rules-of x p (b .value) (b .first) })
+  told p k e l h =
+      let a = entry-apart f p k e h in
+      rw (a .is) (record { numbers = numbered (spelt-within f k (a .fields) (a .from) (a .count) (a .spelt)); label = is-label k l; ruled = rules-of (a .fields) p tt (a .rules) })
 
   all-told : (es : List Listed) → entriesIn f c ≡ accepted es → Each Told es
   unfolding entriesIn
-  all-told es h = each-from two (entryIn f) told (firstEntry c) (each-made (entryLineIn c) (λ i k. k) (each-up (λ (i : ℕ). entryLineIn c i + 1 < total c) (entries c) 0 inside)) es h
+  all-told es h = each-from two (entryIn f) told (firstEntry c) (each-made (entryLine c) (λ i k. k) (each-up (λ (i : ℕ). entryLine c i + 1 < total c) (entries c) 0 inside)) es h
     where
-      inside : (i : ℕ) → 0 ≤ i → i < 0 + entries c → entryLineIn c i + 1 < total c
+      inside : (i : ℕ) → 0 ≤ i → i < 0 + entries c → entryLine c i + 1 < total c
       inside i lo hi = omega (arith, m .holds .has-t)
 
 -- ---- its references

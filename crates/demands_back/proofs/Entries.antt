@@ -23,7 +23,7 @@ use Rattle.directory.proofs.Round.{entry-read, label-read}
 use Rattle.sheets.specs.WellFormed.{Each, none, one}
 use Rattle.model.specs.Model.{Carried, typeOf, typesOf}
 use Rattle.model.specs.Fit.{EntryFits}
-use Rattle.model.specs.Read.{Listed, entryIn, two, entryLineIn, firstEntry, entriesIn, listedType, referencesOf, referencesIn}
+use Rattle.model.specs.Read.{Listed, entryIn, two, firstEntry, entriesIn, listedType, referencesOf, referencesIn}
 use Rattle.demands_back.proofs.Fitting.{writable}
 use Rattle.demands_back.proofs.Places.{countOf, count-some, Placed, placed-small, Laid, laid-none, laid-one, laid-length}
 use Rattle.demands_back.proofs.EachAt.{Makes, makes-none, makes-one, each-made}
@@ -101,7 +101,7 @@ module _ (S G D P : List (List ℕ)) (bs : Bodies S) (bg : Bodies G) (bd : Bodie
     entry-in place = rw (entry-spelt, entry-label, rules-pass list types e fit place)
 
   entries-made : (list : ℕ) (types : List ℕ) {i from : ℕ} {es : List Carried} → Laid D P i from es → Each (EntryFits list types) es
-      → Makes (entryIn F) (map (entryLineIn C) (upFrom i (length es))) (listedFrom from es)
+      → Makes (entryIn F) (map (entryLine C) (upFrom i (length es))) (listedFrom from es)
   unfolding upFrom listedFrom
   entries-made list types (laid-none a b) none = makes-none
   entries-made list types (laid-one {i} {from} {e} at more) (one fit fits) = makes-one (entry-in list types i from e at fit) (entries-made list types more fits)

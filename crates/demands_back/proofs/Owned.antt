@@ -1,14 +1,12 @@
 -- In a canonical file every P line lies in the range of the entry that it names. Assumes nothing.
-use mathlib.Core.Path.{_≡_, refl, ap, _∙_}
-use mathlib.Core.Bool.{Bool, true, false, cond, not, _&&_}
+use mathlib.Core.Path.{_≡_, refl, sym, ap, _∙_}
+use mathlib.Core.Bool.{Bool, true, false, cond, _&&_}
 use mathlib.Core.List.{List, []}
 use Prim.Native.Nat.{ℕ, _+_, _-_, _*_, _/_, _≤_, _<_}
 use native.Mathlib.Omega.{arith}
 use native.Mathlib.Decide.{decLt, ℕ-discrete}
 use lib.ListN.{length, getD}
-use lib.Dec.{leb}
 use Rattle.columns.specs.declared.SignedField.{SignedField}
-use Rattle.columns.specs.declared.SignedField.the-variants.{Number, Bad}
 use Rattle.columns.specs.declared.ParameterLine.{ParameterLine}
 use Rattle.columns.specs.Fixed.{signedOf}
 use Rattle.columns.specs.Refusal.{accepted}
@@ -27,21 +25,12 @@ use Rattle.owners.proofs.Round.{owner-written, owns-passes}
 use Rattle.sheets.specs.WellFormed.{Each, none, one}
 use Rattle.model.specs.Model.{Carried}
 use Rattle.model.specs.Fit.{EntryFits}
+use Rattle.model.proofs.Sizes.{size-same}
 use Rattle.demands_back.proofs.Places.{recordLines, countOf, Placed, Laid, laid-none, laid-one}
 use Rattle.demands_back.proofs.Blocks.{record-line-long, owned-name}
 use Rattle.demands_back.proofs.Entries.{entry-spelt}
 
 -- ---- what an entry's D lines spell is what ownership goes by
-
--- a positive field is its number, read either way
-positive-size : (f : SignedField) → positive f ≡ true → sizeOr0 f ≡ sizeOf f
-unfolding sizeOr0
-positive-size (Number x) h = by (x .neg) h
-  where
-    by : (b : Bool) → not b && leb 1 (x .size) ≡ true → cond b 0 (x .size) ≡ x .size
-    by false h = refl
-    by true h = let z : _≡_ {A = ℕ} 0 1 = cc in absurd (omega arith)
-positive-size Bad h = refl
 
 -- pointer and line count of an entry that was spelt
 module _ (x : Fields) (from : ParameterLine) (count : ℕ) (a p l : SignedField) where
@@ -51,8 +40,8 @@ module _ (x : Fields) (from : ParameterLine) (count : ℕ) (a p l : SignedField)
       let both = both-right (isSame (y .entity) a) (positive p && positive l) e in
       let ef : parameterLine (sizeOf p) ≡ from = cc in
       let ec : sizeOf l ≡ count = cc in (
-        positive-size p (both-left (positive p) (positive l) both) ∙ ap (λ (k : ParameterLine). k .0) ef,
-        positive-size l (both-right (positive p) (positive l) both) ∙ ec,
+        sym (size-same p (both-left (positive p) (positive l) both)) ∙ ap (λ (k : ParameterLine). k .0) ef,
+        sym (size-same l (both-right (positive p) (positive l) both)) ∙ ec,
       )
   spelt-ranges-by y false e h = let z : _≡_ {A = ℕ} 0 1 = cc in absurd (omega arith)
 

@@ -1,14 +1,10 @@
 -- A file that meets the rules meets all that is asked of it before the last pass; the last pass: `Content`. Assumes nothing.
 use mathlib.Core.Path.{_≡_, refl, sym, ap, _∙_}
-use mathlib.Core.Bool.{Bool, true, false, cond, not, _&&_}
 use mathlib.Core.List.{List}
 use Prim.Native.Nat.{ℕ, zero, suc, _+_, _*_, _≤_, _<_}
 use native.Mathlib.Omega.{arith}
 use lib.Seq.{ext-getD}
-use lib.Dec.{leb}
-use borrow.Author.Tests.{ne-eqb, leb-true}
-use Rattle.columns.specs.declared.SignedField.{SignedField}
-use Rattle.columns.specs.declared.SignedField.the-variants.{Number, Bad}
+use borrow.Author.Tests.{ne-eqb}
 use Rattle.columns.specs.Fixed.{signedOf}
 use Rattle.columns.specs.Refusal.{accepted}
 use Rattle.values.specs.Value.{Item}
@@ -17,12 +13,13 @@ use Rattle.records.proofs.Globals.{delimits, parameter-above, record-above}
 use Rattle.cards.specs.declared.Counts.{Counts}
 use Rattle.cards.specs.Cards.{entries, entryLine}
 use Rattle.cards.proofs.Complete.{rules}
-use Rattle.directory.specs.Lines.{slotIn, pointer, lines, positive, sizeOf, labelAt, parameterLine as lineNumber}
+use Rattle.directory.specs.Lines.{slotIn, pointer, lines, labelAt, parameterLine as lineNumber}
 use Rattle.directory.specs.Rules.{entryRules, referenceRule}
-use Rattle.owners.specs.InFile.{sizeOr0, ownerIn, fromIn, countIn}
+use Rattle.owners.specs.InFile.{ownerIn, fromIn, countIn}
 use Rattle.owners.specs.Rules.{Owns}
 use Rattle.owners.proofs.Round.{owns-passes}
 use Rattle.model.specs.Read.{GlobalRead, globalRead, given, entryIn, entriesIn, listedType, referencesOf, referencesIn, firstEntry, before}
+use Rattle.model.proofs.Sizes.{size-same, size-some}
 use Rattle.read_passes.specs.declared.Pass.{Pass}
 use Rattle.read_passes.specs.declared.Pass.the-variants.{Good as Passes}
 use Rattle.read_passes.specs.Passes.{passOf}
@@ -52,16 +49,6 @@ above t p d vs (fields e s b) =
     let c = record-above 8 e (delimits t) in
     (omega arith, omega arith)
 
-size-same : (x : SignedField) → positive x ≡ true → (sizeOf x ≡ sizeOr0 x) × (1 ≤ sizeOf x)
-unfolding sizeOr0
-size-same (Number x) h = by (x .neg) (leb 1 (x .size)) refl h
-  where
-    by : (n b : Bool) → leb 1 (x .size) ≡ b → not n && b ≡ true → (x .size ≡ cond n 0 (x .size)) × (1 ≤ x .size)
-    by false true e h = (refl, leb-true 1 (x .size) e)
-    by false false e h = let z : _≡_ {A = ℕ} 0 1 = cc in absurd (omega arith)
-    by true b e h = let z : _≡_ {A = ℕ} 0 1 = cc in absurd (omega arith)
-size-same Bad h = let z : _≡_ {A = ℕ} 0 1 = cc in absurd (omega arith)
-
 module _ (list : ℕ) (f : List ℕ) (r : MeetsRules list f) where
   abbrev c : Counts
   c = r .counts
@@ -85,9 +72,9 @@ module _ (list : ℕ) (f : List ℕ) (r : MeetsRules list f) where
       let w = stood f (entryLine c i) (r .entry i .fields) (lineNumber (r .entry i .pointer)) (r .entry i .lines) (r .entry-meets i h .spelt) in
       let a = size-same (signedOf (slotIn f (entryLine c i) pointer)) (w .from-some) in
       let b = size-same (signedOf (slotIn f (entryLine c i) lines)) (w .count-some) in
-      let some = a .1 in
+      let some = size-some (signedOf (slotIn f (entryLine c i) pointer)) (w .from-some) in
       let from = w .from-is in
-      (w .from-is ∙ a .0, (w .count-is ∙ b .0, omega arith))
+      (w .from-is ∙ a, (w .count-is ∙ b, omega arith))
 
   owns : Owns (ownerIn f c) (fromIn f c) (countIn f c) (entries c) (c .p)
   owns = record {

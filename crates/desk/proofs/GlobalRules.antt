@@ -1,27 +1,25 @@
 -- The Global section is accepted exactly if it meets its rules. Assumes nothing.
-use mathlib.Core.Path.{_≡_, refl, _∙_}
+use mathlib.Core.Path.{_≡_, _∙_}
 use mathlib.Core.Bool.{Bool, true, false}
 use mathlib.Core.List.{List, []}
 use Prim.Native.Nat.{ℕ, _+_, _≤_, _<_}
 use native.Mathlib.Nat.{zero-add}
 use native.Mathlib.Omega.{arith}
 use lib.ListN.{length, getD}
-use lib.Dec.{eqb}
-use borrow.Author.Tests.{eqb-true, eq-eqb}
+use borrow.Author.Tests.{eq-eqb}
 use Rattle.columns.specs.declared.Fault.the-variants.{Global}
-use Rattle.columns.specs.Refusal.{accepted, demand, _then_}
+use Rattle.columns.specs.Refusal.{accepted}
 use Rattle.columns.specs.First.{firstNot}
 use Rattle.columns.proofs.First.{before-first, all-pass}
-use Rattle.columns.proofs.Outcomes.{then-accepted, demand-accepted, demand-true}
+use Rattle.columns.proofs.Outcomes.{demand-true}
 use Rattle.values.specs.Value.{Item, default, seen}
-use Rattle.records.specs.declared.Opening.{Opening}
-use Rattle.records.specs.declared.Opening.the-variants.{Opened, Wrong}
-use Rattle.records.specs.Record.{Values, values, wrong, valuesAt, startAt}
+use Rattle.records.specs.declared.Opening.the-variants.{Opened}
 use Rattle.records.specs.Global.{firstField, openingOf, globalFits}
 use Rattle.records.proofs.Globals.{delimits, parameter-above, record-above, opening-in}
 use Rattle.cards.specs.declared.Counts.{Counts}
 use Rattle.cards.specs.Rules.{Holds}
-use Rattle.model.specs.Read.{GlobalRead, globalRead, given, globalText, globalLine, fieldFits, noStray, byValues, byOpening, globalIn}
+use Rattle.model.specs.Read.{GlobalRead, globalRead, given, globalText, fieldFits, globalIn}
+use Rattle.model.proofs.ReadApart.{GlobalApart, alone, more, global-apart}
 use Rattle.read_passes.proofs.GlobalText.{text-length}
 use Rattle.desk.specs.Rules.{GlobalIs, no-fields, fields}
 use Rattle.desk.proofs.Spelling.{is-spelt, is-read, ends-in, no-stray, stray-none}
@@ -43,34 +41,13 @@ of-fit vs h = all-pass (fieldFits vs) (length vs) 0 (λ j lo hi. h j (omega arit
 
 -- ---- accepted, so it meets them
 
-values-sound : (c : Counts) (t : List ℕ) (p d next : ℕ) (g : GlobalRead) (r : Values) → openingOf t ≡ Opened p d next false → valuesAt 72 p d t next ≡ r
-    → byValues c t p d next r ≡ accepted g → GlobalMeets t g
-values-sound c t p d next g (wrong n s at) eo ev h = let z : _≡_ {A = ℕ} 0 1 = cc in absurd (omega arith)
-values-sound c t p d next g (values vs end) eo ev h =
-    let b = then-accepted (noStray c t end) _ g h in
-    by (firstNot (fieldFits vs) 0 (length vs)) refl (b .first) (b .second)
-  where
-    by : (k : ℕ) → firstNot (fieldFits vs) 0 (length vs) ≡ k → noStray c t end ≡ accepted tt
-        → demand (eqb k (length vs)) Global (globalLine c (startAt 72 p d t next k)) then (λ _. accepted (globalRead p d (given firstField vs))) ≡ accepted g → GlobalMeets t g
-    by k e s h =
-        let b = then-accepted (demand (eqb k (length vs)) Global (globalLine c (startAt 72 p d t next k))) (λ _. accepted (globalRead p d (given firstField vs))) g h in
-        let q = b .second in
-        let z : globalRead p d (given firstField vs) ≡ g = cc in
-        let f : firstNot (fieldFits vs) 0 (length vs) ≡ length vs = e ∙ eqb-true k (length vs) (demand-accepted (eqb k (length vs)) Global _ (b .first)) in
-        rw (← z) (record { items = vs; is = fields eo (is-spelt 72 p d t next vs end ev) (no-stray c t end s); fit = fit-of vs f })
-
 pub global-sound : (f : List ℕ) (c : Counts) (g : GlobalRead) → globalIn f c ≡ accepted g → GlobalMeets (globalText f c) g
-unfolding globalIn
-global-sound f c g h = by (openingOf (globalText f c)) refl h
+global-sound f c g h = by (global-apart f c g h)
   where
-    by : (o : Opening) → openingOf (globalText f c) ≡ o → byOpening c (globalText f c) o ≡ accepted g → GlobalMeets (globalText f c) g
-    by Wrong e h = let z : _≡_ {A = ℕ} 0 1 = cc in absurd (omega arith)
-    by (Opened p d next true) e h =
-        let b = then-accepted (noStray c (globalText f c) next) (λ _. accepted (globalRead p d [])) g h in
-        let q = b .second in
-        let z : globalRead p d [] ≡ g = cc in
-        rw (← z) (record { items = []; is = no-fields e (no-stray c (globalText f c) next (b .first)); fit = λ k l. absurd (omega arith) })
-    by (Opened p d next false) e h = values-sound c (globalText f c) p d next g (valuesAt 72 p d (globalText f c) next) e refl h
+    by : GlobalApart c (globalText f c) g → GlobalMeets (globalText f c) g
+    by (alone p d next eo s e) = rw e (record { items = []; is = no-fields eo (no-stray c (globalText f c) next s); fit = λ k l. absurd (omega arith) })
+    by (more p d next vs end eo ev s fit e) =
+        rw e (record { items = vs; is = fields eo (is-spelt 72 p d (globalText f c) next vs end ev) (no-stray c (globalText f c) end s); fit = fit-of vs fit })
 
 -- ---- it meets them, so it is accepted
 

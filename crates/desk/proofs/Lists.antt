@@ -5,20 +5,20 @@ use mathlib.Core.List.{List, [], _∷_, map}
 use mathlib.Core.Logic.{⊎-elim}
 use Prim.Native.Nat.{ℕ, _+_, _≤_}
 use native.Mathlib.Omega.{arith}
-use lib.ListN.{length, getD, drop}
+use lib.ListN.{length, drop}
 use borrow.Author.Tests.{le-leb}
-use Rattle.columns.specs.declared.Fault.the-variants.{FirstValue}
-use Rattle.columns.specs.Refusal.{Outcome, accepted, demand, eachAt, _then_}
+use Rattle.columns.specs.Refusal.{Outcome, accepted, eachAt, _then_}
 use Rattle.columns.proofs.Outcomes.{then-accepted}
-use Rattle.values.specs.Value.{Item, default}
-use Rattle.records.specs.Record.{Values, values, wrong, trimmed, valuesAt}
+use Rattle.values.specs.Value.{Item}
+use Rattle.records.specs.Record.{Values, trimmed, valuesAt}
 use Rattle.cards.specs.declared.Counts.{Counts}
 use Rattle.layouts.specs.Entities.{Entity, entityCheck, verdict, fault, carried, marks}
 use Rattle.layouts.specs.Known.{mostList, known, Inside}
 use Rattle.layouts.proofs.Demand.{knows, marks-same}
 use Rattle.layouts.proofs.Fits.{marks-length}
-use Rattle.model.specs.Model.{Carried, Model, typeOf, entityOf, marked, rowOf, sheetOf}
-use Rattle.model.specs.Read.{Listed, GlobalRead, two, isType, byParameters, parametersOf, entityIn, listedType, firstEntry, lastPass, modelWith, before, readModel}
+use Rattle.model.specs.Model.{Carried, Model, entityOf, marked, rowOf, sheetOf}
+use Rattle.model.specs.Read.{Listed, GlobalRead, two, byParameters, parametersOf, entityIn, listedType, firstEntry, lastPass, modelWith, before, readModel}
+use Rattle.model.proofs.ReadApart.{entity-apart, read-apart}
 use Rattle.desk.specs.Demands.{unmarked, RowsAlike, same, marks-only, AllAlike, none, more, SheetsAlike, SmallerAccepts}
 
 -- what one pass accepts another accepts alike, if it does so of each element
@@ -45,11 +45,9 @@ module _ (small large : ℕ) (inside : Inside small large) where
 
   parameters-too : (types : List ℕ) (p : ℕ) (e : Listed) (vs : Values) (y : Carried) → byParameters large types p e vs ≡ accepted y
       → byParameters small types p e vs ≡ accepted y
-  parameters-too types p e (wrong n start at) y h = h
-  parameters-too types p e (values vs end) y h =
-      let b = then-accepted (demand (isType (typeOf (e .fields)) (getD vs 0 default)) FirstValue p) _ y h in
-      let d = then-accepted (entityCheck large types (entityOf (e .fields) (trimmed (drop 1 vs))) p) _ y (b .second) in
-      rw (b .first, check-too types (entityOf (e .fields) (trimmed (drop 1 vs))) p (d .first)) (d .second)
+  parameters-too types p e vals y h =
+      let a = entity-apart large types p e vals y h in
+      rw (a .read, a .first, check-too types (entityOf (e .fields) (trimmed (drop 1 (a .items)))) p (a .layout)) (ap accepted (sym (a .is)))
 
   entity-too : (f : List ℕ) (c : Counts) (g : GlobalRead) (types : List ℕ) (p : ℕ) (e : Listed) (y : Carried)
       → entityIn large f c g types p e ≡ accepted y → entityIn small f c g types p e ≡ accepted y
@@ -108,7 +106,7 @@ smaller-accepts small large o f m h = (model, sheets-alike small large (o .insid
   where
     model : readModel small f ≡ accepted m
     model =
-        let b = then-accepted (before f) _ m (sym (read-list large f (o .large-list)) ∙ h) in
-        let d = then-accepted (lastPass large f (b .value .counts) (b .value .global) (b .value .listed)) _ m (b .second) in
+        let a = read-apart large f m h in
+        let b = a .whole in
         read-list small f (o .small-list)
-        ∙ rw (b .first, last-too small large (o .inside) f (b .value .counts) (b .value .global) (b .value .listed) (d .value) (d .first)) (d .second)
+        ∙ rw (a .told, last-too small large (o .inside) f (b .counts) (b .global) (b .listed) (a .carried) (a .passes)) (ap accepted (sym (a .is)))

@@ -3,22 +3,18 @@ use mathlib.Core.Path.{_≡_, refl, sym, ap, _∙_}
 use mathlib.Core.Bool.{Bool}
 use mathlib.Core.List.{List, [], _∷_, map}
 use Prim.Native.Nat.{ℕ, _+_, _*_}
-use native.Mathlib.Omega.{arith}
-use lib.ListN.{getD, drop}
-use lib.Dec.{leb}
-use Rattle.columns.specs.declared.Fault.the-variants.{ListOrLength, FirstValue}
-use Rattle.columns.specs.Refusal.{accepted, demand, eachAt}
+use Rattle.columns.specs.Refusal.{accepted, eachAt}
 use Rattle.columns.proofs.Outcomes.{then-accepted}
-use Rattle.values.specs.Value.{Item, default}
-use Rattle.records.specs.Record.{Values, values, wrong, trimmed, valuesAt}
+use Rattle.values.specs.Value.{Item}
+use Rattle.records.specs.Record.{Values, valuesAt}
 use Rattle.cards.specs.declared.Counts.{Counts}
 use Rattle.directory.specs.declared.Fields.{Fields}
 use Rattle.directory.specs.Fields.{entryOf}
-use Rattle.layouts.specs.Entities.{entityCheck}
-use Rattle.layouts.specs.Known.{mostList, known}
+use Rattle.layouts.specs.Known.{known}
 use Rattle.sheets.specs.Sheet.{Line, startLines, globalLines, valueLines, rowLines, linesOf}
-use Rattle.model.specs.Model.{Carried, Model, typeOf, entityOf, rowOf, sheetOf}
-use Rattle.model.specs.Read.{Listed, Before, GlobalRead, two, isType, byParameters, parametersOf, entityIn, lastPass, before, readModel}
+use Rattle.model.specs.Model.{Carried, Model, typeOf, rowOf, sheetOf}
+use Rattle.model.specs.Read.{Listed, Before, GlobalRead, two, byParameters, parametersOf, entityIn, lastPass, before, readModel}
+use Rattle.model.proofs.ReadApart.{entity-apart, read-apart}
 use Rattle.desk.specs.Answers.{recordsFrom, listedIn}
 use Rattle.desk.specs.Slots.{LineFields, slotFields, entryFields, SlotsOfSheet, FilledFromSheet}
 
@@ -46,13 +42,10 @@ record Keeps (e : Listed) (y : Carried) : Type 0 where
   fields : y .fields ≡ e .fields
   label : y .label ≡ e .label
 
-parameters-keep : (list : ℕ) (types : List ℕ) (p : ℕ) (e : Listed) (vs : Values) (y : Carried) → byParameters list types p e vs ≡ accepted y → Keeps e y
-parameters-keep list types p e (wrong n start at) y h = let z : _≡_ {A = ℕ} 0 1 = cc in absurd (omega arith)
-parameters-keep list types p e (values vs end) y h =
-    let a = then-accepted (demand (isType (typeOf (e .fields)) (getD vs 0 default)) FirstValue p) _ y h in
-    let b = then-accepted (entityCheck list types (entityOf (e .fields) (trimmed (drop 1 vs))) p) _ y (a .second) in
-    let s = b .second in
-    record { fields = cc; label = cc }
+parameters-keep : (list : ℕ) (types : List ℕ) (p : ℕ) (e : Listed) (vals : Values) (y : Carried) → byParameters list types p e vals ≡ accepted y → Keeps e y
+parameters-keep list types p e vals y h =
+    let a = entity-apart list types p e vals y h in
+    record { fields = ap (λ (x : Carried). x .fields) (a .is); label = ap (λ (x : Carried). x .label) (a .is) }
 
 -- ---- entry by entry
 
@@ -89,17 +82,15 @@ unfolding listedIn
 listed-are list f m b h e = rw (h, e)
 
 pub slots-of-sheet : SlotsOfSheet
-unfolding readModel lastPass
+unfolding lastPass
 slots-of-sheet list f m h =
-    let a = then-accepted (demand (leb list mostList) ListOrLength 0) _ m h in
-    let b = then-accepted (before f) _ m (a .second) in
-    let d = then-accepted (lastPass list f (b .value .counts) (b .value .global) (b .value .listed)) _ m (b .second) in
-    let s = d .second in
-    let q : d .value ≡ m .entries = cc in (
-      recordsFrom list 0 (b .value .listed),
+    let a = read-apart list f m h in
+    let b = a .whole in
+    let q : a .carried ≡ m .entries = sym (ap (λ (x : Model). x .entries) (a .is)) in (
+      recordsFrom list 0 (b .listed),
       (
-        listed-are list f m (b .value) h (b .first),
-        slots-rows list f (b .value .counts) (b .value .global) _ (b .value .listed) (m .entries) _ 0 (d .first ∙ ap accepted q) ∙ sym (sheet-fields list m),
+        listed-are list f m b h (a .told),
+        slots-rows list f (b .counts) (b .global) _ (b .listed) (m .entries) _ 0 (a .passes ∙ ap accepted q) ∙ sym (sheet-fields list m),
       ),
     )
 

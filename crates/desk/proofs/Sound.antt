@@ -1,39 +1,37 @@
 -- A file that reading accepts meets the rules. Assumes nothing.
 use mathlib.Core.Path.{_≡_, refl, sym, ap, _∙_}
-use mathlib.Core.Bool.{Bool, true, false, cond, not, _&&_}
+use mathlib.Core.Bool.{Bool, true, false, not}
 use mathlib.Core.List.{List, [], _∷_}
 use Prim.Native.Nat.{ℕ, _+_, _-_, _*_, _≤_, _<_}
 use native.Mathlib.Omega.{arith}
 use lib.ListN.{getD, drop}
-use lib.Dec.{leb, eqb}
-use borrow.Author.Tests.{leb-true, eqb-true, eq-eqb}
-use Rattle.columns.specs.declared.Fault.the-variants.{ListOrLength, Directory, Macro, Reference, FirstValue}
-use Rattle.columns.specs.declared.SignedField.{SignedField}
-use Rattle.columns.specs.declared.SignedField.the-variants.{Number, Bad}
+use lib.Dec.{eqb}
+use borrow.Author.Tests.{eqb-true, eq-eqb}
+use Rattle.columns.specs.declared.Fault.the-variants.{Directory, Macro, Reference}
 use Rattle.columns.specs.Fixed.{signedOf}
 use Rattle.columns.specs.Refusal.{Outcome, accepted, refused, demand}
 use Rattle.columns.proofs.Outcomes.{then-accepted, demand-accepted}
 use Rattle.values.specs.Value.{Item, default, whole, real, text}
-use Rattle.records.specs.Record.{Values, values, wrong, valuesAt, trimmed}
+use Rattle.records.specs.Record.{values, valuesAt, trimmed}
 use Rattle.cards.specs.declared.Counts.{Counts}
 use Rattle.cards.specs.Cards.{entries, entryLine}
 use Rattle.cards.proofs.Complete.{rules}
 use Rattle.directory.specs.declared.Fields.{Fields}
-use Rattle.directory.specs.declared.EntryRead.{EntryRead}
-use Rattle.directory.specs.declared.EntryRead.the-variants.{Spelt, Wrong}
+use Rattle.directory.specs.declared.EntryRead.the-variants.{Spelt}
 use Rattle.directory.specs.Fields.{entryOf as directoryEntry}
-use Rattle.directory.specs.Lines.{slotIn, pointer, lines, positive, sizeOf, entryAt, labelAt, parameterLine as lineNumber}
+use Rattle.directory.specs.Lines.{slotIn, pointer, lines, entryAt, parameterLine as lineNumber}
 use Rattle.directory.specs.Rules.{rangesOk, entryRules, referenceRule, references, allFit}
-use Rattle.owners.specs.InFile.{sizeOr0, ownerIn, fromIn, countIn}
+use Rattle.owners.specs.InFile.{ownerIn, fromIn, countIn}
 use Rattle.owners.specs.Rules.{Owns}
 use Rattle.owners.proofs.Round.{passes-owns}
 use Rattle.layouts.specs.Known.{mostList, known}
 use Rattle.layouts.specs.Fits.{Keeps}
-use Rattle.layouts.specs.Entities.{entityCheck}
 use Rattle.layouts.proofs.Fits.{accepts-keeps}
 use Rattle.desk.proofs.Keeping.{all-kept}
 use Rattle.model.specs.Model.{Carried, typeOf, entityOf}
-use Rattle.model.specs.Read.{Listed, Before, isType, byEntry, entryIn, byParameters, parametersOf, entityIn, referencesOf, referencesIn, firstEntry, lastPass, before, readModel, reads}
+use Rattle.model.specs.Read.{Listed, Before, isType, entryIn, byParameters, parametersOf, entityIn, referencesOf, referencesIn, firstEntry, lastPass, before, readModel, reads}
+use Rattle.model.proofs.ReadApart.{entry-apart, entity-apart, read-apart}
+use Rattle.model.proofs.Sizes.{size-same}
 use Rattle.read_passes.specs.declared.Pass.the-variants.{Good as Passes}
 use Rattle.read_passes.specs.Passes.{passOf}
 use Rattle.read_passes.specs.Listed.{entryOf, allTypes}
@@ -75,16 +73,12 @@ rules-of x p u h =
     other false e k = let z : _≡_ {A = ℕ} 0 1 = cc in never z
 
 ruled : (f : List ℕ) (p k : ℕ) (x : Fields) (from count : ℕ) → entryAt f k ≡ Spelt x (lineNumber from) count → passOf (entryIn f p k) ≡ Passes → Ruled x
-unfolding entryIn
-ruled f p k x from count e h = by (entryAt f k) e h
-  where
-    by : (r : EntryRead) → r ≡ Spelt x (lineNumber from) count → passOf (byEntry (labelAt f k) p r) ≡ Passes → Ruled x
-    by Wrong e h = let z : _≡_ {A = ℕ} 0 1 = cc in absurd (never z)
-    by (Spelt y at many) e h =
-        let q : y ≡ x = cc in
-        let t = taken (byEntry (labelAt f k) p (Spelt y at many)) h in
-        let b = then-accepted (entryRules y p) _ (t .0) (t .1) in
-        rw (← q) (rules-of y p (b .value) (b .first))
+ruled f p k x from count e h =
+    let t = taken (entryIn f p k) h in
+    let a = entry-apart f p k (t .0) (t .1) in
+    let s = a .spelt in
+    let q : a .fields ≡ x = cc in
+    rw (← q) (rules-of (a .fields) p tt (a .rules))
 
 -- ---- the values of one entry
 
@@ -103,18 +97,16 @@ first-is typ (whole false n ∷ vs) h = rw (eqb-true n typ h)
 first-is typ (real neg m eneg e double ∷ vs) h = let z : _≡_ {A = ℕ} 0 1 = cc in absurd (never z)
 first-is typ (text bs ∷ vs) h = let z : _≡_ {A = ℕ} 0 1 = cc in absurd (never z)
 
-valued : (list : ℕ) (types : List ℕ) (p : ℕ) (e : Listed) (c d : ℕ) (t : List ℕ) (r : Values) (y : Carried) → valuesAt 64 c d t 0 ≡ r
-    → byParameters list types p e r ≡ accepted y → Valued list types (e .fields) c d t
-valued list types p e c d t (wrong n s at) y er h = let z : _≡_ {A = ℕ} 0 1 = cc in absurd (never z)
-valued list types p e c d t (values vs end) y er h =
-    let b = then-accepted (demand (isType (typeOf (e .fields)) (getD vs 0 default)) FirstValue p) _ y h in
-    let s = then-accepted (entityCheck list types (entityOf (e .fields) (trimmed (drop 1 vs))) p) _ y (b .second) in
-    let first = first-is (typeOf (e .fields)) vs (demand-accepted _ FirstValue p (b .first)) in
+valued : (list : ℕ) (types : List ℕ) (p : ℕ) (e : Listed) (c d : ℕ) (t : List ℕ) (y : Carried) → byParameters list types p e (valuesAt 64 c d t 0) ≡ accepted y
+    → Valued list types (e .fields) c d t
+valued list types p e c d t y h =
+    let a = entity-apart list types p e (valuesAt 64 c d t 0) y h in
+    let first = first-is (typeOf (e .fields)) (a .items) (a .first) in
     record {
-      items = drop 1 vs;
-      end = end;
-      spells = is-spelt 64 c d t 0 (whole false (typeOf (e .fields)) ∷ drop 1 vs) end (er ∙ ap (λ (l : List Item). values l end) first);
-      layout = accepts-keeps types (entityOf (e .fields) (trimmed (drop 1 vs))) list p (s .value) (s .first);
+      items = drop 1 (a .items);
+      end = a .end;
+      spells = is-spelt 64 c d t 0 (whole false (typeOf (e .fields)) ∷ drop 1 (a .items)) (a .end) (a .read ∙ ap (λ (l : List Item). values l (a .end)) first);
+      layout = accepts-keeps types (entityOf (e .fields) (trimmed (drop 1 (a .items)))) list p tt (a .layout);
     }
 
 -- ---- all entries
@@ -153,18 +145,9 @@ module _ (list : ℕ) (f : List ℕ) (b : Before) (ys : List Carried) (p : Passe
   unfolding entityIn
   values-of i h =
       let t = taken (entityIn list f c (b .global) types (firstEntry c + 2 * i) (entryOf f c i)) (entity-passes i h) in
-      valued list types (firstEntry c + 2 * i) (entryOf f c i) (b .global .parameter) (b .global .record-end) (parametersOf f c (entryOf f c i)) _ (t .0) refl (t .1)
+      valued list types (firstEntry c + 2 * i) (entryOf f c i) (b .global .parameter) (b .global .record-end) (parametersOf f c (entryOf f c i)) (t .0) (t .1)
 
   -- ---- its range
-
-  size-same : (x : SignedField) → positive x ≡ true → sizeOf x ≡ sizeOr0 x
-  unfolding sizeOr0
-  size-same (Number x) h = by (x .neg) h
-    where
-      by : (n : Bool) → not n && leb 1 (x .size) ≡ true → x .size ≡ cond n 0 (x .size)
-      by false h = refl
-      by true h = let z : _≡_ {A = ℕ} 0 1 = cc in absurd (never z)
-  size-same Bad h = refl
 
   -- the pointer and line count that ownership goes by are those of the entry
   range-is : (i : ℕ) → i < entries c → (entryOf f c i .pointer ≡ fromIn f c i) × (entryOf f c i .lines ≡ countIn f c i)
@@ -241,10 +224,8 @@ module _ (list : ℕ) (f : List ℕ) (b : Before) (ys : List Carried) (p : Passe
       }
 
 pub sound-rules : (list : ℕ) (f s : List ℕ) → reads list f ≡ accepted s → MeetsRules list f
-unfolding reads readModel
+unfolding reads
 sound-rules list f s h =
     let m = then-accepted (readModel list f) _ s h in
-    let l = then-accepted (demand (leb list mostList) ListOrLength 0) _ (m .value) (m .first) in
-    let b = then-accepted (before f) _ (m .value) (l .second) in
-    let y = then-accepted (lastPass list f (b .value .counts) (b .value .global) (b .value .listed)) _ (m .value) (b .second) in
-    meets list f (b .value) (y .value) (passed-all f (b .value) (b .first)) (y .first) (leb-true list mostList (demand-accepted (leb list mostList) ListOrLength 0 (l .first)))
+    let a = read-apart list f (m .value) (m .first) in
+    meets list f (a .whole) (a .carried) (passed-all f (a .whole) (a .told)) (a .passes) (a .listed)

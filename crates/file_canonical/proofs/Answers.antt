@@ -7,23 +7,22 @@ use native.Mathlib.Omega.{arith}
 use lib.ListN.{length, length-map}
 use lib.Dec.{leb}
 use borrow.Author.Tests.{le-leb, lt-leb, leb-true, leb-false}
-use Rattle.columns.specs.declared.Fault.the-variants.{ListOrLength, Directory, TooLong}
-use Rattle.columns.specs.Refusal.{accepted, refused, demand, eachAt, _then_}
+use Rattle.columns.specs.declared.Fault.the-variants.{Directory, TooLong}
+use Rattle.columns.specs.Refusal.{accepted, refused, demand}
 use Rattle.columns.proofs.Outcomes.{then-accepted, demand-accepted}
 use Rattle.cards.specs.declared.Counts.{Counts}
 use Rattle.cards.specs.Cards.{mostLines, total}
 use Rattle.directory.specs.Rules.{rangesOk, entryRules}
-use Rattle.layouts.specs.Known.{mostList}
-use Rattle.sheets.specs.declared.Verdict.{Verdict}
-use Rattle.sheets.specs.declared.Verdict.the-variants.{Good, Wrong}
+use Rattle.sheets.specs.declared.Verdict.the-variants.{Good}
 use Rattle.sheets.specs.Sheet.{Row, Sheet, linesIn, sheetOf}
-use Rattle.sheets.specs.Order.{verdictOf, outcome, readSheet}
+use Rattle.sheets.specs.Order.{verdictOf}
 use Rattle.sheets.specs.WellFormed.{Each}
-use Rattle.sheets.proofs.Sheets.{good-written}
+use Rattle.sheets.proofs.Sheets.{verdict-written, written-read}
 use Rattle.sheets_rows.proofs.Each.{each-accepted}
 use Rattle.model.specs.Model.{Model, carriedOf, modelOf}
 use Rattle.model.specs.Canonical.{lineTotal, canonical}
-use Rattle.model.specs.Write.{one as oneLine, rowSize, firstGlobal, firstRow, globalRule, rowRules, sheetRules, writeModel, writes}
+use Rattle.model.specs.Write.{rowSize, firstRow, rowRules, sheetRules, writeModel, writes}
+use Rattle.model.proofs.WriteApart.{rules-apart, write-apart}
 use Rattle.file_canonical.specs.declared.Lines.the-variants.{Are, TooMany}
 use Rattle.file_canonical.specs.Counting.{linesOfSheet}
 use Rattle.file_canonical.specs.Laying.{Ranged}
@@ -38,17 +37,10 @@ unfolding entryRules
 row-ranged place r y h = demand-accepted (rangesOk (r .fields)) Directory place (then-accepted (demand (rangesOk (r .fields)) Directory place) _ y h .first)
 
 -- of all rows
-sheet-ranged : (list : ℕ) (s : Sheet) (y : Unit {0}) → sheetRules list s ≡ accepted y → Each Ranged (s .rows)
-unfolding sheetRules
-sheet-ranged list s y h =
-    let a = then-accepted (eachAt oneLine globalRule (firstGlobal s) (s .globals)) _ y h in
-    let b = then-accepted (eachAt rowSize rowRules (firstRow s) (s .rows)) _ y (a .second) in
-    each-accepted rowSize rowRules row-ranged (firstRow s) (s .rows) (b .value) (b .first)
-
--- what is read of a sheet
-read-good : (t : List ℕ) (s : Sheet) (v : Verdict) → verdictOf t ≡ v → outcome (sheetOf (linesIn t)) v ≡ accepted s → (n : ℕ) × (verdictOf t ≡ Good n) × (s ≡ sheetOf (linesIn t))
-read-good t s (Good n) e h = (n, e, cc)
-read-good t s (Wrong w) e h = let z : _≡_ {A = ℕ} 0 1 = cc in absurd (omega arith)
+sheet-ranged : (list : ℕ) (s : Sheet) → sheetRules list s ≡ accepted tt → Each Ranged (s .rows)
+sheet-ranged list s h =
+    let a = rules-apart list s h in
+    each-accepted rowSize rowRules row-ranged (firstRow s) (s .rows) (a .ranged) (a .entries)
 
 -- a sheet that passes all checks but 19
 pub record Passed (t : List ℕ) (m : Model) : Type 0 where
@@ -56,26 +48,17 @@ pub record Passed (t : List ℕ) (m : Model) : Type 0 where
   pub model : m ≡ modelOf (sheetOf (linesIn t))
   pub ranged : Each Ranged (sheetOf (linesIn t) .rows)
 
-entries-count : (t : List ℕ) (n : ℕ) → verdictOf t ≡ Good n → n ≡ length (modelOf (sheetOf (linesIn t)) .entries)
-unfolding modelOf
-entries-count t n g = good-written t n g .count ∙ sym (length-map (sheetOf (linesIn t) .rows) carriedOf)
-
 pub passed : (list : ℕ) (t : List ℕ) (m : Model) → writeModel list t ≡ accepted m → Passed t m
-unfolding writeModel readSheet
+unfolding modelOf
 passed list t m h =
-    let a = then-accepted (demand (leb list mostList) ListOrLength 0) _ m h in
-    let b = then-accepted (readSheet t) (λ s. sheetRules list s then λ _. accepted (modelOf s)) m (a .second) in
-    let c = then-accepted (sheetRules list (b .value)) (λ _. accepted (modelOf (b .value))) m (b .second) in
-    let g = read-good t (b .value) (verdictOf t) refl (b .first) in
-    let e : m ≡ modelOf (sheetOf (linesIn t)) = same (c .second) ∙ ap modelOf (g .2) in
+    let a = write-apart list t m h in
+    let w = written-read t (a .sheet) (a .read) in
+    let n : length (a .sheet .rows) ≡ length (m .entries) = sym (length-map (a .sheet .rows) carriedOf) ∙ ap (λ (x : Model). length (x .entries)) (sym (a .is)) in
     record {
-      good = g .1 ∙ ap Good (entries-count t (g .0) (g .1) ∙ ap (λ (x : Model). length (x .entries)) (sym e));
-      model = e;
-      ranged = rw (← g .2) (sheet-ranged list (b .value) (c .value) (c .first));
+      good = ap verdictOf (sym (w .text)) ∙ verdict-written (a .sheet) (w .formed) ∙ ap Good n;
+      model = a .is ∙ ap modelOf (a .lines);
+      ranged = rw (← a .lines) (sheet-ranged list (a .sheet) (a .rules));
     }
-  where
-    same : {x y : Model} → accepted x ≡ accepted y → y ≡ x
-    same q = cc
 
 -- ---- 19, by the count
 

@@ -1,1 +1,4 @@
 pub mod Types
+pub mod ReadApart
+pub mod WriteApart
+pub mod Sizes

@@ -12,16 +12,15 @@ use Rattle.columns.specs.Fixed.{signedOf}
 use Rattle.columns.specs.Refusal.{accepted, eachAt, _then_}
 use Rattle.columns.proofs.Outcomes.{Both, then-accepted}
 use Rattle.cards.specs.declared.Counts.{Counts}
-use Rattle.cards.specs.Cards.{firstD, entries}
+use Rattle.cards.specs.Cards.{firstD, entries, entryLine}
 use Rattle.directory.specs.declared.Fields.{Fields}
-use Rattle.directory.specs.declared.EntryRead.{EntryRead}
 use Rattle.directory.specs.declared.EntryRead.the-variants.{Spelt, Wrong}
 use Rattle.directory.specs.Fields.{typeAt, fieldsOf}
-use Rattle.directory.specs.Lines.{number, again, pointer, lines, slotIn, numberIn, Numbers, numbers, misspelt, with, numbersFrom, isSame, positive, parameterLine, sizeOf, spelt, entryAt, labelAt}
-use Rattle.directory.specs.Rules.{entryRules}
+use Rattle.directory.specs.Lines.{number, again, pointer, lines, slotIn, numberIn, Numbers, numbers, misspelt, with, numbersFrom, isSame, positive, parameterLine, sizeOf, spelt, entryAt}
 use Rattle.directory.specs.Naming.{typeOn, typeOfEntry, typesAt}
 use Rattle.model.specs.Model.{typeOf}
-use Rattle.model.specs.Read.{Listed, byEntry, entryIn, two, entryLineIn, firstEntry, entriesIn, listedType}
+use Rattle.model.specs.Read.{Listed, entryIn, two, firstEntry, entriesIn, listedType}
+use Rattle.model.proofs.ReadApart.{entry-apart}
 
 -- ---- one entry
 
@@ -51,18 +50,11 @@ spelt-first (Number n) (numbers ns) a p l x from count h = by (isSame n a && (po
 
 -- an entry that is accepted has the type that stands on its first D line
 pub listed-type : (f : List ℕ) (place k : ℕ) (y : Listed) → entryIn f place k ≡ accepted y → listedType y ≡ typeOn f k
-unfolding entryIn typeOn
-listed-type f place k y h = by (entryAt f k) refl h
-  where
-    by : (r : EntryRead) → entryAt f k ≡ r → byEntry (labelAt f k) place r ≡ accepted y → listedType y ≡ sizeOf (signedOf (slotIn f k (number typeAt)))
-    by Wrong e g = let z : _≡_ {A = ℕ} 0 1 = cc in absurd (omega arith)
-    by (Spelt x from count) e g =
-        let l : Listed = record { fields = x; label = labelAt f k; pointer = from .0; lines = count } in
-        let b : Both (entryRules x place) (λ _. accepted l) y = then-accepted (entryRules x place) (λ _. accepted l) y g in
-        let s : accepted l ≡ accepted y = b .second in
-        let q : y ≡ l = cc in
-        ap listedType q
-        ∙ spelt-first (signedOf (slotIn f k (number typeAt))) (numbersFrom f k 1 11) (signedOf (slotIn f k again)) (signedOf (slotIn f k pointer)) (signedOf (slotIn f k lines)) x from count (sym (entry-first f k) ∙ e)
+unfolding typeOn
+listed-type f place k y h =
+    let a = entry-apart f place k y h in
+    ap listedType (a .is)
+    ∙ spelt-first (signedOf (slotIn f k (number typeAt))) (numbersFrom f k 1 11) (signedOf (slotIn f k again)) (signedOf (slotIn f k pointer)) (signedOf (slotIn f k lines)) (a .fields) (a .from) (a .count) (sym (entry-first f k) ∙ a .spelt)
 
 -- ---- all of them
 
@@ -80,11 +72,11 @@ each-type f (k ∷ ks) place es h = by (then-accepted (entryIn f place k) (λ y.
         let q : es ≡ b .value ∷ r .value = cc in
         ap (map listedType) q ∙ ap₂ (λ (n : ℕ) (ns : List ℕ). n ∷ ns) (listed-type f place k (b .value) (b .first)) (others (r .value) (r .first))
 
-lines-types : (f : List ℕ) (c : Counts) (is : List ℕ) → map (typeOn f) (map (entryLineIn c) is) ≡ map (typeOfEntry f (firstD c)) is
+lines-types : (f : List ℕ) (c : Counts) (is : List ℕ) → map (typeOn f) (map (entryLine c) is) ≡ map (typeOfEntry f (firstD c)) is
 lines-types f c [] = refl
 lines-types f c (i ∷ is) = ap (λ (l : List ℕ). typeOn f (firstD c + 2 * i) ∷ l) (lines-types f c is)
 
 -- the types of the entries that reading lists
 pub types-listed : (f : List ℕ) (c : Counts) (es : List Listed) → entriesIn f c ≡ accepted es → map listedType es ≡ typesAt f (firstD c) (entries c)
 unfolding entriesIn typesAt
-types-listed f c es h = each-type f (map (entryLineIn c) (upFrom 0 (entries c))) (firstEntry c) es h ∙ lines-types f c (upFrom 0 (entries c))
+types-listed f c es h = each-type f (map (entryLine c) (upFrom 0 (entries c))) (firstEntry c) es h ∙ lines-types f c (upFrom 0 (entries c))

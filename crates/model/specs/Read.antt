@@ -120,17 +120,13 @@ entryIn f place k = byEntry (labelAt f k) place (entryAt f k)
 abbrev pub two : {A : Type 0} → A → ℕ
 two x = 2
 
--- the line, from 0, of entry i
-abbrev pub entryLineIn : Counts → ℕ → ℕ
-entryLineIn c i = entryLine c i
-
 -- the place of the first entry
 abbrev pub firstEntry : Counts → ℕ
 firstEntry c = firstD c + 1
 
 -- each entry 9, 13
 unfoldable pub entriesIn : List ℕ → Counts → Outcome (List Listed)
-entriesIn f c = eachAt two (entryIn f) (firstEntry c) (map (entryLineIn c) (upFrom 0 (entries c)))
+entriesIn f c = eachAt two (entryIn f) (firstEntry c) (map (entryLine c) (upFrom 0 (entries c)))
 
 -- the type of an entry
 abbrev pub listedType : Listed → ℕ

@@ -2,12 +2,13 @@
 use mathlib.Core.Path.{_≡_, refl, sym, ap, ap₂, _∙_}
 use mathlib.Core.Bool.{Bool}
 use mathlib.Core.List.{List, [], _∷_, _++_, map}
-use Prim.Native.Nat.{ℕ, zero, suc, _+_}
+use Prim.Native.Nat.{ℕ, _+_}
 use native.Mathlib.Omega.{arith}
-use lib.ListN.{length}
+use lib.ListN.{length, length-map}
 use Rattle.columns.specs.First.{upFrom}
-use Rattle.columns.specs.Refusal.{accepted, eachAt, _then_}
-use Rattle.columns.proofs.Outcomes.{Both, then-accepted}
+use Rattle.columns.specs.Refusal.{accepted, eachAt}
+use Rattle.columns.proofs.First.{length-upFrom}
+use Rattle.columns.proofs.Outcomes.{then-accepted}
 use Rattle.cards.specs.declared.Counts.{Counts}
 use Rattle.cards.specs.Cards.{firstD, firstP, entries}
 use Rattle.directory.specs.Naming.{typesAt, typeOfEntry}
@@ -16,44 +17,18 @@ use Rattle.sheets.specs.WellFormed.{Each, none, one}
 use Rattle.model.specs.Model.{Carried, typesOf, sheetOf}
 use Rattle.model.specs.Read.{GlobalRead, Listed, startsIn, globalText, two, entityIn, entriesIn, firstEntry, listedType, lastPass, modelWith}
 use Rattle.model.proofs.Types.{types-listed}
-use Rattle.read_entities.proofs.Entries.{entity-keeps}
+use Rattle.read_entities.proofs.Entries.{entity-keeps, last-carries}
 use Rattle.print.specs.Bytes.{startBytes, globalBytes}
 use Rattle.print.specs.Rows.{rowsBytes}
 use Rattle.print.specs.Whole.{fieldBytes, wholeBytes, entriesBytes}
 use Rattle.print.proofs.Wholes.{Kept, sheet-parts}
-use Rattle.print.proofs.Listed.{carriedAs, Roomy, rows-listed, passed}
-
-length-up : (i n : ℕ) → length (upFrom i n) ≡ n
-unfolding upFrom
-length-up i zero = refl
-length-up i (suc n) = ap suc (length-up (i + 1) n)
-
-length-each : {A B : Type 0} (g : A → B) (l : List A) → length (map g l) ≡ length l
-length-each g [] = refl
-length-each g (x ∷ l) = ap suc (length-each g l)
+use Rattle.print.proofs.Listed.{carriedAs, Roomy, rows-listed}
 
 module _ (list : ℕ) (f : List ℕ) (k : Counts) (g : GlobalRead) where
   abbrev pub carriedIt : Listed → Carried
   carriedIt e = carriedAs list f (firstD k) (entries k) (firstP k) (g .parameter) (g .record-end) e
 
-  -- all entries that the last pass accepts
-  each-passed : (types : List ℕ) (es : List Listed) (place : ℕ) (cs : List Carried) → eachAt two (entityIn list f k g types) place es ≡ accepted cs → cs ≡ map carriedIt es
-  unfolding eachAt
-  each-passed types [] place cs h = cc
-  each-passed types (e ∷ es) place cs h =
-      by (then-accepted (entityIn list f k g types place e) (λ y. eachAt two (entityIn list f k g types) (place + 2) es then λ ys. accepted (y ∷ ys)) cs h) (each-passed types es (place + 2))
-    where
-      by : Both (entityIn list f k g types place e) (λ y. eachAt two (entityIn list f k g types) (place + 2) es then λ ys. accepted (y ∷ ys)) cs
-          → ((us : List Carried) → eachAt two (entityIn list f k g types) (place + 2) es ≡ accepted us → us ≡ map carriedIt es)
-          → cs ≡ carriedIt e ∷ map carriedIt es
-      by b others =
-          let r : Both (eachAt two (entityIn list f k g types) (place + 2) es) (λ ys. accepted (b .value ∷ ys)) cs
-          = then-accepted (eachAt two (entityIn list f k g types) (place + 2) es) (λ ys. accepted (b .value ∷ ys)) cs (b .second) in
-          let s : accepted (b .value ∷ r .value) ≡ accepted cs = r .second in
-          let q : cs ≡ b .value ∷ r .value = cc in
-          q ∙ ap₂ (λ (x : Carried) (l : List Carried). x ∷ l) (passed list f k g types place e (b .value) (b .first)) (others (r .value) (r .first))
-
-  -- and they keep to their layouts
+  -- the entries that the last pass accepts keep to their layouts
   each-kept : (types : List ℕ) (es : List Listed) (place : ℕ) (cs : List Carried) → eachAt two (entityIn list f k g types) place es ≡ accepted cs → Each (Kept list types) cs
   unfolding eachAt
   each-kept types [] place cs h = let z : [] ≡ cs = cc in rw (← z) none
@@ -76,11 +51,11 @@ module _ (list : ℕ) (f : List ℕ) (k : Counts) (g : GlobalRead) where
   whole-sheet es cs from ended he hp room hf =
       let n : ℕ = entries k in
       let types : List ℕ = typesAt f (firstD k) n in
-      let ec : cs ≡ map carriedIt es = each-passed (map listedType es) es (firstEntry k) cs hp in
+      let ec : cs ≡ map carriedIt es = last-carries list f k g es cs hp in
       let et : map listedType es ≡ types = types-listed f k es he in
       let em : typesOf cs ≡ map listedType es = ap typesOf ec ∙ types-kept es in
       let ey : typesOf cs ≡ types = em ∙ et in
-      let el : length cs ≡ n = ap length ec ∙ length-each carriedIt es ∙ sym (length-each listedType es) ∙ ap length et ∙ length-each (typeOfEntry f (firstD k)) (upFrom 0 n) ∙ length-up 0 n in
+      let el : length cs ≡ n = ap length ec ∙ length-map es carriedIt ∙ sym (length-map es listedType) ∙ ap length et ∙ length-map (upFrom 0 n) (typeOfEntry f (firstD k)) ∙ length-upFrom n 0 in
       let er : rowsBytes list f (firstD k) n (firstP k) (g .parameter) (g .record-end) 0 n ≡ entriesBytes list types 0 (map carriedIt es)
       = rows-listed list f (firstD k) n (firstP k) (g .parameter) (g .record-end) n 0 (firstEntry k) es he room in
       let eb : rowsBytes list f (firstD k) n (firstP k) (g .parameter) (g .record-end) 0 n ≡ entriesBytes list (typesOf cs) 0 cs

@@ -1,8 +1,7 @@
 -- The entries that reading lists have the bytes that the code writes. Assumes nothing.
-use mathlib.Core.Path.{_≡_, refl, sym, ap, ap₂, _∙_}
+use mathlib.Core.Path.{_≡_, sym, ap, ap₂, _∙_}
 use mathlib.Core.List.{List, [], _∷_, _++_, map}
 use Prim.Native.Nat.{ℕ, zero, suc, _+_, _-_, _*_, _≤_}
-use native.Mathlib.Omega.{arith}
 use lib.ListN.{length}
 use borrow.Author.Tests.{le-leb}
 use Rattle.columns.specs.Columns.{textOf}
@@ -11,21 +10,13 @@ use Rattle.columns.specs.Refusal.{accepted, eachAt, _then_}
 use Rattle.columns.proofs.Outcomes.{Both, then-accepted}
 use Rattle.values.specs.Value.{Item}
 use Rattle.records.specs.Record.{valuesAt}
-use Rattle.directory.specs.declared.EntryRead.{EntryRead}
-use Rattle.directory.specs.declared.EntryRead.the-variants.{Spelt, Wrong}
-use Rattle.directory.specs.Lines.{entryAt, labelAt}
-use Rattle.directory.specs.Rules.{entryRules}
 use Rattle.directory.specs.Naming.{typesAt}
-use Rattle.model.specs.Read.{GlobalRead, Listed, byEntry, entryIn, two, carried, parametersOf, entityIn}
-use Rattle.model.specs.Model.{Carried, typeOf}
-use Rattle.cards.specs.declared.Counts.{Counts}
-use Rattle.read_entities.specs.declared.EntityAnswer.{EntityAnswer}
-use Rattle.read_entities.specs.declared.EntityAnswer.the-variants.{Good}
-use Rattle.read_entities.specs.Answers.{entityAnswer, entityPassOf}
-use Rattle.read_entities.proofs.Entries.{entity-answer, entity-good}
+use Rattle.model.specs.Read.{Listed, entryIn, two, carried}
+use Rattle.model.specs.Model.{Carried}
+use Rattle.model.proofs.ReadApart.{entry-apart}
 use Rattle.read_entities.specs.Marks.{carriedIn}
 use Rattle.print.specs.Bytes.{entityBytes}
-use Rattle.print.specs.Rows.{speltBytes, readBytes, rowBytes, rowsBytes}
+use Rattle.print.specs.Rows.{speltBytes, rowBytes, rowsBytes}
 use Rattle.print.specs.Whole.{entriesBytes}
 
 module _ (list : ℕ) (f : List ℕ) (first n parameters c d : ℕ) where
@@ -36,19 +27,11 @@ module _ (list : ℕ) (f : List ℕ) (first n parameters c d : ℕ) where
   -- an entry that is listed, its P lines in the file
   pub row-listed : (i place : ℕ) (e : Listed) → entryIn f place (first + 2 * i) ≡ accepted e → 81 * (parameters + (e .pointer - 1)) + e .lines * 81 ≤ length f
       → rowBytes list f first n parameters c d i ≡ entityBytes list (typesAt f first n) (2 * i + 1) (e .fields) (e .label) (valuesOf e)
-  unfolding entryIn rowBytes speltBytes
-  row-listed i place e h room = by (entryAt f (first + 2 * i)) h
-    where
-      by : (r : EntryRead) → byEntry (labelAt f (first + 2 * i)) place r ≡ accepted e
-          → readBytes list f first n parameters c d i r ≡ entityBytes list (typesAt f first n) (2 * i + 1) (e .fields) (e .label) (valuesOf e)
-      by Wrong g = let z : _≡_ {A = ℕ} 0 1 = cc in absurd (omega arith)
-      by (Spelt x from count) g =
-          let l : Listed = record { fields = x; label = labelAt f (first + 2 * i); pointer = from .0; lines = count } in
-          let b : Both (entryRules x place) (λ _. accepted l) e = then-accepted (entryRules x place) (λ _. accepted l) e g in
-          let s : accepted l ≡ accepted e = b .second in
-          let q : e ≡ l = cc in
-          let k : 81 * (parameters + (from .0 - 1)) + count * 81 ≤ length f = rw q at room in
-          simp (le-leb _ _ k) (ap (λ (y : Listed). entityBytes list (typesAt f first n) (2 * i + 1) (y .fields) (y .label) (valuesOf y)) (sym q))
+  unfolding rowBytes speltBytes
+  row-listed i place e h room =
+      let a = entry-apart f place (first + 2 * i) e h in
+      let k : 81 * (parameters + (a .from .0 - 1)) + a .count * 81 ≤ length f = rw (a .is) at room in
+      rw (a .spelt) (simp (le-leb _ _ k) (ap (λ (y : Listed). entityBytes list (typesAt f first n) (2 * i + 1) (y .fields) (y .label) (valuesOf y)) (sym (a .is))))
 
   abbrev pub carriedAs : Listed → Carried
   carriedAs e = carried e (valuesOf e)
@@ -82,12 +65,3 @@ module _ (list : ℕ) (f : List ℕ) (first n parameters c d : ℕ) where
           let m : Roomy (b .value ∷ r .value) = rw q at room in
           ap₂ (λ (x y : List ℕ). x ++ y) (row-listed i place (b .value) (b .first) (m .0)) (others (r .value) (r .first) (m .1))
           ∙ ap (λ (l : List Listed). entriesBytes list (typesAt f first n) i (map carriedAs l)) (sym q)
-
--- an entry that the last pass accepts carries the values behind its type
-pub passed : (list : ℕ) (f : List ℕ) (k : Counts) (g : GlobalRead) (types : List ℕ) (place : ℕ) (e : Listed) (y : Carried) → entityIn list f k g types place e ≡ accepted y
-    → y ≡ carried e (carriedIn (valuesAt 64 (g .parameter) (g .record-end) (parametersOf f k e) 0))
-passed list f k g types place e y h =
-    let x : EntityAnswer = entityPassOf list types (typeOf (e .fields)) (e .fields .form .size) (valuesAt 64 (g .parameter) (g .record-end) (parametersOf f k e) 0) in
-    let good : x ≡ Good = entity-answer list f k g types place e refl ∙ ap entityAnswer h in
-    let s : accepted y ≡ accepted (carried e (carriedIn (valuesAt 64 (g .parameter) (g .record-end) (parametersOf f k e) 0))) = sym h ∙ entity-good list f k g types place e refl good in
-    cc

@@ -26,10 +26,6 @@ pub text-none : {o : List ℕ} {at : ℕ} (start : ℕ) (t : List ℕ) → Wrote
 text-none start t = wrote-none
 
 module _ (file : List ℕ) (base w lines : ℕ) (st : Stands file base w lines) (start count : ℕ) (room : start + count ≤ lines * w) where
-  -- there are few
-  pub text-small : start + count ≤ 16000000
-  text-small = omega (arith, small file base w lines st)
-
   pub text-place : (i : ℕ) → i < count → start + i < 2 ^ 64
   text-place i h = omega (arith, small file base w lines st)
 

@@ -1,14 +1,13 @@
 -- The pass over one entity is the last pass at its entry: what it accepts is carried, what it refuses has the entry's place. Assumes nothing.
 use mathlib.Core.Path.{_≡_, refl, sym, ap, _∙_}
 use mathlib.Core.Bool.{Bool, true, false, cond}
-use mathlib.Core.List.{List}
+use mathlib.Core.List.{List, map}
 use Prim.Native.Nat.{ℕ}
 use native.Mathlib.Omega.{arith}
 use lib.ListN.{getD, drop}
 use Rattle.columns.specs.declared.Fault.{Fault}
 use Rattle.columns.specs.declared.Fault.the-variants.{FirstValue}
 use Rattle.columns.specs.Refusal.{Outcome, accepted, refused, demand, _then_}
-use Rattle.columns.proofs.Outcomes.{then-accepted}
 use Rattle.values.specs.Value.{default}
 use Rattle.records.specs.Record.{Values, values, wrong, valuesAt, trimmed}
 use Rattle.cards.specs.declared.Counts.{Counts}
@@ -19,7 +18,8 @@ use Rattle.layouts.specs.Entities.{Entity, verdict, fault, entityCheck}
 use Rattle.layouts.specs.Fits.{Keeps}
 use Rattle.layouts.proofs.Fits.{accepts-keeps}
 use Rattle.model.specs.Model.{Carried, typeOf, entityOf}
-use Rattle.model.specs.Read.{GlobalRead, Listed, isType, byParameters, carried, parametersOf, entityIn}
+use Rattle.model.specs.Read.{GlobalRead, Listed, isType, byParameters, carried, parametersOf, entityIn, two, listedType, firstEntry, lastPass}
+use Rattle.model.proofs.ReadApart.{each-is, entity-apart}
 use Rattle.read_entities.specs.declared.EntityAnswer.{EntityAnswer}
 use Rattle.read_entities.specs.declared.EntityAnswer.the-variants.{Good, Refused}
 use Rattle.read_entities.specs.Answers.{entityAnswer, entityPassOf}
@@ -70,14 +70,9 @@ parameters-of list types place e (values vs end) = by (isType (typeOf (e .fields
 -- what an accepted entry carries keeps to its layout, if the list knows it
 parameters-keep : (list : ℕ) (types : List ℕ) (place : ℕ) (e : Listed) (vs : Values) (y : Carried) → byParameters list types place e vs ≡ accepted y
     → known list (typeOf (y .fields)) (y .fields .form .size) ≡ true → Keeps types (entityOf (y .fields) (y .values))
-parameters-keep list types place e (wrong n start at) y h = let z : _≡_ {A = ℕ} 0 1 = cc in absurd (omega arith)
-parameters-keep list types place e (values vs end) y h =
-    let x : Entity = entityOf (e .fields) (trimmed (drop 1 vs)) in
-    let a = then-accepted (demand (isType (typeOf (e .fields)) (getD vs 0 default)) FirstValue place) (λ _. entityCheck list types x place then λ _. accepted (carried e (trimmed (drop 1 vs)))) y h in
-    let b = then-accepted (entityCheck list types x place) (λ _. accepted (carried e (trimmed (drop 1 vs)))) y (a .second) in
-    let s : accepted (carried e (trimmed (drop 1 vs))) ≡ accepted y = b .second in
-    let q : y ≡ carried e (trimmed (drop 1 vs)) = cc in
-    rw q (accepts-keeps types x list place (b .value) (b .first))
+parameters-keep list types place e vals y h =
+    let a = entity-apart list types place e vals y h in
+    rw (a .is) (accepts-keeps types (entityOf (e .fields) (trimmed (drop 1 (a .items)))) list place tt (a .layout))
 
 pub entity-keeps : (list : ℕ) (f : List ℕ) (c : Counts) (g : GlobalRead) (types : List ℕ) (place : ℕ) (e : Listed) (y : Carried) → entityIn list f c g types place e ≡ accepted y
     → known list (typeOf (y .fields)) (y .fields .form .size) ≡ true → Keeps types (entityOf (y .fields) (y .values))
@@ -86,11 +81,6 @@ entity-keeps list f c g types place e y h = parameters-keep list types place e (
 
 module _ (list : ℕ) (f : List ℕ) (c : Counts) (g : GlobalRead) (types : List ℕ) (place : ℕ) (e : Listed) {r : EntityAnswer}
     (er : r ≡ entityPassOf list types (typeOf (e .fields)) (e .fields .form .size) (valuesAt 64 (g .parameter) (g .record-end) (parametersOf f c e) 0)) where
-  -- the answer is that of the last pass at this entry
-  pub entity-answer : r ≡ entityAnswer (entityIn list f c g types place e)
-  unfolding entityIn
-  entity-answer = er ∙ pass-read list types place e (valuesAt 64 (g .parameter) (g .record-end) (parametersOf f c e) 0)
-
   -- accepted: the values behind the type are carried
   pub entity-good : r ≡ Good
       → entityIn list f c g types place e ≡ accepted (carried e (carriedIn (valuesAt 64 (g .parameter) (g .record-end) (parametersOf f c e) 0)))
@@ -106,4 +96,16 @@ module _ (list : ℕ) (f : List ℕ) (c : Counts) (g : GlobalRead) (types : List
       let vs : Values = valuesAt 64 (g .parameter) (g .record-end) (parametersOf f c e) 0 in
       refused-of (byParameters list types place e vs) (parameters-of list types place e vs) n (sym (pass-read list types place e vs) ∙ sym er ∙ h)
 
-pub ruleset entries = (entity-answer, entity-good, entity-refused)
+-- what an accepted entry carries: the values behind its type
+pub entity-carries : (list : ℕ) (f : List ℕ) (c : Counts) (g : GlobalRead) (types : List ℕ) (place : ℕ) (e : Listed) (y : Carried) → entityIn list f c g types place e ≡ accepted y
+    → y ≡ carried e (carriedIn (valuesAt 64 (g .parameter) (g .record-end) (parametersOf f c e) 0))
+unfolding entityIn
+entity-carries list f c g types place e y h =
+    let a = entity-apart list types place e (valuesAt 64 (g .parameter) (g .record-end) (parametersOf f c e) 0) y h in
+    a .is ∙ ap (λ (vals : Values). carried e (carriedIn vals)) (sym (a .read))
+
+-- what all of them carry
+pub last-carries : (list : ℕ) (f : List ℕ) (c : Counts) (g : GlobalRead) (es : List Listed) (ys : List Carried) → lastPass list f c g es ≡ accepted ys
+    → ys ≡ map (λ (e : Listed). carried e (carriedIn (valuesAt 64 (g .parameter) (g .record-end) (parametersOf f c e) 0))) es
+unfolding lastPass
+last-carries list f c g es ys h = each-is two (entityIn list f c g (map listedType es)) _ (entity-carries list f c g (map listedType es)) (firstEntry c) es ys h

@@ -16,6 +16,7 @@ use Rattle.columns.specs.Refusal.{Outcome, accepted, refused, demand, _then_}
 use Rattle.columns.proofs.First.{first-same}
 use Rattle.cards.specs.declared.Counts.{Counts}
 use Rattle.cards.specs.Rules.{Holds}
+use Rattle.cards.specs.Shared.{fileLine}
 use Rattle.values.specs.Value.{Item, default, seen}
 use Rattle.records.specs.declared.Check.{Check}
 use Rattle.records.specs.declared.Check.the-variants.{Done, Wrong}
@@ -33,7 +34,7 @@ use Rattle.read_passes.specs.declared.Pass.{Pass}
 use Rattle.read_passes.specs.declared.Pass.the-variants.{Good, Refused}
 use Rattle.read_passes.specs.declared.GlobalAnswer.{GlobalAnswer}
 use Rattle.read_passes.specs.declared.GlobalAnswer.the-variants.{Good as GlobalGood, Refused as GlobalRefused}
-use Rattle.read_passes.specs.Passes.{fileLine, passOf, answerOf, globalAnswer}
+use Rattle.read_passes.specs.Passes.{passOf, answerOf, globalAnswer}
 use Rattle.read_passes.specs.Walks.{orElse, valueFits, fieldsFit, valuesOutcome}
 use Rattle.read_passes.proofs.GlobalText.{text-stands, text-small}
 

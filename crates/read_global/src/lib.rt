@@ -13,9 +13,10 @@ use values::Value;
 ghost use mathlib.Core.Path.{_≡_};
 ghost use Prim.Native.Nat.{_*_, _<_, _≤_};
 ghost use Rattle.cards.specs.Rules.{Holds};
+ghost use Rattle.cards.specs.Shared.{fileLine};
 ghost use Rattle.records.specs.Record.{startOf, behind};
 ghost use Rattle.model.specs.Read.{globalText, globalLine, spellingLine, noStray, globalIn};
-ghost use Rattle.read_passes.specs.Passes.{fileLine, passOf, answerOf, globalAnswer};
+ghost use Rattle.read_passes.specs.Passes.{passOf, answerOf, globalAnswer};
 ghost use Rattle.read_passes.specs.Walks.{orElse, gotValue, fieldsFit, valuesOutcome};
 
 // The columns of a G line that are text, and the first field behind the delimiters.

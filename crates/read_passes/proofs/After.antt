@@ -1,21 +1,19 @@
 -- What a caller of `before` has in hand: a file that is ready for the last pass, and its delimiters; and where an entry's parameters stand.
 use mathlib.Core.Path.{_≡_, refl, sym, ap, _∙_}
 use mathlib.Core.List.{List}
-use Prim.Native.Nat.{ℕ, _+_, _*_, _^_, _≤_, _<_}
+use Prim.Native.Nat.{ℕ, _+_, _≤_, _<_}
 use native.Mathlib.Omega.{arith}
-use Rattle.columns.specs.declared.Fault.{Fault}
 use Rattle.columns.specs.declared.ParameterLine.{ParameterLine}
 use Rattle.columns.specs.Refusal.{Outcome, accepted, refused}
 use Rattle.cards.specs.declared.Counts.{Counts}
-use Rattle.cards.specs.Cards.{entries, entryLine, parameterLine}
+use Rattle.cards.specs.Cards.{entries, entryLine}
 use Rattle.directory.specs.declared.Fields.{Fields}
 use Rattle.directory.specs.declared.EntryRead.{EntryRead}
 use Rattle.directory.specs.declared.EntryRead.the-variants.{Spelt, Wrong}
 use Rattle.directory.specs.Lines.{entryAt}
-use Rattle.records.specs.Reading.{Stands}
 use Rattle.model.specs.Read.{Before, before}
 use Rattle.read_passes.specs.declared.BeforeAnswer.{BeforeAnswer}
-use Rattle.read_passes.specs.declared.BeforeAnswer.the-variants.{Good, Refused}
+use Rattle.read_passes.specs.declared.BeforeAnswer.the-variants.{Good}
 use Rattle.read_passes.specs.Passes.{beforeAnswer}
 use Rattle.read_passes.specs.Listed.{entryOf}
 use Rattle.read_passes.specs.Ready.{Ready}
@@ -56,12 +54,6 @@ module _ (f : List ℕ) (r : BeforeAnswer) (er : r ≡ beforeAnswer (before f)) 
         let a = answered in
         omega (arith, a .closing, passed-all f (a .whole) (a .is) .delimiters .closing)
 
-  -- a refusal is the file's
-  pub before-refused : (n : Fault) (l : ℕ) → before f ≡ refused n l → r ≡ Refused n (record { 0 = l })
-  before-refused n l e = er ∙ rw e
-
-pub ruleset befores = (before-ready, before-parameter, before-closing)
-
 -- ---- an entry
 
 module _ (f : List ℕ) (c : Counts) (rd : Ready f c) (i : ℕ) (h : i < entries c) (k : ℕ) (r : EntryRead) (ek : k ≡ entryLine c i) (er : r ≡ entryAt f k) where
@@ -101,17 +93,5 @@ module _ (f : List ℕ) (c : Counts) (rd : Ready f c) (i : ℕ) (h : i < entries
     pub pointer-some : 1 ≤ from .0
     pointer-some = omega (arith, from-eq, entered-i .from-some)
 
-    pub lines-some : 1 ≤ count
-    lines-some = omega (arith, same-count, entered-i .count-some)
-
     pub pointer-stays : from .0 + count ≤ c .p + 1
     pointer-stays = omega (arith, from-eq, same-count, entered-i .stays)
-
-    pub pointer-small : from .0 < 2 ^ 32
-    pointer-small = omega (arith, pointer-stays, lines-some, rd .holds .most)
-
-    -- its parameter lines stand in the file
-    pub parameters-in : (m l n : ℕ) → m ≡ from .0 → l ≡ parameterLine c m → n ≡ count → Stands f (81 * l) 64 n
-    parameters-in m l n em el en = rw (el, em, en, ← from-eq, ← same-count) (entered-i .stands)
-
-pub ruleset entering = (never-wrong, listed-fields, listed-pointer, listed-lines, pointer-some, lines-some, pointer-stays, pointer-small, parameters-in)

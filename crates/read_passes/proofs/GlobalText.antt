@@ -16,6 +16,7 @@ use Rattle.columns.specs.First.{firstNot}
 use Rattle.columns.proofs.First.{first-on, first-here, first-end}
 use Rattle.cards.specs.declared.Counts.{Counts}
 use Rattle.cards.specs.Rules.{Holds}
+use Rattle.cards.specs.Shared.{fileLine}
 use Rattle.values.specs.declared.Value.{Value}
 use Rattle.values.specs.declared.Value.the-variants.{Default, Whole, Real, Text}
 use Rattle.values.specs.Value.{itemOf, seen}
@@ -30,7 +31,7 @@ use Rattle.records.specs.Reading.{Stands, Sane}
 use Rattle.records.proofs.Texts.{length-text, small}
 use Rattle.model.specs.Read.{globalText, globalLine, spellingLine, noStray}
 use Rattle.read_passes.specs.declared.Pass.the-variants.{Good, Refused}
-use Rattle.read_passes.specs.Passes.{passOf, fileLine}
+use Rattle.read_passes.specs.Passes.{passOf}
 use Rattle.read_passes.specs.Walks.{gotValue, valueFits, fieldsFit}
 
 -- ---- what was read

@@ -12,6 +12,7 @@ use Rattle.columns.specs.First.{upFrom}
 use Rattle.columns.specs.Refusal.{Outcome, accepted, refused, eachAt, _then_}
 use Rattle.cards.specs.declared.Counts.{Counts}
 use Rattle.cards.specs.Cards.{entries, entryLine}
+use Rattle.cards.specs.Shared.{fileLine}
 use Rattle.directory.specs.declared.Fields.{Fields}
 use Rattle.directory.specs.declared.EntryRead.{EntryRead}
 use Rattle.directory.specs.declared.EntryRead.the-variants.{Spelt, Wrong}
@@ -21,10 +22,10 @@ use Rattle.columns.specs.declared.ParameterLine.{ParameterLine}
 use Rattle.directory.specs.Lines.{entryAt, labelAt}
 use Rattle.directory.specs.Asking.{outcomeOf, ruleOf}
 use Rattle.directory.proofs.Ranges.{rule-outcome}
-use Rattle.model.specs.Read.{Listed, two, byEntry, entryIn, entryLineIn, entriesIn, firstEntry}
+use Rattle.model.specs.Read.{Listed, two, byEntry, entryIn, entriesIn, firstEntry}
 use Rattle.read_passes.specs.declared.Pass.{Pass}
 use Rattle.read_passes.specs.declared.Pass.the-variants.{Good, Refused}
-use Rattle.read_passes.specs.Passes.{passOf, fileLine}
+use Rattle.read_passes.specs.Passes.{passOf}
 use Rattle.read_passes.specs.declared.Turn.{Turn}
 use Rattle.read_passes.specs.declared.Turn.the-variants.{Kept, Refused as RefusedTurn}
 use Rattle.read_passes.specs.Walks.{orElse, firstOf, turnOf, entryCheck}
@@ -129,7 +130,7 @@ module _ {A B : Type 0} (f : ℕ → A → Outcome B) (at : ℕ → A) (p : ℕ)
 
 pub entries-walk : (f : List ℕ) (c : Counts) → passOf (entriesIn f c) ≡ firstOf (entryCheck f c) 0 (entries c)
 unfolding entriesIn entryCheck
-entries-walk f c = row-walk (entryIn f) (entryLineIn c) (firstEntry c) (entries c) 0 (firstEntry c) (omega arith)
+entries-walk f c = row-walk (entryIn f) (entryLine c) (firstEntry c) (entries c) 0 (firstEntry c) (omega arith)
 
 -- ---- one entry
 

@@ -14,6 +14,7 @@ use Rattle.cards.specs.declared.CardsRead.{CardsRead}
 use Rattle.cards.specs.declared.CardsRead.the-variants.{Counted, Refused as CardsRefused}
 use Rattle.cards.specs.Cards.{cardsOf}
 use Rattle.cards.proofs.Growth.{holds-of}
+use Rattle.cards.specs.Shared.{fileLine}
 use Rattle.owners.specs.declared.Owned.{Owned}
 use Rattle.owners.specs.declared.Owned.the-variants.{Everyone, Entry, Line}
 use Rattle.owners.specs.InFile.{ownersIn, lineOf, outcome}
@@ -24,7 +25,7 @@ use Rattle.read_passes.specs.declared.GlobalAnswer.{GlobalAnswer}
 use Rattle.read_passes.specs.declared.GlobalAnswer.the-variants.{Good as GlobalGood, Refused as GlobalRefused}
 use Rattle.read_passes.specs.declared.BeforeAnswer.{BeforeAnswer}
 use Rattle.read_passes.specs.declared.BeforeAnswer.the-variants.{Good as BeforeGood, Refused as BeforeRefused}
-use Rattle.read_passes.specs.Passes.{fileLine, passOf, globalAnswer, beforeAnswer}
+use Rattle.read_passes.specs.Passes.{passOf, globalAnswer, beforeAnswer}
 use Rattle.read_passes.specs.Listed.{allEntries}
 use Rattle.read_passes.specs.Walks.{entriesOutcome, directoryOutcome, behindCards}
 use Rattle.read_passes.proofs.Listing.{entries-are}

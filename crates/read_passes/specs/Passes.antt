@@ -1,7 +1,7 @@
 -- The code's form: the answers of a pass, as outcomes give them.
 use Prim.Native.Nat.{ℕ}
-use Rattle.columns.specs.declared.FileLine.{FileLine}
 use Rattle.columns.specs.Refusal.{Outcome, accepted, refused}
+use Rattle.cards.specs.Shared.{fileLine}
 use Rattle.model.specs.Read.{GlobalRead, Before}
 use Rattle.read_passes.specs.declared.Pass.{Pass}
 use Rattle.read_passes.specs.declared.Pass.the-variants.{Good, Refused}
@@ -9,9 +9,6 @@ use Rattle.read_passes.specs.declared.GlobalAnswer.{GlobalAnswer}
 use Rattle.read_passes.specs.declared.GlobalAnswer.the-variants.{Good as GlobalGood, Refused as GlobalRefused}
 use Rattle.read_passes.specs.declared.BeforeAnswer.{BeforeAnswer}
 use Rattle.read_passes.specs.declared.BeforeAnswer.the-variants.{Good as BeforeGood, Refused as BeforeRefused}
-
-abbrev pub fileLine : ℕ → FileLine
-fileLine k = record { 0 = k }
 
 -- whether all is accepted, or the first refusal
 abbrev pub passOf : {A : Type 0} → Outcome A → Pass

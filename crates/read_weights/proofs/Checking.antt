@@ -10,6 +10,7 @@ use Rattle.columns.specs.declared.Fault.the-variants.{ListOrLength}
 use Rattle.columns.specs.declared.FileLine.{FileLine}
 use Rattle.columns.specs.Refusal.{Outcome, accepted, refused, _then_}
 use Rattle.cards.specs.declared.Counts.{Counts}
+use Rattle.cards.specs.Shared.{fileLine}
 use Rattle.layouts.specs.Known.{mostList}
 use Rattle.model.specs.Model.{Carried, Model}
 use Rattle.model.specs.Read.{Before, before, lastPass, modelWith, readModel}
@@ -17,7 +18,7 @@ use Rattle.read_passes.specs.declared.Pass.{Pass}
 use Rattle.read_passes.specs.declared.Pass.the-variants.{Good as GoodPass, Refused as RefusedPass}
 use Rattle.read_passes.specs.declared.BeforeAnswer.{BeforeAnswer}
 use Rattle.read_passes.specs.declared.BeforeAnswer.the-variants.{Good as GoodBefore, Refused as RefusedBefore}
-use Rattle.read_passes.specs.Passes.{fileLine, passOf, beforeAnswer}
+use Rattle.read_passes.specs.Passes.{passOf, beforeAnswer}
 use Rattle.read_passes.specs.Listed.{allEntries}
 use Rattle.read_passes.proofs.Facts.{passed-all}
 use Rattle.read_passes.proofs.After.{Answered, answered}

@@ -9,21 +9,22 @@ use Rattle.columns.specs.declared.ParameterLine.{ParameterLine}
 use Rattle.columns.specs.Columns.{textOf}
 use Rattle.cards.specs.declared.Counts.{Counts}
 use Rattle.cards.specs.Cards.{firstD, entries, entryLine, parameterLine}
+use Rattle.cards.specs.Shared.{fileLine}
 use Rattle.records.specs.Record.{valuesAt}
 use Rattle.records.specs.Reading.{Stands}
 use Rattle.directory.specs.declared.Fields.{Fields}
 use Rattle.directory.specs.declared.EntryRead.{EntryRead}
-use Rattle.directory.specs.declared.EntryRead.the-variants.{Spelt, Wrong}
+use Rattle.directory.specs.declared.EntryRead.the-variants.{Spelt}
 use Rattle.directory.specs.Lines.{entryAt}
 use Rattle.directory.specs.Naming.{typesAt}
 use Rattle.model.specs.Model.{typeOf}
 use Rattle.model.specs.Read.{firstEntry, parametersOf}
 use Rattle.read_passes.specs.declared.Pass.the-variants.{Good, Refused}
-use Rattle.read_passes.specs.Passes.{fileLine, passOf}
+use Rattle.read_passes.specs.Passes.{passOf}
 use Rattle.read_passes.specs.Listed.{entryOf, allTypes}
 use Rattle.read_passes.specs.Ready.{Ready}
 use Rattle.read_passes.proofs.Referring.{types-stand}
-use Rattle.read_passes.proofs.After.{never-wrong, listed-fields, listed-pointer, listed-lines}
+use Rattle.read_passes.proofs.After.{listed-fields, listed-pointer, listed-lines}
 use Rattle.read_entities.specs.declared.EntityAnswer.{EntityAnswer}
 use Rattle.read_entities.specs.declared.EntityAnswer.the-variants.{Good as GoodEntity, Refused as RefusedEntity}
 use Rattle.read_entities.specs.Answers.{entityPassOf}
@@ -77,10 +78,6 @@ module _ (f : List ℕ) (c : Counts) (rd : Ready f c) where
 module _ (list : ℕ) (f : List ℕ) (c : Counts) (p d : ℕ) (rd : Ready f c) (i : ℕ) (h : i < entries c) (k : ℕ) (r : EntryRead) (ek : k ≡ entryLine c i) (er : r ≡ entryAt f k) where
   place : k + 1 ≡ firstEntry c + 2 * i
   place = omega arith
-
-  -- every entry is spelt
-  pub wrong-never : r ≡ Wrong → Good ≡ entityAt list f c p d i
-  wrong-never e = absurd (never-wrong f c rd i h k r ek er e)
 
   module _ (x : Fields) (from : ParameterLine) (count : ℕ) (e : r ≡ Spelt x from count) (y : EntityAnswer)
       (ey : y ≡ recordAnswer list f c p d (x .entity .size) (x .form .size) (from .0) count) where

@@ -12,6 +12,7 @@ use Rattle.columns.specs.declared.ParameterLine.{ParameterLine}
 use Rattle.columns.proofs.Columns.{length-columns}
 use Rattle.cards.specs.declared.Counts.{Counts}
 use Rattle.cards.specs.Cards.{firstD, firstP, entries, entryLine}
+use Rattle.cards.specs.Shared.{fileLine}
 use Rattle.values.specs.Value.{Item}
 use Rattle.directory.specs.declared.Fields.{Fields}
 use Rattle.directory.specs.declared.EntryRead.{EntryRead}
@@ -27,7 +28,6 @@ use Rattle.sheets.specs.Sheet.{entry, lineOf}
 use Rattle.sheets.specs.Writing.{entryLength}
 use Rattle.sheets.proofs.Measured.{entry-length}
 use Rattle.model.specs.Model.{marked}
-use Rattle.read_passes.specs.Passes.{fileLine}
 use Rattle.read_passes.specs.Ready.{Ready}
 use Rattle.read_passes.proofs.After.{never-wrong, pointer-some, pointer-stays}
 use Rattle.read_entities.specs.declared.EntityAnswer.{EntityAnswer}

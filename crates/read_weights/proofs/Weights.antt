@@ -13,6 +13,7 @@ use Rattle.columns.specs.declared.FileLine.{FileLine}
 use Rattle.columns.specs.Laid.{Wrote}
 use Rattle.cards.specs.declared.Counts.{Counts}
 use Rattle.cards.specs.Cards.{entries}
+use Rattle.cards.specs.Shared.{fileLine}
 use Rattle.layouts.specs.Known.{mostList}
 use Rattle.sheets.specs.Sheet.{last, lineOf}
 use Rattle.model.specs.Read.{lastPass, before}
@@ -20,7 +21,7 @@ use Rattle.read_passes.specs.declared.Pass.{Pass}
 use Rattle.read_passes.specs.declared.Pass.the-variants.{Good as GoodPass, Refused as RefusedPass}
 use Rattle.read_passes.specs.declared.BeforeAnswer.{BeforeAnswer}
 use Rattle.read_passes.specs.declared.BeforeAnswer.the-variants.{Good as GoodBefore, Refused as RefusedBefore}
-use Rattle.read_passes.specs.Passes.{fileLine, passOf, beforeAnswer}
+use Rattle.read_passes.specs.Passes.{passOf, beforeAnswer}
 use Rattle.read_passes.specs.Listed.{allEntries}
 use Rattle.read_passes.specs.Ready.{Ready}
 use Rattle.read_passes.specs.Walks.{firstOf}

@@ -5,11 +5,12 @@ use Rattle.columns.specs.Columns.{lineBytes, textOf}
 use Rattle.columns.specs.Refusal.{Outcome, accepted, refused, _then_}
 use Rattle.cards.specs.declared.Counts.{Counts}
 use Rattle.cards.specs.Cards.{parameterLine}
+use Rattle.cards.specs.Shared.{fileLine}
 use Rattle.records.specs.Record.{valuesAt}
 use Rattle.model.specs.Model.{Carried}
 use Rattle.model.specs.Read.{GlobalRead, globalRead, Listed, Before, firstEntry, parametersOf, carried, entityIn, before, readModel}
 use Rattle.read_passes.specs.declared.Pass.{Pass}
-use Rattle.read_passes.specs.Passes.{fileLine, passOf}
+use Rattle.read_passes.specs.Passes.{passOf}
 use Rattle.read_passes.specs.Listed.{entryOf, allTypes}
 use Rattle.read_entities.specs.declared.EntityAnswer.{EntityAnswer}
 use Rattle.read_entities.specs.Answers.{entityPassOf}

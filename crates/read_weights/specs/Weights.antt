@@ -7,6 +7,7 @@ use Rattle.columns.specs.declared.FileLine.{FileLine}
 use Rattle.columns.specs.Columns.{lineBytes, textOf}
 use Rattle.cards.specs.declared.Counts.{Counts}
 use Rattle.cards.specs.Cards.{firstD, firstP, entries, parameterLine}
+use Rattle.cards.specs.Shared.{fileLine}
 use Rattle.values.specs.Value.{Item}
 use Rattle.records.specs.Record.{valuesAt}
 use Rattle.directory.specs.declared.Fields.{Fields}
@@ -14,7 +15,6 @@ use Rattle.directory.specs.Lines.{labelAt}
 use Rattle.layouts.specs.Known.{known}
 use Rattle.sheets.specs.Plain.{sized}
 use Rattle.sheets.specs.Sheet.{entry, last, lineOf}
-use Rattle.read_passes.specs.Passes.{fileLine}
 use Rattle.read_passes.specs.declared.Pass.{Pass}
 use Rattle.read_passes.specs.declared.Pass.the-variants.{Good as GoodPass, Refused as RefusedPass}
 use Rattle.read_entities.specs.declared.EntityAnswer.{EntityAnswer}
