@@ -1,44 +1,44 @@
 -- The Global fields that reading accepts are those behind the opening. Assumes nothing.
-use mathlib.Core.Path.{_≡_, sym, ap}
-use mathlib.Core.Bool.{Bool, true, false}
+use mathlib.Core.Path.{_≡_, refl}
+use mathlib.Core.Bool.{Bool, true, false, cond}
 use mathlib.Core.List.{List, []}
 use Prim.Native.Nat.{ℕ}
 use native.Mathlib.Omega.{arith}
-use lib.ListN.{length}
-use lib.Dec.{eqb}
-use Rattle.columns.specs.declared.Fault.the-variants.{Global as GlobalFault}
-use Rattle.columns.specs.First.{firstNot}
-use Rattle.columns.specs.Refusal.{Outcome, accepted, demand, _then_}
-use Rattle.columns.proofs.Outcomes.{Both, then-accepted}
+use Rattle.columns.specs.Refusal.{accepted}
 use Rattle.cards.specs.declared.Counts.{Counts}
-use Rattle.records.specs.Record.{Values, values, wrong, valuesAt, startAt}
-use Rattle.records.specs.Global.{firstField}
-use Rattle.model.specs.Read.{GlobalRead, globalRead, globalLine, noStray, fieldFits, given, byValues, byOpening}
-use Rattle.records.specs.declared.Opening.the-variants.{Opened}
+use Rattle.records.specs.Record.{values, valuesAt}
+use Rattle.records.specs.Global.{firstField, openingOf}
+use Rattle.model.specs.Read.{GlobalRead, globalText, given, globalIn}
+use Rattle.model.proofs.ReadApart.{GlobalApart, alone, more, global-apart}
+use Rattle.records.specs.declared.Opening.the-variants.{Opened, Wrong}
 use Rattle.print.specs.Bytes.{globalBytes, valuesIn}
 use Rattle.print.specs.Whole.{fieldBytes}
 
-module _ (k : Counts) (t : List ℕ) (p d from : ℕ) (g : GlobalRead) where
-  values-read : (vals : Values) → byValues k t p d from vals ≡ accepted g → g ≡ globalRead p d (given firstField (valuesIn vals))
-  values-read (wrong n s at) h = let z : _≡_ {A = ℕ} 0 1 = cc in absurd (omega arith)
-  values-read (values vs end) h =
-      let j : ℕ = firstNot (fieldFits vs) 0 (length vs) in
-      let o : Outcome (Unit {0}) = demand (eqb j (length vs)) GlobalFault (globalLine k (startAt 72 p d t from j)) in
-      let x : GlobalRead = globalRead p d (given firstField vs) in
-      let a : Both (noStray k t end) (λ _. o then λ _. accepted x) g = then-accepted (noStray k t end) (λ _. o then λ _. accepted x) g h in
-      let b : Both o (λ _. accepted x) g = then-accepted o (λ _. accepted x) g (a .second) in
-      let s : accepted x ≡ accepted g = b .second in
-      cc
+-- the delimiters are those of the opening, the fields those behind it
+pub opened-read : (f : List ℕ) (k : Counts) (p d from : ℕ) (ended : Bool) (g : GlobalRead) → openingOf (globalText f k) ≡ Opened p d from ended → globalIn f k ≡ accepted g
+    → (g .parameter ≡ p) × (g .record-end ≡ d) × (fieldBytes p d (globalText f k) from ended ≡ globalBytes (g .fields))
+unfolding fieldBytes globalBytes
+opened-read f k p d from ended g eo h = by (global-apart f k g h)
+  where
+    by : GlobalApart k (globalText f k) g → (g .parameter ≡ p) × (g .record-end ≡ d)
+        × (cond ended [] (globalBytes (given firstField (valuesIn (valuesAt 72 p d (globalText f k) from)))) ≡ globalBytes (g .fields))
+    by (alone p′ d′ next e s eg) =
+        let ep : p′ ≡ p = cc in
+        let ed : d′ ≡ d = cc in
+        let en : true ≡ ended = cc in
+        rw (eg, ← en) (ep, ed, refl)
+    by (more p′ d′ next vs end e ev s fit eg) =
+        let ep : p′ ≡ p = cc in
+        let ed : d′ ≡ d = cc in
+        let ef : next ≡ from = cc in
+        let en : false ≡ ended = cc in
+        let v : valuesAt 72 p d (globalText f k) from ≡ values vs end = rw (ep, ed, ef) at ev in
+        rw (eg, ← en, v) (ep, ed, refl)
 
-  -- the delimiters are those of the opening, the fields those behind it
-  pub opened-read : (ended : Bool) → byOpening k t (Opened p d from ended) ≡ accepted g
-      → (g .parameter ≡ p) × (g .record-end ≡ d) × (fieldBytes p d t from ended ≡ globalBytes (g .fields))
-  unfolding fieldBytes globalBytes
-  opened-read true h =
-      let a : Both (noStray k t from) (λ _. accepted (globalRead p d [])) g = then-accepted (noStray k t from) (λ _. accepted (globalRead p d [])) g h in
-      let s : accepted (globalRead p d []) ≡ accepted g = a .second in
-      let q : g ≡ globalRead p d [] = cc in
-      (ap (λ (x : GlobalRead). x .parameter) q, ap (λ (x : GlobalRead). x .record-end) q, sym (ap (λ (x : GlobalRead). globalBytes (x .fields)) q))
-  opened-read false h =
-      let q : g ≡ globalRead p d (given firstField (valuesIn (valuesAt 72 p d t from))) = values-read (valuesAt 72 p d t from) h in
-      (ap (λ (x : GlobalRead). x .parameter) q, ap (λ (x : GlobalRead). x .record-end) q, sym (ap (λ (x : GlobalRead). globalBytes (x .fields)) q))
+-- a wrong opening is refused
+pub opening-right : (f : List ℕ) (k : Counts) (g : GlobalRead) → globalIn f k ≡ accepted g → openingOf (globalText f k) ≡ Wrong → ⊥
+opening-right f k g h w = by (global-apart f k g h)
+  where
+    by : GlobalApart k (globalText f k) g → ⊥
+    by (alone p d next e s eg) = let z : _≡_ {A = ℕ} 0 1 = cc in omega arith
+    by (more p d next vs end e ev s fit eg) = let z : _≡_ {A = ℕ} 0 1 = cc in omega arith

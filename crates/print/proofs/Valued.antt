@@ -21,21 +21,23 @@ use Rattle.records.specs.Reading.{Stands}
 use Rattle.records.proofs.Texts.{length-text, small}
 use Rattle.records.proofs.Items.{trimmed-first}
 use Rattle.records.proofs.Steps.{last-is, more-is, none-wrong}
+use Rattle.directory.specs.Naming.{typesAt}
 use Rattle.layouts.specs.declared.State.{State}
 use Rattle.layouts.specs.declared.Stepped.{Stepped}
 use Rattle.layouts.specs.declared.Stepped.the-variants.{Go}
 use Rattle.layouts.specs.Walk.{stepped, feed, run, mark, marksFrom}
 use Rattle.layouts.specs.Named.{named}
 use Rattle.layouts.specs.Machine.{refers, kindAt, stand, runsOn}
-use Rattle.layouts.proofs.Steps.{step-runs}
+use Rattle.layouts.proofs.Steps.{step-runs, runs-left}
 use Rattle.layouts.proofs.Runs.{feed-stepped}
 use Rattle.model.specs.Model.{marked}
 use Rattle.sheets.specs.Sheet.{Line, value, lineOf, valueLines, textOf as sheetBytes}
 use Rattle.values.proofs.OneSpelling.{missing, default-only}
 use Rattle.read_entities.specs.Marks.{carriedIn, marksBegun, markedFrom}
+use Rattle.read_entities.specs.Walking.{owing}
 use Rattle.print.specs.declared.Met.{Met}
 use Rattle.print.specs.Bytes.{valueBytes}
-use Rattle.print.specs.Taking.{Unrefused, metOf, owedBefore}
+use Rattle.print.specs.Taking.{Unrefused, metOf, GivenPut}
 
 -- the bytes of value lines stand before those of the lines behind them
 pub value-lines : (vs : List (Bool × Item)) (rest : List Line) → sheetBytes (valueLines vs rest) ≡ valueBytes vs ++ sheetBytes rest
@@ -71,21 +73,21 @@ module _ (types : List ℕ) where
       ∙ sym (append-assoc l (valueBytes (markedFrom types h us)) (valueBytes (markedFrom types (run types h us) vs)))
       ∙ sym (ap (λ (x : List ℕ). x ++ valueBytes (markedFrom types (run types h us) vs)) (line-more g u us))
 
-  owed-first : (left : ℕ) (v : Item) → 0 < left → owedBefore left v ≡ default ∷ owedBefore (left - 1) v
+  owed-first : (left : ℕ) (v : Item) → 0 < left → owing left (v ∷ []) ≡ default ∷ owing (left - 1) (v ∷ [])
   owed-first zero v h = absurd (omega arith)
   owed-first (suc left) v h = let e : suc left - 1 ≡ left = omega arith in rw e
 
-  owed-none : (left : ℕ) (v : Item) → left ≤ 0 → owedBefore left v ≡ v ∷ []
+  owed-none : (left : ℕ) (v : Item) → left ≤ 0 → owing left (v ∷ []) ≡ v ∷ []
   owed-none zero v h = refl
   owed-none (suc left) v h = absurd (omega arith)
 
-  module _ {o bs o₁ : List ℕ} {at r₁ : ℕ} (t : List ℕ) (v : Value) (s : Stepped) (left : ℕ) (p : Owes o at bs o₁ r₁ (valueBytes (markedFrom types s (owedBefore left (itemOf t v))))) where
+  module _ {o bs o₁ : List ℕ} {at r₁ : ℕ} (t : List ℕ) (v : Value) (s : Stepped) (left : ℕ) (p : Owes o at bs o₁ r₁ (valueBytes (markedFrom types s (owing left (itemOf t v ∷ []))))) where
     pub owed-more : {o₂ : List ℕ} {r₂ : ℕ} {b : Bool} {u : Stepped} → 0 < left → b ≡ mark s → u ≡ stepped types s Default
-        → Wrote o₁ r₁ (lineOf (value b (itemOf t Default)) ++ (10 ∷ [])) o₂ r₂ → Owes o at bs o₂ r₂ (valueBytes (markedFrom types u (owedBefore (left - 1) (itemOf t v))))
+        → Wrote o₁ r₁ (lineOf (value b (itemOf t Default)) ++ (10 ∷ [])) o₂ r₂ → Owes o at bs o₂ r₂ (valueBytes (markedFrom types u (owing (left - 1) (itemOf t v ∷ []))))
     owed-more {b = b} {u = u} h eb eu w =
-        let vs : List Item = owedBefore (left - 1) (itemOf t v) in
+        let vs : List Item = owing (left - 1) (itemOf t v ∷ []) in
         let eg : feed types s default ≡ u = feed-stepped types t s Default ∙ sym eu in
-        let e : valueBytes (markedFrom types s (owedBefore left (itemOf t v))) ≡ (lineOf (value b default) ++ (10 ∷ [])) ++ valueBytes (markedFrom types u vs)
+        let e : valueBytes (markedFrom types s (owing left (itemOf t v ∷ []))) ≡ (lineOf (value b default) ++ (10 ∷ [])) ++ valueBytes (markedFrom types u vs)
         = ap (λ (l : List Item). valueBytes (markedFrom types s l)) (owed-first left (itemOf t v) h) ∙ line-more s default vs
         ∙ ap (λ (m : Bool). (lineOf (value m default) ++ (10 ∷ [])) ++ valueBytes (markedFrom types (feed types s default) vs)) (sym eb)
         ∙ ap (λ (g : Stepped). (lineOf (value b default) ++ (10 ∷ [])) ++ valueBytes (markedFrom types g vs)) eg in
@@ -94,17 +96,17 @@ module _ (types : List ℕ) where
     pub owed-last : {o₂ : List ℕ} {r₂ : ℕ} {b : Bool} → left ≤ 0 → b ≡ mark s → Wrote o₁ r₁ (lineOf (value b (itemOf t v)) ++ (10 ∷ [])) o₂ r₂ → Wrote o at bs o₂ r₂
     owed-last {b = b} h eb w =
         let i : Item = itemOf t v in
-        let e : valueBytes (markedFrom types s (owedBefore left i)) ≡ (lineOf (value b i) ++ (10 ∷ [])) ++ []
+        let e : valueBytes (markedFrom types s (owing left (i ∷ []))) ≡ (lineOf (value b i) ++ (10 ∷ [])) ++ []
         = ap (λ (l : List Item). valueBytes (markedFrom types s l)) (owed-none left i h) ∙ line-more s i []
         ∙ ap (λ (m : Bool). (lineOf (value m i) ++ (10 ∷ [])) ++ valueBytes (markedFrom types (feed types s i) [])) (sym eb)
         ∙ ap (λ (l : List ℕ). (lineOf (value b i) ++ (10 ∷ [])) ++ l) (line-none (feed types s i)) in
         owes-none (owes-less (owes-same p e) w)
 
-  module _ (t : List ℕ) (v : Value) (s z : Stepped) (left : ℕ) (p : run types s (owedBefore left (itemOf t v)) ≡ z) where
-    pub owed-steps : {u : Stepped} → 0 < left → u ≡ stepped types s Default → run types u (owedBefore (left - 1) (itemOf t v)) ≡ z
+  module _ (t : List ℕ) (v : Value) (s z : Stepped) (left : ℕ) (p : run types s (owing left (itemOf t v ∷ [])) ≡ z) where
+    pub owed-steps : {u : Stepped} → 0 < left → u ≡ stepped types s Default → run types u (owing (left - 1) (itemOf t v ∷ [])) ≡ z
     unfolding run
     owed-steps {u} h eu =
-        let vs : List Item = owedBefore (left - 1) (itemOf t v) in
+        let vs : List Item = owing (left - 1) (itemOf t v ∷ []) in
         ap (λ (g : Stepped). run types g vs) (eu ∙ sym (feed-stepped types t s Default)) ∙ sym (ap (run types s) (owed-first left (itemOf t v) h)) ∙ p
 
     pub owed-stepped : {u : Stepped} → left ≤ 0 → u ≡ stepped types s v → u ≡ z
@@ -112,6 +114,24 @@ module _ (types : List ℕ) where
     owed-stepped {u} h eu = eu ∙ sym (feed-stepped types t s v) ∙ sym (ap (run types s) (owed-none left (itemOf t v) h)) ∙ p
 
 pub ruleset owed = (owes-all, owed-more, owed-last, owed-steps, owed-stepped, wrote-length)
+
+-- where more of its kind follow and none is owed: its mark is that of the place, and one of it is left less
+pub given-runs : (f : List ℕ) (base lines first n owed : ℕ) (v : Value) {g : Stepped} {s u : State} → owed ≡ 0 → g ≡ Go s → {y : Bool} → y ≡ runsOn s v → y ≡ true
+    → u ≡ stand s (s .at) (s .left - 1) → {m : Bool} → m ≡ refers (kindAt s) → {o o′ : List ℕ} {at r : ℕ}
+    → Wrote o at (lineOf (value m (itemOf (textOf f base 64 lines) v)) ++ (10 ∷ [])) o′ r → r ≤ at + 1100 → GivenPut f base lines first n g owed v o at o′ (record { next = r; marks = Go u })
+given-runs f base lines first n owed v {g} {s} {u} z e {y} ey yt eu {m} em {o} {o′} {at} {r} w near =
+    let types : List ℕ = typesAt f first n in
+    let t : List ℕ = textOf f base 64 lines in
+    let low : owed ≤ 0 = omega arith in
+    let step : Go u ≡ stepped types g v = rw e (step-runs s u v (named types v) y ey yt eu) in
+    let mk : m ≡ mark g = rw e em in
+    record {
+      laid = owed-last types t v g owed (owes-all o at (valueBytes (markedFrom types g (owing owed (itemOf t v ∷ []))))) low mk w;
+      marks = owed-stepped types t v g (run types g (owing owed (itemOf t v ∷ []))) owed refl low step;
+      near = omega arith;
+    }
+
+pub ruleset given = (given-runs, runs-left, wrote-length)
 
 -- ---- all values
 
@@ -138,11 +158,11 @@ none-kept zero = refl
 none-kept (suc n) = ap (trim default) (none-kept n)
 
 -- defaults before a given value are kept
-some-kept : (n : ℕ) (v : Item) (vs : List Item) → isDefault v ≡ false → trimmed (replicate n default ++ (v ∷ vs)) ≡ owedBefore n v ++ trimmed vs
+some-kept : (n : ℕ) (v : Item) (vs : List Item) → isDefault v ≡ false → trimmed (replicate n default ++ (v ∷ vs)) ≡ owing n (v ∷ []) ++ trimmed vs
 some-kept zero v vs h = trimmed-first v vs h
 some-kept (suc n) v vs h = ap (trim default) (some-kept n v vs h) ∙ onto n
   where
-    onto : (k : ℕ) → trim default (owedBefore k v ++ trimmed vs) ≡ default ∷ (owedBefore k v ++ trimmed vs)
+    onto : (k : ℕ) → trim default (owing k (v ∷ []) ++ trimmed vs) ≡ default ∷ (owing k (v ∷ []) ++ trimmed vs)
     onto zero = refl
     onto (suc k) = refl
 
@@ -195,12 +215,6 @@ module _ (file : List ℕ) (base lines : ℕ) (st : Stands file base 64 lines) (
           owes-none (owes-same (p .owes) (ap (λ (l : List Item). valueBytes (markedFrom types g l)) e ∙ line-none types g))
 
       module _ (h : last ≡ false) where
-        -- what is left is not refused
-        pub values-read : Unrefused (valuesAt 64 c d t q)
-        values-read =
-            let l = left-some (p .is) h in
-            record { items = p .left; end = l .0; is = l .1 }
-
         module _ (i : q ≤ lines * 64) {y : Met} (ey : y ≡ metOf (valueAt 64 c d t q)) {b : Bool} (eb : b ≡ isMissing (y .value)) where
           abbrev met : First c d t (p .left) y
           met = first-met q i ey (p .left) (left-some (p .is) h .0) (left-some (p .is) h .1)
@@ -216,16 +230,16 @@ module _ (file : List ℕ) (base lines : ℕ) (st : Stands file base 64 lines) (
               record { left = us; is = met .is; owes = owes-same (p .owes) (ap (λ (l : List Item). valueBytes (markedFrom types g (trimmed l))) e) }
 
           -- a given value comes behind what was owed
-          pub values-given : b ≡ false → {o₂ : List ℕ} {r₂ : ℕ} {u : Stepped} → u ≡ run types g (owedBefore owed (itemOf t (y .value)))
-              → Wrote o₁ r₁ (valueBytes (markedFrom types g (owedBefore owed (itemOf t (y .value))))) o₂ r₂ → Owing types t c d o at bs o₂ r₂ u 0 (y .next) (y .last)
+          pub values-given : b ≡ false → {o₂ : List ℕ} {r₂ : ℕ} {u : Stepped} → u ≡ run types g (owing owed (itemOf t (y .value) ∷ []))
+              → Wrote o₁ r₁ (valueBytes (markedFrom types g (owing owed (itemOf t (y .value) ∷ [])))) o₂ r₂ → Owing types t c d o at bs o₂ r₂ u 0 (y .next) (y .last)
           values-given k {u = u} eu w =
               let v : Item = itemOf t (y .value) in
               let us : List Item = met .left in
-              let e : trimmed (replicate owed default ++ p .left) ≡ owedBefore owed v ++ trimmed us
+              let e : trimmed (replicate owed default ++ p .left) ≡ owing owed (v ∷ []) ++ trimmed us
               = ap (λ (l : List Item). trimmed (replicate owed default ++ l)) (met .whole) ∙ some-kept owed v us (missing t (y .value) ∙ sym eb ∙ k) in
-              let bytes : valueBytes (markedFrom types g (trimmed (replicate owed default ++ p .left))) ≡ valueBytes (markedFrom types g (owedBefore owed v)) ++ valueBytes (markedFrom types u (trimmed us))
-              = ap (λ (l : List Item). valueBytes (markedFrom types g l)) e ∙ lines-append types g (owedBefore owed v) (trimmed us)
-              ∙ ap (λ (z : Stepped). valueBytes (markedFrom types g (owedBefore owed v)) ++ valueBytes (markedFrom types z (trimmed us))) (sym eu) in
+              let bytes : valueBytes (markedFrom types g (trimmed (replicate owed default ++ p .left))) ≡ valueBytes (markedFrom types g (owing owed (v ∷ []))) ++ valueBytes (markedFrom types u (trimmed us))
+              = ap (λ (l : List Item). valueBytes (markedFrom types g l)) e ∙ lines-append types g (owing owed (v ∷ [])) (trimmed us)
+              ∙ ap (λ (z : Stepped). valueBytes (markedFrom types g (owing owed (v ∷ []))) ++ valueBytes (markedFrom types z (trimmed us))) (sym eu) in
               record { left = us; is = met .is; owes = owes-less (owes-same (p .owes) bytes) w }
 
     module _ {o bs o₁ : List ℕ} {at r₁ : ℕ} (g : Stepped) (owed q : ℕ) {last : Bool} (p : Owing types t c d o at bs o₁ r₁ g owed q last) (h : last ≡ false) (i : q ≤ lines * 64) {got : Got} (eg : got ≡ valueAt 64 c d t q) where
@@ -243,21 +257,9 @@ module _ (file : List ℕ) (base lines : ℕ) (st : Stands file base 64 lines) (
         pub found-default : b ≡ true → Owing types t c d o at bs o₁ r₁ g (owed + 1) next end
         found-default k = values-default g owed q p h i met-is eb k
 
-        pub found-given : b ≡ false → {o₂ : List ℕ} {r₂ : ℕ} {u : Stepped} → u ≡ run types g (owedBefore owed (itemOf t v))
-            → Wrote o₁ r₁ (valueBytes (markedFrom types g (owedBefore owed (itemOf t v)))) o₂ r₂ → Owing types t c d o at bs o₂ r₂ u 0 next end
+        pub found-given : b ≡ false → {o₂ : List ℕ} {r₂ : ℕ} {u : Stepped} → u ≡ run types g (owing owed (itemOf t v ∷ []))
+            → Wrote o₁ r₁ (valueBytes (markedFrom types g (owing owed (itemOf t v ∷ [])))) o₂ r₂ → Owing types t c d o at bs o₂ r₂ u 0 next end
         found-given k eu w = values-given g owed q p h i met-is eb k eu w
-
-        -- where it runs on: its mark is that of the place, and one of it is left less
-        pub found-runs : b ≡ false → (s′ u : State) → g ≡ Go s′ → owed ≡ 0 → (y : Bool) → y ≡ runsOn s′ v → y ≡ true → u ≡ stand s′ (s′ .at) (s′ .left - 1) → (m : Bool) → m ≡ refers (kindAt s′)
-            → {o₂ : List ℕ} {r₂ : ℕ} → Wrote o₁ r₁ (lineOf (value m (itemOf t v)) ++ (10 ∷ [])) o₂ r₂ → Owing types t c d o at bs o₂ r₂ (Go u) owed next end
-        found-runs k s′ u e′ z y ey yt eu m em w =
-            let low : owed ≤ 0 = omega arith in
-            let step : Go u ≡ stepped types g v = rw e′ (step-runs s′ u v (named types v) y ey yt eu) in
-            let mk : m ≡ mark g = rw e′ em in
-            let all = owes-all o₁ r₁ (valueBytes (markedFrom types g (owedBefore owed (itemOf t v)))) in
-            let next : Owing types t c d o at bs _ _ (Go u) 0 next end
-            = found-given k (owed-stepped types t v g (run types g (owedBefore owed (itemOf t v))) owed refl low step) (owed-last types t v g owed all low mk w) in
-            rw z next
 
   -- there is room for what is owed
   pub values-room : (at next owed q : ℕ) → q ≤ lines * 64 → next + 1100 * owed ≤ at + 1100 * q → at < 2 ^ 58 → next + 1100 * owed < 2 ^ 59

@@ -57,3 +57,12 @@ RowReads f first parameters c d i = EntryReads f parameters c d (entryAt f (firs
 -- those of n entries
 pub record RowsRead (f : List ℕ) (first n parameters c d : ℕ) : Type 0 where
   pub row : (i : ℕ) → i < n → RowReads f first parameters c d i
+
+-- what printing them needs of a file: it is no longer than a file may be, has all D lines, and P line 1 is no further behind;
+-- c and d are delimiters
+pub record Printable (f : List ℕ) (first n parameters c d : ℕ) : Type 0 where
+  pub file-short : length f ≤ 16200000
+  pub parameter : 0 < c
+  pub closing : 0 < d
+  pub directory-there : 81 * (first + 2 * n) ≤ length f
+  pub parameters-near : parameters ≤ 200000

@@ -10,7 +10,7 @@ ghost use lib.ListN.{length};
 ghost use Rattle.columns.specs.Columns.{textOf};
 ghost use Rattle.columns.specs.Laid.{Wrote};
 ghost use Rattle.records.specs.Reading.{Stands};
-ghost use Rattle.print.specs.Rows.{RowsRead};
+ghost use Rattle.print.specs.Rows.{RowsRead, Printable};
 ghost use Rattle.print.specs.Whole.{fieldBytes, wholeBytes};
 
 // The G lines: none if the record ends with its opening.
@@ -51,7 +51,8 @@ pub fn put_sheet(
     from: usize,
     last: bool,
 ) -> usize
-    requires { ⌜ (length (now file) ≤ 16200000) × (81 * (s + g + 2 * n) ≤ length (now file)) × (parameters ≤ 200000) × (from ≤ g * 72) × (0 < c) × (0 < d) × (at < 2 ^ 55) × RowsRead (now file) (s + g) n parameters c d ⌝ }
+    requires { ⌜ Printable (now file) (s + g) n parameters c d × (from ≤ g * 72) × (at < 2 ^ 55) ⌝ }
+    requires { ⌜ RowsRead (now file) (s + g) n parameters c d ⌝ }
     ensures { λ r. ⌜ Wrote (now (out .entry)) at (wholeBytes list (now (file .entry)) s g n parameters c d from last) (now (out .exit)) r ⌝ }
     ensures { λ r. ⌜ r ≤ at + 2 ^ 52 ⌝ }
 {

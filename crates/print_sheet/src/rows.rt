@@ -19,7 +19,6 @@ ghost use lib.ListN.{length};
 ghost use Rattle.columns.specs.Columns.{textOf};
 ghost use Rattle.columns.specs.Laid.{Wrote};
 ghost use Rattle.records.specs.Record.{valuesAt};
-ghost use Rattle.records.specs.Reading.{Stands};
 ghost use Rattle.directory.specs.Lines.{labelAt};
 ghost use Rattle.directory.specs.Naming.{typesAt};
 ghost use Rattle.layouts.specs.Known.{known};
@@ -27,8 +26,8 @@ ghost use Rattle.sheets.specs.Plain.{sized};
 ghost use Rattle.sheets.specs.Sheet.{Line, lineOf};
 ghost use Rattle.read_entities.specs.Marks.{carriedIn};
 ghost use Rattle.print.specs.Bytes.{entityBytes};
-ghost use Rattle.print.specs.Taking.{Unrefused};
-ghost use Rattle.print.specs.Rows.{speltBytes, rowBytes, rowsBytes, SpeltReads, RowReads, RowsRead};
+ghost use Rattle.print.specs.Taking.{ValuesStand};
+ghost use Rattle.print.specs.Rows.{speltBytes, rowBytes, rowsBytes, SpeltReads, RowReads, RowsRead, Printable};
 
 // The columns of a label.
 const LABEL: usize = 8;
@@ -71,7 +70,7 @@ pub fn put_entity(
     first: usize,
     n: usize,
 ) -> usize
-    requires { ⌜ Stands (now file) base 64 lines × (0 < c) × (0 < d) × (81 * (first + 2 * n) ≤ length (now file)) × (81 * k + 162 ≤ length (now file)) × (at < 2 ^ 57) × Unrefused (valuesAt 64 c d (textOf (now file) base 64 lines) 0) ⌝ }
+    requires { ⌜ ValuesStand (now file) base lines c d first n × (81 * k + 162 ≤ length (now file)) × (at < 2 ^ 57) ⌝ }
     ensures { λ r. ⌜ Wrote (now (out .entry)) at (entityBytes list (typesAt (now (file .entry)) first n) (number .0) x (labelAt (now (file .entry)) k) (carriedIn (valuesAt 64 c d (textOf (now (file .entry)) base 64 lines) 0))) (now (out .exit)) r ⌝ }
     ensures { λ r. ⌜ r ≤ at + 388 + 70400 * lines ⌝ }
 {
@@ -120,7 +119,8 @@ fn put_spelt(
     pointer: ParameterLine,
     count: u32,
 ) -> usize
-    requires { ⌜ (length (now file) ≤ 16200000) × (0 < c) × (0 < d) × (81 * (first + 2 * n) ≤ length (now file)) × (i < n) × (parameters ≤ 200000) × (at < 2 ^ 57) × SpeltReads (now file) parameters c d (pointer .0) count ⌝ }
+    requires { ⌜ Printable (now file) first n parameters c d × (i < n) × (at < 2 ^ 57) ⌝ }
+    requires { ⌜ SpeltReads (now file) parameters c d (pointer .0) count ⌝ }
     ensures { λ r. ⌜ Wrote (now (out .entry)) at (speltBytes list (now (file .entry)) first n parameters c d i x (pointer .0) count) (now (out .exit)) r ⌝ }
     ensures { λ r. ⌜ r ≤ at + 15000000000 ⌝ }
 {
@@ -163,7 +163,8 @@ fn put_row(
     d: u8,
     i: usize,
 ) -> usize
-    requires { ⌜ (length (now file) ≤ 16200000) × (0 < c) × (0 < d) × (81 * (first + 2 * n) ≤ length (now file)) × (i < n) × (parameters ≤ 200000) × (at < 2 ^ 57) × RowReads (now file) first parameters c d i ⌝ }
+    requires { ⌜ Printable (now file) first n parameters c d × (i < n) × (at < 2 ^ 57) ⌝ }
+    requires { ⌜ RowReads (now file) first parameters c d i ⌝ }
     ensures { λ r. ⌜ Wrote (now (out .entry)) at (rowBytes list (now (file .entry)) first n parameters c d i) (now (out .exit)) r ⌝ }
     ensures { λ r. ⌜ r ≤ at + 15000000000 ⌝ }
 {
@@ -203,7 +204,8 @@ pub fn put_rows(
     c: u8,
     d: u8,
 ) -> usize
-    requires { ⌜ (length (now file) ≤ 16200000) × (0 < c) × (0 < d) × (81 * (first + 2 * n) ≤ length (now file)) × (parameters ≤ 200000) × (at < 2 ^ 56) × RowsRead (now file) first n parameters c d ⌝ }
+    requires { ⌜ Printable (now file) first n parameters c d × (at < 2 ^ 56) ⌝ }
+    requires { ⌜ RowsRead (now file) first n parameters c d ⌝ }
     ensures { λ r. ⌜ Wrote (now (out .entry)) at (rowsBytes list (now (file .entry)) first n parameters c d 0 n ++ (lineOf (Line.last n) ++ (10 ∷ []))) (now (out .exit)) r ⌝ }
     ensures { λ r. ⌜ r ≤ at + 15000000000 * n + 23 ⌝ }
 {

@@ -15,19 +15,14 @@ use records::Got;
 use records_read::value_at;
 use values::Value;
 use values::is_missing;
-ghost use mathlib.Core.Path.{_≡_};
 ghost use Prim.Native.Nat.{_+_, _*_, _^_, _≤_, _<_};
-ghost use lib.ListN.{length};
 ghost use Rattle.columns.specs.Columns.{textOf};
 ghost use Rattle.columns.specs.Laid.{Wrote};
-ghost use Rattle.values.specs.Value.{itemOf};
 ghost use Rattle.records.specs.Record.{valuesAt};
-ghost use Rattle.records.specs.Reading.{Stands, Writable};
 ghost use Rattle.directory.specs.Naming.{typesAt};
-ghost use Rattle.layouts.specs.Walk.{run};
 ghost use Rattle.read_entities.specs.Marks.{carriedIn, marksBegun, markedFrom};
 ghost use Rattle.print.specs.Bytes.{valueBytes};
-ghost use Rattle.print.specs.Taking.{Unrefused, owedBefore};
+ghost use Rattle.print.specs.Taking.{ValuesStand, GivenStands, GivenPut};
 
 // The lines of the defaults owed before a given value, and its own.
 fn put_owed(
@@ -42,10 +37,8 @@ fn put_owed(
     owed: usize,
     v: Value,
 ) -> Behind
-    requires { ⌜ Stands (now file) base 64 lines × Writable (lines * 64) v × (81 * (first + 2 * n) ≤ length (now file)) × (at + 1100 * owed < 2 ^ 59) ⌝ }
-    ensures { λ r. ⌜ Wrote (now (out .entry)) at (valueBytes (markedFrom (typesAt (now (file .entry)) first n) g (owedBefore owed (itemOf (textOf (now (file .entry)) base 64 lines) v)))) (now (out .exit)) (r .next) ⌝ }
-    ensures { λ r. ⌜ r .marks ≡ run (typesAt (now (file .entry)) first n) g (owedBefore owed (itemOf (textOf (now (file .entry)) base 64 lines) v)) ⌝ }
-    ensures { λ r. ⌜ r .next ≤ at + 1100 * owed + 1100 ⌝ }
+    requires { ⌜ GivenStands (now file) base lines first n owed v at ⌝ }
+    ensures { λ r. ⌜ GivenPut (now (file .entry)) base lines first n g owed v (now (out .entry)) at (now (out .exit)) r ⌝ }
 {
     let mut s = g;
     let mut left = owed;
@@ -62,8 +55,40 @@ fn put_owed(
     Behind { next: end, marks }
 }
 
-// The values behind the type, up to the last that is no default, each with its mark. Most are reals where more of their kind follow, with no default owed before
+// The same by a quick way where there is one. Most values are reals where more of their kind follow, with no default owed before
 // them: they are answered here, for a state or a value that is passed on is copied through memory.
+fn put_given(
+    out: &mut [u8],
+    at: usize,
+    file: &[u8],
+    base: usize,
+    lines: usize,
+    first: usize,
+    n: usize,
+    g: Stepped,
+    owed: usize,
+    v: Value,
+) -> Behind
+    requires { ⌜ GivenStands (now file) base lines first n owed v at ⌝ }
+    ensures { λ r. ⌜ GivenPut (now (file .entry)) base lines first n g owed v (now (out .entry)) at (now (out .exit)) r ⌝ }
+{
+    if owed == 0 {
+        match g {
+            Stepped::Go(s) => {
+                if runs_on(s, v) {
+                    let reference = is_reference(s);
+                    let next = put_mostly_real(out, at, file, base, lines, reference, v);
+                    let marks = Stepped::Go(with_left(s, s.left - 1));
+                    return Behind { next, marks };
+                }
+            }
+            Stepped::Bad => {}
+        }
+    }
+    put_owed(out, at, file, base, lines, first, n, g, owed, v)
+}
+
+// The values behind the type, up to the last that is no default, each with its mark.
 pub fn put_values(
     out: &mut [u8],
     at: usize,
@@ -78,7 +103,7 @@ pub fn put_values(
     first: usize,
     n: usize,
 ) -> usize
-    requires { ⌜ Stands (now file) base 64 lines × (0 < c) × (0 < d) × (81 * (first + 2 * n) ≤ length (now file)) × (at < 2 ^ 58) × Unrefused (valuesAt 64 c d (textOf (now file) base 64 lines) 0) ⌝ }
+    requires { ⌜ ValuesStand (now file) base lines c d first n × (at < 2 ^ 58) ⌝ }
     ensures { λ r. ⌜ Wrote (now (out .entry)) at (valueBytes (markedFrom (typesAt (now (file .entry)) first n) (marksBegun list typ form) (carriedIn (valuesAt 64 c d (textOf (now (file .entry)) base 64 lines) 0)))) (now (out .exit)) r ⌝ }
     ensures { λ r. ⌜ r ≤ at + 70400 * lines ⌝ }
 {
@@ -110,28 +135,7 @@ pub fn put_values(
                     owed += 1;
                     continue;
                 }
-                if owed == 0 {
-                    match g {
-                        Stepped::Go(s) => {
-                            if runs_on(s, value) {
-                                let reference = is_reference(s);
-                                next = put_mostly_real(
-                                    out,
-                                    next,
-                                    file,
-                                    base,
-                                    lines,
-                                    reference,
-                                    value,
-                                );
-                                g = Stepped::Go(with_left(s, s.left - 1));
-                                continue;
-                            }
-                        }
-                        Stepped::Bad => {}
-                    }
-                }
-                let z = put_owed(out, next, file, base, lines, first, n, g, owed, value);
+                let z = put_given(out, next, file, base, lines, first, n, g, owed, value);
                 g = z.marks;
                 next = z.next;
                 owed = 0;

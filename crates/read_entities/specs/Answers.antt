@@ -18,6 +18,9 @@ use Rattle.layouts.specs.Walk.{ended}
 use Rattle.model.specs.Read.{isType}
 use Rattle.read_entities.specs.declared.EntityAnswer.{EntityAnswer}
 use Rattle.read_entities.specs.declared.EntityAnswer.the-variants.{Good, Refused}
+use Rattle.read_entities.specs.declared.Walked.{Walked}
+use Rattle.read_entities.specs.declared.Walked.the-variants.{Done, Wrong}
+use Rattle.read_entities.specs.declared.Weighed.{Weighed}
 use Rattle.read_entities.specs.Taking.{entityWith}
 
 -- an outcome without its value and its place
@@ -51,3 +54,8 @@ verdictAnswer LayoutReference = Refused LayoutReferenceFault
 -- by whether the first value is the type, whether the list knows the entity, and where its layout stands behind its values
 abbrev pub passAnswer : Bool → Bool → Stepped → EntityAnswer
 passAnswer typed inside g = cond typed (cond inside (verdictAnswer (ended g)) Good) (Refused FirstValue)
+
+-- the same by the walk over its values, with the bytes of their lines
+unfoldable pub weighedOf : Bool → Bool → Walked → Weighed
+weighedOf typed inside (Done state size) = record { answer = passAnswer typed inside state; length = size }
+weighedOf typed inside (Wrong fault) = record { answer = Refused fault; length = 0 }

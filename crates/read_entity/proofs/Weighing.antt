@@ -30,8 +30,9 @@ use Rattle.read_entities.specs.declared.EntityAnswer.{EntityAnswer}
 use Rattle.read_entities.specs.declared.EntityAnswer.the-variants.{Good, Refused}
 use Rattle.read_entities.specs.declared.Walked.{Walked}
 use Rattle.read_entities.specs.declared.Walked.the-variants.{Done, Wrong}
+use Rattle.read_entities.specs.declared.Weighed.{Weighed}
 use Rattle.read_entities.specs.Taking.{entityWith}
-use Rattle.read_entities.specs.Answers.{entityAnswer, entityPassOf, typeRead, verdictAnswer, passAnswer}
+use Rattle.read_entities.specs.Answers.{entityAnswer, entityPassOf, typeRead, verdictAnswer, passAnswer, weighedOf}
 use Rattle.read_entities.specs.Marks.{carriedIn, marksBegun}
 use Rattle.read_entities.specs.Walking.{carriedLength, owing, walkedFrom, Light}
 use Rattle.read_entities.proofs.Passes.{read-type, answer-fault}
@@ -55,6 +56,17 @@ module _ (typed inside : Bool) (g : Stepped) where
       answer-bad q = rw (e, h, q)
 
 pub ruleset answers = (not-true, not-false, answer-first, answer-outside, answer-go, answer-bad)
+
+module _ (typed inside : Bool) {w : Walked} where
+  pub weighed-wrong : {f : Fault} → w ≡ Wrong f → record { answer = Refused f; length = 0 } ≡ weighedOf typed inside w
+  unfolding weighedOf
+  weighed-wrong e = rw e
+
+  pub weighed-done : {u : Stepped} {size : ℕ} {a : EntityAnswer} → w ≡ Done u size → a ≡ passAnswer typed inside u → record { answer = a; length = size } ≡ weighedOf typed inside w
+  unfolding weighedOf
+  weighed-done e ea = rw (e, ea)
+
+pub ruleset weighed = (weighed-wrong, weighed-done)
 
 -- ---- its values
 
@@ -111,14 +123,21 @@ module _ {c d : ℕ} (pc : 0 < c) (pd : 0 < d) (t : List ℕ) {got : Got} (eg : 
       whole : carriedLength (carriedIn (more (itemOf t v) (valuesAt 64 c d t next))) ≡ carriedLength (carriedIn (valuesAt 64 c d t 0))
       whole = sym (ap (λ (vs : Values). carriedLength (carriedIn vs)) (at-more 64 c d t pc pd 0 (omega arith) (sym eg ∙ e ∙ ap (Found v s next) l)))
 
-      pub weigh-wrong : {f : Fault} → w ≡ Wrong f → 0 ≡ carriedLength (carriedIn (valuesAt 64 c d t 0))
-      weigh-wrong {f} h = none-carried types (itemOf t v) (valuesAt 64 c d t next) g f (sym ew ∙ h) ∙ whole
+      pub weigh-walked : (typed inside : Bool) {r : Weighed} → r ≡ weighedOf typed inside w → r .length ≡ carriedLength (carriedIn (valuesAt 64 c d t 0))
+      unfolding weighedOf
+      weigh-walked typed inside er = ap (λ (y : Weighed). y .length) er ∙ by w ew
+        where
+          by : (x : Walked) → x ≡ walkedFrom types g 0 0 (valuesAt 64 c d t next) → weighedOf typed inside x .length ≡ carriedLength (carriedIn (valuesAt 64 c d t 0))
+          by (Wrong f) ex = none-carried types (itemOf t v) (valuesAt 64 c d t next) g f (sym ex) ∙ whole
+          by (Done u size) ex = all-carried types (itemOf t v) (valuesAt 64 c d t next) g u size (sym ex) ∙ whole
 
-      pub weigh-done : {u : Stepped} {size : ℕ} → w ≡ Done u size → size ≡ carriedLength (carriedIn (valuesAt 64 c d t 0))
-      weigh-done {u} {size} h = all-carried types (itemOf t v) (valuesAt 64 c d t next) g u size (sym ew ∙ h) ∙ whole
-
-pub weigh-light : (m : ℕ) {w : Walked} {u : Stepped} {size : ℕ} → w ≡ Done u size → Light m w → size ≤ m
-weigh-light m e h = rw e at h
+pub weigh-light : (m : ℕ) (w : Walked) (typed inside : Bool) {r : Weighed} → r ≡ weighedOf typed inside w → Light m w → r .length ≤ m
+unfolding weighedOf
+weigh-light m w typed inside er h = by w er h
+  where
+    by : {r : Weighed} (x : Walked) → r ≡ weighedOf typed inside x → Light m x → r .length ≤ m
+    by (Wrong f) e l = let k = ap (λ (y : Weighed). y .length) e in omega arith
+    by (Done u size) e l = let k = ap (λ (y : Weighed). y .length) e in omega arith
 
 -- ---- the pass
 
@@ -143,12 +162,13 @@ module _ (list : ℕ) (types : List ℕ) (typ form : ℕ) where
         rest : valuesAt 64 c d t 0 ≡ more (itemOf t v) (valuesAt 64 c d t next)
         rest = at-more 64 c d t pc pd 0 (omega arith) (sym eg ∙ e ∙ ap (Found v s next) l)
 
-        pub pass-wrong : {f : Fault} → w ≡ Wrong f → Refused f ≡ entityPassOf list types typ form (valuesAt 64 c d t 0)
-        pass-wrong {f} h = values-wrong list types typ form (itemOf t v) (valuesAt 64 c d t next) g f (sym ew ∙ h) ∙ sym (ap (entityPassOf list types typ form) rest)
+        pub pass-walked : {r : Weighed} → r ≡ weighedOf typed inside w → r .answer ≡ entityPassOf list types typ form (valuesAt 64 c d t 0)
+        unfolding weighedOf
+        pass-walked er = ap (λ (y : Weighed). y .answer) er ∙ by w ew ∙ sym (ap (entityPassOf list types typ form) rest)
+          where
+            by : (x : Walked) → x ≡ walkedFrom types g 0 0 (valuesAt 64 c d t next) → weighedOf typed inside x .answer ≡ entityPassOf list types typ form (more (itemOf t v) (valuesAt 64 c d t next))
+            by (Wrong f) ex = values-wrong list types typ form (itemOf t v) (valuesAt 64 c d t next) g f (sym ex)
+            by (Done u size) ex =
+                rw (its-type, ei) (values-done list types typ form (itemOf t v) (valuesAt 64 c d t next) u size (ap (λ (y : Stepped). walkedFrom types y 0 0 (valuesAt 64 c d t next)) (sym eb) ∙ sym ex))
 
-        pub pass-done : {u : Stepped} {size : ℕ} {r : EntityAnswer} → w ≡ Done u size → r ≡ passAnswer typed inside u → r ≡ entityPassOf list types typ form (valuesAt 64 c d t 0)
-        pass-done {u} {size} h er =
-            er ∙ rw (its-type, ei) (values-done list types typ form (itemOf t v) (valuesAt 64 c d t next) u size (ap (λ (x : Stepped). walkedFrom types x 0 0 (valuesAt 64 c d t next)) (sym eb) ∙ sym ew ∙ h))
-            ∙ sym (ap (entityPassOf list types typ form) rest)
-
-pub ruleset passes = (pass-refused, pass-single, pass-wrong, pass-done, weigh-refused, weigh-single, weigh-wrong, weigh-done, weigh-light, next-in)
+pub ruleset passes = (pass-refused, pass-single, pass-walked, weigh-refused, weigh-single, weigh-walked, weigh-light, next-in)

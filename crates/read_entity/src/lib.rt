@@ -22,7 +22,7 @@ ghost use Rattle.records.specs.Reading.{Stands};
 ghost use Rattle.directory.specs.Naming.{typesAt};
 ghost use Rattle.read_entities.specs.Marks.{carriedIn};
 ghost use Rattle.read_entities.specs.Walking.{carriedLength};
-ghost use Rattle.read_entities.specs.Answers.{typeRead, verdictAnswer, passAnswer, entityPassOf};
+ghost use Rattle.read_entities.specs.Answers.{typeRead, verdictAnswer, passAnswer, weighedOf, entityPassOf};
 
 // Whether a value is the integer type.
 fn is_type(typ: u32, v: Value) -> bool
@@ -77,6 +77,22 @@ fn pass_answer(typed: bool, inside: bool, g: Stepped) -> EntityAnswer
     }
 }
 
+// The same by the walk over its values, with the bytes of their lines.
+fn weighed_by(typed: bool, inside: bool, walked: Walked) -> Weighed
+    ensures { λ r. ⌜ r ≡ weighedOf typed inside walked ⌝ }
+{
+    match walked {
+        Walked::Wrong(fault) => Weighed {
+            answer: EntityAnswer::Refused(fault),
+            length: 0,
+        },
+        Walked::Done { state, length } => {
+            let answer = pass_answer(typed, inside, state);
+            Weighed { answer, length }
+        }
+    }
+}
+
 // The entity of this type and form whose record stands in so many P lines from base on. The values behind the first are those
 // of its layout, up to the last that is no default.
 pub fn entity_pass(
@@ -120,16 +136,7 @@ pub fn entity_pass(
                 return Weighed { answer, length: 0 };
             }
             let walked = walk(file, base, lines, c, d, next, begun, first, n);
-            match walked {
-                Walked::Wrong(fault) => Weighed {
-                    answer: EntityAnswer::Refused(fault),
-                    length: 0,
-                },
-                Walked::Done { state, length } => {
-                    let answer = pass_answer(typed, inside, state);
-                    Weighed { answer, length }
-                }
-            }
+            weighed_by(typed, inside, walked)
         }
     }
 }

@@ -21,7 +21,7 @@ use Rattle.records.specs.Reading.{Stands, Delimits}
 use Rattle.records.proofs.Globals.{opening-in}
 use Rattle.sheets.specs.Sheet.{sheetText}
 use Rattle.model.specs.Model.{Carried, sheetOf}
-use Rattle.model.specs.Read.{GlobalRead, startText, given, globalText, byOpening, globalIn, lastPass, modelWith, reads}
+use Rattle.model.specs.Read.{GlobalRead, startText, given, globalText, globalIn, lastPass, modelWith, reads}
 use Rattle.read_passes.specs.Listed.{entryOf, entriesFrom, allEntries}
 use Rattle.read_passes.specs.Ready.{Ready}
 use Rattle.read_passes.proofs.Facts.{entered}
@@ -32,10 +32,11 @@ use Rattle.read_weights.specs.Weights.{rowsFrom, rowsLength}
 use Rattle.read_weights.proofs.Last.{last-any}
 use Rattle.read_weights.proofs.Facts.{Modelled, checked-model, checked-passed, checked-ready, checked-parameter, checked-closing, checked-sheet}
 use Rattle.print.specs.Bytes.{startBytes, globalBytes, valuesIn}
+use Rattle.print.specs.Rows.{Printable}
 use Rattle.print.specs.Whole.{fieldBytes, wholeBytes}
 use Rattle.print.proofs.Listed.{Roomy}
 use Rattle.print.proofs.Demand.{whole-sheet}
-use Rattle.print.proofs.Opened.{opened-read}
+use Rattle.print.proofs.Opened.{opened-read, opening-right}
 use Rattle.desk.specs.Reading.{bytesOf, sheetIn}
 
 -- ---- the P lines of each entry stand in the file
@@ -80,10 +81,6 @@ module _ (list : ℕ) (f : List ℕ) (c : Counts) (p d : ℕ) (h : Good c p d �
   globals-are : globalIn f c ≡ accepted said
   globals-are = sym (ap (globalIn f) (model .told .counts)) ∙ checked-passed list f (Good c p d) h c p d refl .globals
 
-  opening-says : (o : Opening) → openingOf (globalText f c) ≡ o → byOpening c (globalText f c) o ≡ accepted said
-  unfolding globalIn
-  opening-says o e = sym (ap (byOpening c (globalText f c)) e) ∙ globals-are
-
   -- ---- what the calls need
 
   pub file-small : length f ≤ 16200000
@@ -91,12 +88,6 @@ module _ (list : ℕ) (f : List ℕ) (c : Counts) (p d : ℕ) (h : Good c p d �
 
   pub opening-stands : (s g : ℕ) → s ≡ c .s → g ≡ c .g → Stands f (81 * s) 72 g
   opening-stands s g es eg = record { wide = omega arith; narrow = omega arith; size = file-small; inside = omega (arith, ready .holds .size) }
-
-  pub sheet-inside : (s g b : ℕ) → s ≡ c .s → g ≡ c .g → b ≡ c .d → 81 * (s + g + 2 * (b / 2)) ≤ length f
-  sheet-inside s g b es eg eb = omega (arith, ready .holds .size, ready .holds .even)
-
-  pub first-small : (q : ℕ) → q ≡ parameterLine c 1 → q ≤ 200000
-  first-small q e = omega (arith, ready .holds .most)
 
   pub opening-within : (g : ℕ) (o : Opening) (x y next : ℕ) (last : Bool) → g ≡ c .g → Delimits 8 o → o ≡ Opened x y next last → next ≤ g * 72
   opening-within g o x y next last eg k e = omega (arith, opening-in 8 e k, ready .holds .has-g)
@@ -107,6 +98,15 @@ module _ (list : ℕ) (f : List ℕ) (c : Counts) (p d : ℕ) (h : Good c p d �
   pub closing-some : 0 < d
   closing-some = checked-closing list f (Good c p d) h c p d refl
 
+  pub sheet-printable : (s g b q : ℕ) → s ≡ c .s → g ≡ c .g → b ≡ c .d → q ≡ parameterLine c 1 → Printable f (s + g) (b / 2) q p d
+  sheet-printable s g b q es eg eb eq = record {
+    file-short = file-small;
+    parameter = parameter-some;
+    closing = closing-some;
+    directory-there = omega (arith, ready .holds .size, ready .holds .even);
+    parameters-near = omega (arith, ready .holds .most);
+  }
+
   -- ---- what is printed
 
   module _ (s g : ℕ) (es : s ≡ c .s) (eg : g ≡ c .g) (o : Opening) (eo : o ≡ openingOf (textOf f (81 * s) 72 g)) where
@@ -115,15 +115,12 @@ module _ (list : ℕ) (f : List ℕ) (c : Counts) (p d : ℕ) (h : Good c p d �
 
     -- a wrong opening was refused
     pub opening-never : (u : List ℕ) (bs : List ℕ) → o ≡ Wrong → Wrote u 0 bs u 0
-    opening-never u bs e =
-        let k : byOpening c (globalText f c) Wrong ≡ accepted said = opening-says Wrong (opening-is ∙ e) in
-        let z : _≡_ {A = ℕ} 0 1 = cc in
-        absurd (omega arith)
+    opening-never u bs e = absurd (opening-right f c said globals-are (opening-is ∙ e))
 
     whole-is : (b q x y next : ℕ) (last : Bool) → b ≡ c .d → q ≡ parameterLine c 1 → o ≡ Opened x y next last → wholeBytes list f s g (b / 2) q p d next last ≡ sheetIn list f
     whole-is b q x y next last eb eq e =
         let t : List ℕ = globalText f c in
-        let a = opened-read c t x y next said last (opening-says (Opened x y next last) (opening-is ∙ e)) in
+        let a = opened-read f c x y next last said (opening-is ∙ e) globals-are in
         let fields : fieldBytes (said .parameter) (said .record-end) t next last ≡ globalBytes (said .fields) = ap₂ (λ (i j : ℕ). fieldBytes i j t next last) (a .0) (a .1) ∙ a .2 in
         let passes : lastPass list f c said (allEntries f c) ≡ accepted carry
         = last-any list f c p d said (allEntries f c) (model .told .parameter) (model .told .closing) ∙ model .passes in
@@ -140,10 +137,7 @@ module _ (list : ℕ) (f : List ℕ) (c : Counts) (p d : ℕ) (h : Good c p d �
     -- ---- how long it is
 
     pub measured-never : (k : ℕ) → o ≡ Wrong → 0 ≡ k
-    measured-never k e =
-        let q : byOpening c (globalText f c) Wrong ≡ accepted said = opening-says Wrong (opening-is ∙ e) in
-        let z : _≡_ {A = ℕ} 0 1 = cc in
-        absurd (omega arith)
+    measured-never k e = absurd (opening-right f c said globals-are (opening-is ∙ e))
 
     whole-length : (next : ℕ) (last : Bool) → length (wholeBytes list f s g (entries c) (firstP c) p d next last)
         ≡ length (startBytes (map (startText f) (upFrom 0 s))) + (length (fieldBytes p d (textOf f (81 * s) 72 g) next last) + rowsLength list f c p d)
@@ -184,4 +178,4 @@ pub ruleset fielding = (fields-none, fields-some)
 
 pub ruleset measures = (file-small, opening-stands, opening-within, parameter-some, closing-some, measured-never, measured, starts-inside, starts-few, two-fit, three-fit)
 
-pub ruleset sheets = (file-small, opening-stands, sheet-inside, first-small, opening-within, parameter-some, closing-some, opening-never, sheet-whole, wrote-length)
+pub ruleset sheets = (file-small, opening-stands, sheet-printable, opening-within, parameter-some, closing-some, opening-never, sheet-whole, wrote-length)

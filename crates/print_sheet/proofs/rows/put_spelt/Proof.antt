@@ -18,6 +18,10 @@ put-spelt-spec =
     (λ c. search (needs, row))
     (λ c. search (needs, row))
     (λ c κs. search (needs, row))
-    (λ c κs. (search (needs, row), search needs, search needs, search needs, search needs, search needs, search (needs, row)))
+    (λ c κs. (
+      record { stands = search (needs, row); parameter = search needs; closing = search needs; directory-there = search needs; unrefused = search (needs, row) },
+      search needs,
+      search needs,
+    ))
     (λ c. search (needs, row))
     (λ c. search (needs, row)))
