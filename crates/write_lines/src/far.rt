@@ -8,6 +8,7 @@
 // dozen such looks and the bytes of one part, whatever the entries' lengths are.
 use crate::table::PARTS;
 use columns::DirectoryNumber;
+use columns::byte_u32;
 use references::NO_ENTRY;
 use sheets_numbers::tabbed_at;
 ghost use mathlib.Core.Path.{_≡_};
@@ -17,20 +18,13 @@ ghost use Rattle.references.specs.References.{classOf};
 ghost use Rattle.write_lines.specs.Classes.{tableSize, Tabled};
 ghost use Rattle.write_lines.specs.Shown.{beginsEntry, EntryAt, tabbedNumber, Shown};
 
-fn wide(b: u8) -> u32
-    ensures { λ r. ⌜ r ≡ b ⌝ }
-    ensures { λ r. ⌜ r < 256 ⌝ }
-{
-    b as u32
-}
-
 // What the table tells of part q, in four bytes.
 fn told(table: &[u8], q: usize) -> DirectoryNumber
     requires { ⌜ (q < 16666) × (length (now table) ≡ tableSize) ⌝ }
 {
     let i = 4 * q;
-    let low = wide(table[i]) + 256 * wide(table[i + 1]);
-    let high = wide(table[i + 2]) + 256 * wide(table[i + 3]);
+    let low = byte_u32(table[i]) + 256 * byte_u32(table[i + 1]);
+    let high = byte_u32(table[i + 2]) + 256 * byte_u32(table[i + 3]);
     DirectoryNumber(low + 65536 * high)
 }
 
@@ -98,7 +92,7 @@ fn number_at(t: &[u8], at: usize) -> DirectoryNumber
         if 400000000 < number {
             return DirectoryNumber(number);
         }
-        number = number * 10 + wide(t[i] - 48);
+        number = number * 10 + byte_u32(t[i] - 48);
         i += 1;
     }
     DirectoryNumber(number)
