@@ -15,7 +15,7 @@ fn line_ok(file: &[u8], at: usize) -> bool
     requires { ⌜ at + lineBytes ≤ length (now file) ⌝ }
     ensures { λ r. ⌜ r ≡ lineOk (columns (now (file .entry)) at (at + lineBytes)) ⌝ }
 {
-    file[at + 80] == 10 && columns::look::is_printable(file, at, at + 80)
+    file[at + 80] == b'\n' && columns::look::is_printable(file, at, at + 80)
 }
 
 // A line that needs the section before it, and nothing of a later section.
@@ -47,22 +47,22 @@ fn place(c: Counts, left: usize, letter: u8) -> Placed
     let d = c.d;
     let p = c.p;
     let t = c.t;
-    if letter == 84 {
+    if letter == b'T' {
         return here_if(g, t, counted(s, g, d, p, t + 1), t + 1);
     }
     if left == 0 {
         return Placed::Nowhere;
     }
-    if letter == 83 {
+    if letter == b'S' {
         return here_if(1, g + d + p + t, counted(s + 1, g, d, p, t), s + 1);
     }
-    if letter == 71 {
+    if letter == b'G' {
         return here_if(s, d + p + t, counted(s, g + 1, d, p, t), g + 1);
     }
-    if letter == 68 {
+    if letter == b'D' {
         return here_if(g, p + t, counted(s, g, d + 1, p, t), d + 1);
     }
-    if letter == 80 {
+    if letter == b'P' {
         return here_if(g, t, counted(s, g, d, p + 1, t), p + 1);
     }
     Placed::Nowhere

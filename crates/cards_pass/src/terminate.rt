@@ -34,10 +34,10 @@ pub fn closes_at(file: &[u8], k: usize, c: Counts) -> bool
     if c.d % 2 != 0 {
         return false;
     }
-    let s = tells_at(file, at, 83, c.s);
-    let g = tells_at(file, at + 8, 71, c.g);
-    let d = tells_at(file, at + 16, 68, c.d);
-    let p = tells_at(file, at + 24, 80, c.p);
+    let s = tells_at(file, at, b'S', c.s);
+    let g = tells_at(file, at + 8, b'G', c.g);
+    let d = tells_at(file, at + 16, b'D', c.d);
+    let p = tells_at(file, at + 24, b'P', c.p);
     let b = columns::look::is_blank(file, at + 32, at + 72);
     all_five(s, g, d, p, b)
 }

@@ -18,7 +18,7 @@ pub fn is_blank(s: &[u8], at: usize, end: usize) -> bool
 {
     let mut i = at;
     while i < end {
-        if s[i] != 32 {
+        if s[i] != b' ' {
             return false;
         }
         i += 1;

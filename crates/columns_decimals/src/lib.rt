@@ -14,7 +14,7 @@ fn digit(n: u64) -> u8
     requires { ⌜ n < 10 ⌝ }
     ensures { λ r. ⌜ r ≡ 48 + n ⌝ }
 {
-    48 + n as u8
+    b'0' + n as u8
 }
 
 // Writes n, whose digits end before `end`, from the last to the first.
@@ -145,7 +145,7 @@ pub fn put_signed(out: &mut [u8], at: usize, x: Signed) -> usize
     let neg = x.neg;
     let size = x.size as u64;
     if neg {
-        let next = put(out, at, 45);
+        let next = put(out, at, b'-');
         return put_decimal(out, next, size);
     }
     put_decimal(out, at, size)
@@ -172,10 +172,10 @@ pub fn put_signed_right(out: &mut [u8], at: usize, width: usize, x: Signed) -> u
     if neg {
         let count = count_signed(x);
         let gap = less(width, count);
-        let next = put_run(out, at, 32, gap);
+        let next = put_run(out, at, b' ', gap);
         return put_signed(out, next, x);
     }
-    put_right(out, at, 32, width, size)
+    put_right(out, at, b' ', width, size)
 }
 
 // Writes s to the left of `width` columns, with blanks behind it.
@@ -186,5 +186,5 @@ pub fn put_left(out: &mut [u8], at: usize, width: usize, s: &[u8]) -> usize
 {
     let gap = less(width, s.len());
     let next = put_all(out, at, s);
-    put_run(out, next, 32, gap)
+    put_run(out, next, b' ', gap)
 }

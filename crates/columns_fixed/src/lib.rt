@@ -21,13 +21,13 @@ fn digits(s: &[u8], at: usize, end: usize) -> Field
     let mut i = at;
     while i < end {
         let b = s[i];
-        if b < 48 {
+        if b < b'0' {
             return Field::Bad;
         }
-        if 57 < b {
+        if b'9' < b {
             return Field::Bad;
         }
-        n = n * 10 + byte_u32(b - 48);
+        n = n * 10 + byte_u32(b - b'0');
         i += 1;
     }
     Field::Number(n)
@@ -40,7 +40,7 @@ fn behind_blanks(s: &[u8], at: usize, end: usize) -> usize
 {
     let mut i = at;
     while i < end {
-        if s[i] != 32 {
+        if s[i] != b' ' {
             return i;
         }
         i += 1;
@@ -121,10 +121,10 @@ pub fn read_signed(s: &[u8], at: usize, end: usize) -> SignedField
         });
     }
     let b = s[i];
-    if b == 45 {
+    if b == b'-' {
         return behind_sign(true, s, i + 1, end);
     }
-    if b == 43 {
+    if b == b'+' {
         return behind_sign(false, s, i + 1, end);
     }
     let f = digits(s, i, end);

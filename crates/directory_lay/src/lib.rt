@@ -40,10 +40,10 @@ pub fn put_first(out: &mut [u8], at: usize, x: Fields, from: ParameterLine) -> u
 {
     let status = x.status;
     let a = put_number(out, at, x.entity);
-    let b = columns_decimals::put_right(out, a, 32, SLOT_COLUMNS, from.0 as u64);
+    let b = columns_decimals::put_right(out, a, b' ', SLOT_COLUMNS, from.0 as u64);
     let c = put_three(out, b, x.structure, x.font, x.level);
     let d = put_three(out, c, x.view, x.matrix, x.display);
-    columns_decimals::put_right(out, d, 48, SLOT_COLUMNS, status.size as u64)
+    columns_decimals::put_right(out, d, b'0', SLOT_COLUMNS, status.size as u64)
 }
 
 // Writes its second D line; `count` is its parameter line count.
@@ -53,9 +53,9 @@ pub fn put_second(out: &mut [u8], at: usize, x: Fields, count: u32, label: &[u8]
     ensures { λ r. ⌜ r ≤ at + 252 ⌝ }
 {
     let a = put_three(out, at, x.entity, x.weight, x.colour);
-    let b = columns_decimals::put_right(out, a, 32, SLOT_COLUMNS, count as u64);
+    let b = columns_decimals::put_right(out, a, b' ', SLOT_COLUMNS, count as u64);
     let c = put_number(out, b, x.form);
-    let d = columns_emit::put_run(out, c, 32, RESERVED);
+    let d = columns_emit::put_run(out, c, b' ', RESERVED);
     let e = columns_emit::put_all(out, d, label);
     put_number(out, e, x.subscript)
 }

@@ -7,15 +7,15 @@ pub mod text;
 use values::Value;
 
 // The letters of the sections.
-pub const START: u8 = 83;
+pub const START: u8 = b'S';
 
-pub const GLOBAL: u8 = 71;
+pub const GLOBAL: u8 = b'G';
 
-pub const DIRECTORY: u8 = 68;
+pub const DIRECTORY: u8 = b'D';
 
-pub const PARAMETER: u8 = 80;
+pub const PARAMETER: u8 = b'P';
 
-pub const TERMINATE: u8 = 84;
+pub const TERMINATE: u8 = b'T';
 
 // Where the lines of a sheet go on behind those that were written, and how many lines of the file these take.
 pub struct Block {

@@ -35,7 +35,7 @@ fn put_count(out: &mut [u8], at: usize, letter: u8, n: usize) -> usize
     ensures { λ r. ⌜ r ≡ at + 8 ⌝ }
 {
     let a = columns_emit::put(out, at, letter);
-    columns_decimals::put_right(out, a, 48, DIGITS, n as u64)
+    columns_decimals::put_right(out, a, b'0', DIGITS, n as u64)
 }
 
 // The columns 73 to 80 and LF: a line's letter and its number in its section.
@@ -45,7 +45,7 @@ pub fn put_tail(out: &mut [u8], at: usize, letter: u8, n: usize) -> usize
     ensures { λ r. ⌜ r ≡ at + 9 ⌝ }
 {
     let a = put_count(out, at, letter, n);
-    columns_emit::put(out, a, 10)
+    columns_emit::put(out, a, b'\n')
 }
 
 // S line n with this text.
@@ -101,6 +101,6 @@ pub fn put_last_line(out: &mut [u8], at: usize, c: Counts) -> usize
     ensures { λ r. ⌜ r ≡ at + 81 ⌝ }
 {
     let a = put_totals(out, at, c);
-    let b = columns_emit::put_run(out, a, 32, REST);
+    let b = columns_emit::put_run(out, a, b' ', REST);
     put_tail(out, b, TERMINATE, 1)
 }

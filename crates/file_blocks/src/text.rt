@@ -6,7 +6,7 @@ ghost use lib.ListN.{replicate};
 ghost use Rattle.records.specs.Flow.{lineCount};
 ghost use Rattle.records.specs.Written.{over};
 
-const SEMICOLON: u8 = 59;
+const SEMICOLON: u8 = b';';
 
 // Ends the record whose values take p characters, each with ',' behind it: ';' stands at last, and blanks fill its last line.
 pub fn close(out: &mut [u8], base: usize, w: usize, p: usize) -> usize
@@ -17,6 +17,6 @@ pub fn close(out: &mut [u8], base: usize, w: usize, p: usize) -> usize
 {
     let lines = records_flow::line_count(w, p);
     let at = records_flow::put_char(out, base, w, p - 1, SEMICOLON);
-    records_flow::put_run(out, base, w, at, 32, lines * w - at);
+    records_flow::put_run(out, base, w, at, b' ', lines * w - at);
     lines
 }

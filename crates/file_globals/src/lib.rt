@@ -26,7 +26,7 @@ ghost use Rattle.file_blocks.specs.Writing.{parted, tailed, FieldAt};
 // The columns of a G line that hold values.
 const COLUMNS: usize = 72;
 
-const COMMA: u8 = 44;
+const COMMA: u8 = b',';
 
 // The number of the first field behind the delimiters.
 const FIRST: usize = 3;

@@ -30,7 +30,7 @@ const COLUMNS: usize = 64;
 
 const NUMBER: usize = 7;
 
-const COMMA: u8 = 44;
+const COMMA: u8 = b',';
 
 // Writes the value that l spells at position p with ',' behind it: its spelling is its canonical form.
 fn put_spelled(out: &mut [u8], base: usize, p: usize, l: &[u8]) -> usize
@@ -40,7 +40,7 @@ fn put_spelled(out: &mut [u8], base: usize, p: usize, l: &[u8]) -> usize
 {
     let n = values_strict::front_of(l);
     let g = records_flow::gap_of(COLUMNS, p, n + 1);
-    let q = records_flow::put_run(out, base, COLUMNS, p, 32, g);
+    let q = records_flow::put_run(out, base, COLUMNS, p, b' ', g);
     let e = records_flow::put_all(out, base, COLUMNS, q, l);
     records_flow::put_char(out, base, COLUMNS, e, COMMA)
 }
@@ -75,8 +75,8 @@ fn put_owned(out: &mut [u8], at: usize, number: DirectoryNumber, n: ParameterLin
     ensures { λ r. ⌜ Wrote (now (out .entry)) at (ownerOf (number .0) ++ tailOf 80 (n .0)) (now (out .exit)) r ⌝ }
     ensures { λ r. ⌜ r ≡ at + 17 ⌝ }
 {
-    let a = columns_emit::put(out, at, 32);
-    let b = columns_decimals::put_right(out, a, 32, NUMBER, number.0 as u64);
+    let a = columns_emit::put(out, at, b' ');
+    let b = columns_decimals::put_right(out, a, b' ', NUMBER, number.0 as u64);
     lines::put_tail(out, b, PARAMETER, n.0 as usize)
 }
 

@@ -54,7 +54,7 @@ fn name_at(file: &[u8], line: usize) -> DirectoryNumber
     ensures { λ r. ⌜ r .0 ≡ nameOf (lineAt (now (file .entry)) line) ⌝ }
 {
     let at = LINE_BYTES * line;
-    if file[at + 64] != 32 {
+    if file[at + 64] != b' ' {
         return DirectoryNumber(0);
     }
     let f = columns_fixed::read_field(file, at + 65, at + 72);

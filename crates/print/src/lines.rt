@@ -62,7 +62,7 @@ pub fn put_value_line(
 {
     let a = put_value_head(out, at, reference, v);
     let b = put_chars(out, a, file, base, COLUMNS, lines, v);
-    columns_emit::put(out, b, 10)
+    columns_emit::put(out, b, b'\n')
 }
 
 // The line of a real, by its fields: a value that is passed on is copied through memory.
@@ -81,9 +81,9 @@ fn put_real_line(
     ensures { λ r. ⌜ r ≤ at + 1100 ⌝ }
 {
     let a = columns_emit::put(out, at, value_mark(reference));
-    let b = columns_emit::put(out, a, 9);
+    let b = columns_emit::put(out, a, b'\t');
     let c = values_spell::put_real(out, b, neg, m, eneg, e, double);
-    columns_emit::put(out, c, 10)
+    columns_emit::put(out, c, b'\n')
 }
 
 // The line of an entity's value, which is mostly a real.
@@ -128,5 +128,5 @@ pub fn put_global_line(
 {
     let a = put_global_head(out, at, n, v);
     let b = put_chars(out, a, file, base, GLOBAL_COLUMNS, lines, v);
-    columns_emit::put(out, b, 10)
+    columns_emit::put(out, b, b'\n')
 }

@@ -24,7 +24,7 @@ fn kept(file: &[u8], from: usize) -> usize
     let mut n = TEXT;
     while 0 < n {
         let i = n - 1;
-        if file[from + i] != 32 {
+        if file[from + i] != b' ' {
             return n;
         }
         n = i;

@@ -104,7 +104,7 @@ pub fn gap_of(w: usize, p: usize, n: usize) -> usize
 fn delimiter_of(last: bool) -> u8
     ensures { λ r. ⌜ r ≡ delimiter last ⌝ }
 {
-    if last { 59 } else { 44 }
+    if last { b';' } else { b',' }
 }
 
 // A string's characters, which stand in src, and a delimiter.
@@ -157,7 +157,7 @@ pub fn put_piece(
     let mut buf = [0u8; 64];
     let n = values_spell::put_front(&mut buf, 0, v);
     let g = gap_of(w, p, n + 1);
-    let q = put_run(out, base, w, p, 32, g);
+    let q = put_run(out, base, w, p, b' ', g);
     let e = put_all(out, base, w, q, &buf[..n]);
     put_tail(out, base, w, e, src, v, last)
 }

@@ -20,22 +20,22 @@ fn sets_apart(x: u8) -> bool
     if x < 33 {
         return false;
     }
-    if x < 48 {
+    if x < b'0' {
         return true;
     }
-    57 < x
+    b'9' < x
 }
 
 fn may_delimit(x: u8) -> bool
     ensures { λ r. ⌜ r ≡ mayDelimit x ⌝ }
 {
     match x {
-        43 => false,
-        45 => false,
-        46 => false,
-        68 => false,
-        69 => false,
-        72 => false,
+        b'+' => false,
+        b'-' => false,
+        b'.' => false,
+        b'D' => false,
+        b'E' => false,
+        b'H' => false,
         _ => sets_apart(x),
     }
 }
@@ -67,16 +67,16 @@ fn record_delimiter(file: &[u8], base: usize, lines: usize, c: u8, p: usize) -> 
 {
     let x = records_read::char_at(file, base, WIDE, lines, p);
     if x == c {
-        return opened_of(c, 59, p + 1, false);
+        return opened_of(c, b';', p + 1, false);
     }
-    if x == 59 {
-        return opened_of(c, 59, p + 1, true);
+    if x == b';' {
+        return opened_of(c, b';', p + 1, true);
     }
     let h = records_read::char_at(file, base, WIDE, lines, p + 1);
-    if x != 49 {
+    if x != b'1' {
         return Opening::Wrong;
     }
-    if h != 72 {
+    if h != b'H' {
         return Opening::Wrong;
     }
     let d = records_read::char_at(file, base, WIDE, lines, p + 2);
@@ -97,16 +97,16 @@ pub fn opening_of(file: &[u8], base: usize, lines: usize) -> Opening
     ensures { λ r. ⌜ Delimits 8 r ⌝ }
 {
     let x = records_read::char_at(file, base, WIDE, lines, 0);
-    if x == 44 {
-        return record_delimiter(file, base, lines, 44, 1);
+    if x == b',' {
+        return record_delimiter(file, base, lines, b',', 1);
     }
     let h = records_read::char_at(file, base, WIDE, lines, 1);
     let c = records_read::char_at(file, base, WIDE, lines, 2);
     let y = records_read::char_at(file, base, WIDE, lines, 3);
-    if x != 49 {
+    if x != b'1' {
         return Opening::Wrong;
     }
-    if h != 72 {
+    if h != b'H' {
         return Opening::Wrong;
     }
     if y != c {

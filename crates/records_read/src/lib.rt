@@ -39,7 +39,7 @@ pub fn behind_blanks(file: &[u8], base: usize, w: usize, lines: usize, p: usize)
     let mut q = p;
     while q < lines * w {
         let x = char_at(file, base, w, lines, q);
-        if x != 32 {
+        if x != b' ' {
             return q;
         }
         q += 1;
@@ -65,7 +65,7 @@ fn next_at(file: &[u8], base: usize, w: usize, lines: usize, c: u8, d: u8, p: us
     ensures { λ r. ⌜ (r ≡ nextAt c d (textOf (now (file .entry)) base w lines) p) × (place r ≤ lines * w) ⌝ }
 {
     let x = char_at(file, base, w, lines, p);
-    if x != 32 {
+    if x != b' ' {
         return mark_of(c, d, x, p);
     }
     let q = behind_blanks(file, base, w, lines, p + 1);

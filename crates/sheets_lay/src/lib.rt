@@ -23,7 +23,7 @@ fn put_mark(out: &mut [u8], at: usize, m: u8) -> usize
     ensures { λ r. ⌜ r ≡ at + 2 ⌝ }
 {
     let next = columns_emit::put(out, at, m);
-    columns_emit::put(out, next, 9)
+    columns_emit::put(out, next, b'\t')
 }
 
 // Writes a text and LF.
@@ -33,7 +33,7 @@ fn put_tail(out: &mut [u8], at: usize, t: &[u8]) -> usize
     ensures { λ r. ⌜ r ≡ at + length (now (t .entry)) + 1 ⌝ }
 {
     let next = columns_emit::put_all(out, at, t);
-    columns_emit::put(out, next, 10)
+    columns_emit::put(out, next, b'\n')
 }
 
 // An S line.
@@ -42,7 +42,7 @@ pub fn put_start(out: &mut [u8], at: usize, text: &[u8]) -> usize
     ensures { λ r. ⌜ Wrote (now (out .entry)) at (lineOf (Line.start (now (text .entry))) ++ (10 ∷ [])) (now (out .exit)) r ⌝ }
     ensures { λ r. ⌜ r ≡ at + length (now (text .entry)) + 3 ⌝ }
 {
-    let next = put_mark(out, at, 83);
+    let next = put_mark(out, at, b'S');
     put_tail(out, next, text)
 }
 
@@ -52,9 +52,9 @@ pub fn put_global_head(out: &mut [u8], at: usize, n: u32, v: Value) -> usize
     ensures { λ r. ⌜ Wrote (now (out .entry)) at (globalHead n v) (now (out .exit)) r ⌝ }
     ensures { λ r. ⌜ r ≤ at + 67 ⌝ }
 {
-    let a = put_mark(out, at, 71);
+    let a = put_mark(out, at, b'G');
     let b = columns_decimals::put_decimal(out, a, n as u64);
-    let c = columns_emit::put(out, b, 9);
+    let c = columns_emit::put(out, b, b'\t');
     values_spell::put_front(out, c, v)
 }
 
@@ -62,7 +62,7 @@ pub fn put_global_head(out: &mut [u8], at: usize, n: u32, v: Value) -> usize
 pub fn value_mark(reference: bool) -> u8
     ensures { λ r. ⌜ r ≡ cond reference 82 86 ⌝ }
 {
-    if reference { 82 } else { 86 }
+    if reference { b'R' } else { b'V' }
 }
 
 // A value line up to a string's characters.
@@ -83,7 +83,7 @@ fn put_num(out: &mut [u8], at: usize, left: usize, x: Signed) -> usize
     ensures { λ r. ⌜ r ≤ at + 28 ⌝ }
 {
     if left == 3 {
-        return columns_decimals::put_right(out, at, 48, 8, x.size as u64);
+        return columns_decimals::put_right(out, at, b'0', 8, x.size as u64);
     }
     columns_decimals::put_signed(out, at, x)
 }
@@ -120,7 +120,7 @@ fn put_numbers(out: &mut [u8], at: usize, xs: [Signed; 13]) -> usize
         left -= 1;
         let x = xs[k];
         next = put_num(out, next, left, x);
-        next = columns_emit::put(out, next, 9);
+        next = columns_emit::put(out, next, b'\t');
         k += 1;
     }
     next
@@ -129,7 +129,7 @@ fn put_numbers(out: &mut [u8], at: usize, xs: [Signed; 13]) -> usize
 fn mark_of(known: bool) -> u8
     ensures { λ r. ⌜ r ≡ cond known 69 85 ⌝ }
 {
-    if known { 69 } else { 85 }
+    if known { b'E' } else { b'U' }
 }
 
 // An entry line.
@@ -199,7 +199,7 @@ pub fn put_last(out: &mut [u8], at: usize, n: usize) -> usize
     ensures { λ r. ⌜ Wrote (now (out .entry)) at (lineOf (Line.last n) ++ (10 ∷ [])) (now (out .exit)) r ⌝ }
     ensures { λ r. ⌜ r ≤ at + 23 ⌝ }
 {
-    let a = put_mark(out, at, 90);
+    let a = put_mark(out, at, b'Z');
     let b = columns_decimals::put_decimal(out, a, n as u64);
-    columns_emit::put(out, b, 10)
+    columns_emit::put(out, b, b'\n')
 }

@@ -29,19 +29,19 @@ fn add_digit(n: u64, b: u8) -> u64
     ensures { λ r. ⌜ r ≡ digitAfter n b ⌝ }
     ensures { λ r. ⌜ r ≤ unread ⌝ }
 {
-    if b < 48 {
+    if b < b'0' {
         return MISSPELT;
     }
-    if 57 < b {
+    if b'9' < b {
         return MISSPELT;
     }
     if n == UNREAD {
-        return byte_u64(b - 48);
+        return byte_u64(b - b'0');
     }
     if n == 0 {
         return MISSPELT;
     }
-    let m = n * 10 + byte_u64(b - 48);
+    let m = n * 10 + byte_u64(b - b'0');
     if MOST < m {
         return MISSPELT;
     }
@@ -91,7 +91,7 @@ fn signed_at(s: &[u8], at: usize, end: usize) -> Signed
             size: UNREAD as u32,
         };
     }
-    if s[at] == 45 {
+    if s[at] == b'-' {
         let n = size_at(s, UNREAD, at + 1, end);
         return minus_of(n);
     }
@@ -184,7 +184,7 @@ fn tabbed_by(s: &[u8], left: usize, at: usize, end: usize) -> Tabbed
     ensures { λ r. ⌜ r .number ≡ entryFold left (columns (now (s .entry)) at (r .end)) ⌝ }
     ensures { λ r. ⌜ (at ≤ r .end) × (r .end ≤ end) ⌝ }
 {
-    let tab = find(s, 9, at, end);
+    let tab = find(s, b'\t', at, end);
     let number = num_at(s, left, at, tab);
     Tabbed { number, end: tab }
 }
@@ -199,22 +199,22 @@ pub fn tabbed_at(s: &[u8], left: usize, at: usize, end: usize) -> Tabbed
     if end - at < 2 {
         return tabbed_by(s, left, at, end);
     }
-    if s[at + 1] != 9 {
+    if s[at + 1] != b'\t' {
         return tabbed_by(s, left, at, end);
     }
     if left == 3 {
         return tabbed_by(s, left, at, end);
     }
     let b = s[at];
-    if b < 48 {
+    if b < b'0' {
         return tabbed_by(s, left, at, end);
     }
-    if 57 < b {
+    if b'9' < b {
         return tabbed_by(s, left, at, end);
     }
     let number = Signed {
         neg: false,
-        size: byte_u32(b - 48),
+        size: byte_u32(b - b'0'),
     };
     Tabbed {
         number,

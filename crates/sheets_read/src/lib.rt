@@ -25,7 +25,7 @@ pub fn end_of(t: &[u8], at: usize) -> usize
     ensures { λ r. ⌜ r ≡ at + run 10 (drop at (now (t .entry))) ⌝ }
     ensures { λ r. ⌜ (at ≤ r) × (r ≤ length (now (t .entry))) ⌝ }
 {
-    sheets_numbers::find(t, 10, at, t.len())
+    sheets_numbers::find(t, b'\n', at, t.len())
 }
 
 // What the numbers of an entry line are: its directory number, and those of the entry.
@@ -88,13 +88,13 @@ pub fn entry_at(s: &[u8], at: usize, end: usize) -> EntryLine
     if end - at < 2 {
         return EntryLine::Wrong;
     }
-    if s[at + 1] != 9 {
+    if s[at + 1] != b'\t' {
         return EntryLine::Wrong;
     }
-    if s[at] == 69 {
+    if s[at] == b'E' {
         return numbers(s, at + 2, end, true);
     }
-    if s[at] == 85 {
+    if s[at] == b'U' {
         return numbers(s, at + 2, end, false);
     }
     EntryLine::Wrong
@@ -103,7 +103,7 @@ pub fn entry_at(s: &[u8], at: usize, end: usize) -> EntryLine
 pub fn is_mark(b: u8) -> bool
     ensures { λ r. ⌜ r ≡ isMark b ⌝ }
 {
-    b == 82 || b == 86
+    b == b'R' || b == b'V'
 }
 
 // Whether a start text stands from `at` up to `end`.
@@ -117,7 +117,7 @@ fn is_start(s: &[u8], at: usize, end: usize) -> bool
     if 72 < end - at {
         return false;
     }
-    if s[end - 1] == 32 {
+    if s[end - 1] == b' ' {
         return false;
     }
     look::is_printable(s, at, end)
@@ -164,7 +164,7 @@ fn global_line(s: &[u8], at: usize, end: usize) -> Said
     requires { ⌜ (at ≤ end) × (end ≤ length (now s)) ⌝ }
     ensures { λ r. ⌜ r ≡ globalLine (columns (now (s .entry)) at end) ⌝ }
 {
-    let e = sheets_numbers::find(s, 9, at, end);
+    let e = sheets_numbers::find(s, b'\t', at, end);
     if e == end {
         return Said::Nothing(false);
     }
@@ -220,7 +220,7 @@ pub fn is_value(s: &[u8], at: usize, end: usize) -> bool
     if end - at < 2 {
         return false;
     }
-    if s[at + 1] != 9 {
+    if s[at + 1] != b'\t' {
         return false;
     }
     is_mark(s[at])
@@ -238,29 +238,29 @@ fn by_mark(s: &[u8], at: usize, end: usize) -> Said
     if end - at < 2 {
         return Said::Nothing(is_mark(a));
     }
-    if s[at + 1] != 9 {
+    if s[at + 1] != b'\t' {
         return Said::Nothing(is_mark(a));
     }
     let t = at + 2;
-    if a == 83 {
+    if a == b'S' {
         return start_line(s, t, end);
     }
-    if a == 71 {
+    if a == b'G' {
         return global_line(s, t, end);
     }
-    if a == 69 {
+    if a == b'E' {
         return entry_said(entry_at(s, at, end));
     }
-    if a == 85 {
+    if a == b'U' {
         return entry_said(entry_at(s, at, end));
     }
-    if a == 82 {
+    if a == b'R' {
         return value_said(true, strict_at(s, t, end));
     }
-    if a == 86 {
+    if a == b'V' {
         return value_said(false, strict_at(s, t, end));
     }
-    if a == 90 {
+    if a == b'Z' {
         return last_line(s, t, end);
     }
     Said::Nothing(false)

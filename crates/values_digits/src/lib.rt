@@ -22,7 +22,7 @@ fn run_of(r: Run, c: u8, v: u64) -> Run
     requires { ⌜ (r .count + 1 < 2 ^ 64) × (Small r × (v ≡ min (r .value * 10 + (c - 48)) (10 ^ 17))) ⌝ }
     ensures { λ q. ⌜ q ≡ capRun (more r c) ⌝ }
 {
-    if c == 48 {
+    if c == b'0' {
         Run {
             value: v,
             mant: r.mant,
@@ -65,10 +65,10 @@ fn many_at(t: &[u8], i: usize, r: Run) -> Run
     let mut q = r;
     while k < t.len() {
         let c = t[k];
-        if c < 48 {
+        if c < b'0' {
             return q;
         }
-        if 57 < c {
+        if b'9' < c {
             return q;
         }
         q = more_of(q, c);
@@ -87,10 +87,10 @@ pub fn scan_at(t: &[u8], i: usize, r: Run) -> Run
     let mut q = r;
     while k < t.len() {
         let c = t[k];
-        if c < 48 {
+        if c < b'0' {
             return q;
         }
-        if 57 < c {
+        if b'9' < c {
             return q;
         }
         if 10_000_000_000_000_000 <= q.value {

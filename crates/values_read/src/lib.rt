@@ -20,9 +20,9 @@ ghost use Rattle.values.specs.Head.{headOf};
 fn sign_len(c: u8) -> usize
     ensures { λ r. ⌜ (r ≡ signLen c) × (r ≤ 1) ⌝ }
 {
-    if c == 43 {
+    if c == b'+' {
         1
-    } else if c == 45 {
+    } else if c == b'-' {
         1
     } else {
         0
@@ -33,7 +33,7 @@ fn sign_len(c: u8) -> usize
 fn point_len(c: u8) -> usize
     ensures { λ r. ⌜ (r ≡ pointLen c) × (r ≤ 1) ⌝ }
 {
-    if c == 46 { 1 } else { 0 }
+    if c == b'.' { 1 } else { 0 }
 }
 
 // The exponent of size x that count digits spell, if they are one to three.
@@ -78,7 +78,7 @@ fn power_of(t: &[u8], i: usize, double: bool) -> Power
         count: 0,
     };
     let x = scan_at(t, i + k, z);
-    power_from(s == 45, x.count, x.value, double, i + k, i + k + x.count)
+    power_from(s == b'-', x.count, x.value, double, i + k, i + k + x.count)
 }
 
 // The exponent at i, if its letter stands there.
@@ -87,10 +87,10 @@ fn power_at(t: &[u8], i: usize) -> Power
     ensures { λ r. ⌜ r ≡ powerAt (now (t .entry)) i ⌝ }
 {
     let c = look::byte_at(t, i);
-    if c == 69 {
+    if c == b'E' {
         return power_of(t, i + 1, false);
     }
-    if c == 68 {
+    if c == b'D' {
         return power_of(t, i + 1, true);
     }
     Power::None
@@ -127,7 +127,7 @@ fn read_from(t: &[u8], z: Run) -> Token
     let p = point_len(look::byte_at(t, i));
     let r = scan_at(t, i + p, w);
     let end = a + r.count + p;
-    finish_of(power_at(t, end), s == 45, r, r.count - w.count, p, end)
+    finish_of(power_at(t, end), s == b'-', r, r.count - w.count, p, end)
 }
 
 // The number that a text begins with.
@@ -149,7 +149,7 @@ pub fn read(t: &[u8]) -> Token
 fn is_count(x: u8, n: usize, v: u64) -> bool
     ensures { λ r. ⌜ r ≡ (eqb x 72 && (leb n 3 && leb 1 v)) ⌝ }
 {
-    if x != 72 {
+    if x != b'H' {
         return false;
     }
     if 3 < n {

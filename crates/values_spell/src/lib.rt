@@ -15,7 +15,7 @@ fn put_sign(out: &mut [u8], at: usize, neg: bool) -> usize
     ensures { λ r. ⌜ r ≤ at + 1 ⌝ }
 {
     if neg {
-        return columns_emit::put(out, at, 45);
+        return columns_emit::put(out, at, b'-');
     }
     at
 }
@@ -30,7 +30,7 @@ fn wide(x: u32) -> u64
 fn letter_of(double: bool) -> u8
     ensures { λ r. ⌜ r ≡ letter double ⌝ }
 {
-    if double { 68 } else { 69 }
+    if double { b'D' } else { b'E' }
 }
 
 // The letter, the sign and the digits of an exponent.
@@ -88,7 +88,7 @@ pub fn put_real(
 {
     let a = put_sign(out, at, neg);
     let b = columns_decimals::put_decimal(out, a, m);
-    let c = columns_emit::put(out, b, 46);
+    let c = columns_emit::put(out, b, b'.');
     put_exponent(out, c, eneg, e, double)
 }
 
@@ -99,7 +99,7 @@ pub fn put_head(out: &mut [u8], at: usize, count: usize) -> usize
     ensures { λ r. ⌜ r ≤ at + 44 ⌝ }
 {
     let a = columns_decimals::put_decimal(out, at, count as u64);
-    columns_emit::put(out, a, 72)
+    columns_emit::put(out, a, b'H')
 }
 
 // A value but for a string's characters.

@@ -30,27 +30,27 @@ fn decimal_at(l: &[u8], at: usize) -> Decimal
     ensures { λ r. ⌜ (at ≤ r .end) × (r .end ≤ length (now (l .entry))) ⌝ }
 {
     let c = look::byte_at(l, at);
-    if c < 48 {
+    if c < b'0' {
         return Decimal { value: 0, end: at };
     }
-    if 57 < c {
+    if b'9' < c {
         return Decimal { value: 0, end: at };
     }
-    let mut v = byte_u64(c - 48);
+    let mut v = byte_u64(c - b'0');
     let mut k = at + 1;
-    if c == 48 {
+    if c == b'0' {
         return Decimal { value: 0, end: k };
     }
     let stop = stop_of(l.len(), at);
     while k < stop {
         let d = l[k];
-        if d < 48 {
+        if d < b'0' {
             return Decimal { value: v, end: k };
         }
-        if 57 < d {
+        if b'9' < d {
             return Decimal { value: v, end: k };
         }
-        v = v * 10 + byte_u64(d - 48);
+        v = v * 10 + byte_u64(d - b'0');
         k += 1;
     }
     Decimal { value: v, end: k }
@@ -152,7 +152,7 @@ fn behind_letter(l: &[u8], neg: bool, m: u64, double: bool, i: usize) -> Strict
     requires { ⌜ i ≤ length (now l) ⌝ }
     ensures { λ r. ⌜ r ≡ behindLetter (now (l .entry)) neg m double i ⌝ }
 {
-    let eneg = look::byte_at(l, i) == 45;
+    let eneg = look::byte_at(l, i) == b'-';
     let k = i + minus_len(eneg);
     let x = decimal_at(l, k);
     if x.end == k {
@@ -171,10 +171,10 @@ fn behind_letter(l: &[u8], neg: bool, m: u64, double: bool, i: usize) -> Strict
 fn is_letter(c: u8) -> bool
     ensures { λ r. ⌜ r ≡ (eqb c 69 || eqb c 68) ⌝ }
 {
-    if c == 69 {
+    if c == b'E' {
         return true;
     }
-    c == 68
+    c == b'D'
 }
 
 // A real, whose point stands before i.
@@ -187,7 +187,7 @@ fn behind_point(l: &[u8], neg: bool, m: u64, i: usize) -> Strict
     }
     let c = l[i];
     if is_letter(c) {
-        return behind_letter(l, neg, m, c == 68, i + 1);
+        return behind_letter(l, neg, m, c == b'D', i + 1);
     }
     Strict::Not
 }
@@ -225,7 +225,7 @@ pub fn strict(l: &[u8]) -> Strict
     if l.len() == 0 {
         return Strict::Is(Value::Default);
     }
-    let neg = l[0] == 45;
+    let neg = l[0] == b'-';
     let a = minus_len(neg);
     let x = decimal_at(l, a);
     let i = x.end;
@@ -236,10 +236,10 @@ pub fn strict(l: &[u8]) -> Strict
         return as_whole(neg, x.value);
     }
     let c = l[i];
-    if c == 46 {
+    if c == b'.' {
         return behind_point(l, neg, x.value, i + 1);
     }
-    if c == 72 {
+    if c == b'H' {
         return behind_count(l, neg, x.value, i + 1);
     }
     Strict::Not
@@ -256,16 +256,16 @@ pub fn front_of(l: &[u8]) -> usize
     if n < 3 {
         return n;
     }
-    if l[1] == 72 {
+    if l[1] == b'H' {
         return 2;
     }
-    if l[2] == 72 {
+    if l[2] == b'H' {
         return 3;
     }
     if n < 4 {
         return n;
     }
-    if l[3] == 72 {
+    if l[3] == b'H' {
         return 4;
     }
     n

@@ -30,10 +30,10 @@ fn tell(table: &mut [u8], q: usize, number: DirectoryNumber)
 fn entry_adds(b: u8) -> u32
     ensures { λ r. ⌜ r ≡ addedBy b ⌝ }
 {
-    if b == 69 {
+    if b == b'E' {
         return 2;
     }
-    if b == 85 {
+    if b == b'U' {
         return 2;
     }
     0

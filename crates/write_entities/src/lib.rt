@@ -124,7 +124,7 @@ fn judge(classes: &[u8], n: usize, t: &[u8], from: usize, begun: Stepped) -> Val
         }
         match strict_at(t, next + 2, end) {
             Strict::Is(value) => {
-                let reference = t[next] == 82;
+                let reference = t[next] == b'R';
                 right = right_too(right, reference, state);
                 state = step_at(classes, n, t, state, value);
                 next = end + 1;

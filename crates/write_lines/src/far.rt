@@ -51,11 +51,11 @@ fn part_of(table: &[u8], number: DirectoryNumber) -> usize
 fn begins_entry(before: u8, b: u8) -> bool
     ensures { λ r. ⌜ r ≡ beginsEntry before b ⌝ }
 {
-    if b == 69 {
-        return before == 10;
+    if b == b'E' {
+        return before == b'\n';
     }
-    if b == 85 {
-        return before == 10;
+    if b == b'U' {
+        return before == b'\n';
     }
     false
 }
@@ -86,13 +86,13 @@ fn number_at(t: &[u8], at: usize) -> DirectoryNumber
     let mut i = at + 2;
     let mut number = 0;
     while i < size {
-        if t[i] < 48 {
+        if t[i] < b'0' {
             return DirectoryNumber(number);
         }
         if 400000000 < number {
             return DirectoryNumber(number);
         }
-        number = number * 10 + byte_u32(t[i] - 48);
+        number = number * 10 + byte_u32(t[i] - b'0');
         i += 1;
     }
     DirectoryNumber(number)

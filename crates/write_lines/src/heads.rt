@@ -11,13 +11,13 @@ ghost use Rattle.write_lines.specs.Heads.{isHead, headOf};
 fn is_head(b: u8) -> bool
     ensures { λ r. ⌜ r ≡ isHead b ⌝ }
 {
-    if b == 69 {
+    if b == b'E' {
         return true;
     }
-    if b == 85 {
+    if b == b'U' {
         return true;
     }
-    b == 71
+    b == b'G'
 }
 
 // What the line from `at` up to `end` says, if it is one of these.
