@@ -49,12 +49,8 @@ fn looked_up(list: u64, file: &[u8], number: DirectoryNumber) -> Found
 {
     let told = read_check::check(list, file);
     match told {
-        Checked::Refused { fault: _, line: _ } => Found::Nobody,
-        Checked::Good {
-            counts,
-            parameter: _,
-            closing: _,
-        } => in_directory(file, counts, number),
+        Checked::Refused { .. } => Found::Nobody,
+        Checked::Good { counts, .. } => in_directory(file, counts, number),
     }
 }
 

@@ -60,11 +60,7 @@ fn plan_for(list: u64, file: &[u8], room: usize) -> Plan
                 count: 0,
             }
         }
-        Checked::Good {
-            counts,
-            parameter: _,
-            closing: _,
-        } => plan_with(counts, room),
+        Checked::Good { counts, .. } => plan_with(counts, room),
     }
 }
 

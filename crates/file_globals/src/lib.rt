@@ -53,15 +53,8 @@ fn field_at(t: &[u8], at: usize) -> GlobalLine
             value,
         },
         Said::Start => GlobalLine::Otherwise,
-        Said::Value {
-            reference: _,
-            value: _,
-        } => GlobalLine::Otherwise,
-        Said::Entry {
-            known: _,
-            number: _,
-            fields: _,
-        } => GlobalLine::Otherwise,
+        Said::Value { .. } => GlobalLine::Otherwise,
+        Said::Entry { .. } => GlobalLine::Otherwise,
         Said::Last(_) => GlobalLine::Otherwise,
         Said::Nothing(_) => GlobalLine::Otherwise,
     }

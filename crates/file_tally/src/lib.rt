@@ -119,23 +119,12 @@ pub fn tally_said(x: Tally, y: Said) -> Tally
 {
     match y {
         Said::Start => with_start(x),
-        Said::Global {
-            number,
-            at: _,
-            value,
-        } => with_global(x, number, value),
-        Said::Entry {
-            known: _,
-            number: _,
-            fields,
-        } => {
+        Said::Global { number, value, .. } => with_global(x, number, value),
+        Said::Entry { fields, .. } => {
             let entity = fields.entity;
             with_entry(x, entity.size)
         }
-        Said::Value {
-            reference: _,
-            value,
-        } => with_value(x, value),
+        Said::Value { value, .. } => with_value(x, value),
         Said::Last(_) => x,
         Said::Nothing(_) => x,
     }

@@ -130,7 +130,7 @@ pub fn rests_in(k: Kind) -> bool
         Kind::Given => false,
         Kind::Weight => false,
         Kind::S => false,
-        Kind::I { low: _, high: _ } => false,
+        Kind::I { .. } => false,
         Kind::Flag => false,
         Kind::Count => false,
         Kind::Outer => false,
@@ -138,9 +138,9 @@ pub fn rests_in(k: Kind) -> bool
         Kind::Upper2 => false,
         Kind::Degree1 => false,
         Kind::Degree2 => false,
-        Kind::P { want: _ } => false,
-        Kind::Q { want: _ } => false,
-        Kind::Bound { want: _ } => false,
+        Kind::P { .. } => false,
+        Kind::Q { .. } => false,
+        Kind::Bound { .. } => false,
         Kind::Rest => true,
     }
 }

@@ -8,15 +8,9 @@ pub fn real_in(v: Value) -> bool
 {
     match v {
         Value::Default => false,
-        Value::Whole { neg: _, size: _ } => false,
-        Value::Real {
-            neg: _,
-            m: _,
-            eneg: _,
-            e: _,
-            double: _,
-        } => true,
-        Value::Text { start: _, count: _ } => false,
+        Value::Whole { .. } => false,
+        Value::Real { .. } => true,
+        Value::Text { .. } => false,
     }
 }
 
@@ -26,15 +20,9 @@ pub fn above_in(v: Value) -> bool
 {
     match v {
         Value::Default => false,
-        Value::Whole { neg: _, size: _ } => false,
-        Value::Real {
-            neg,
-            m,
-            eneg: _,
-            e: _,
-            double: _,
-        } => if neg { false } else { 0 < m },
-        Value::Text { start: _, count: _ } => false,
+        Value::Whole { .. } => false,
+        Value::Real { neg, m, .. } => if neg { false } else { 0 < m },
+        Value::Text { .. } => false,
     }
 }
 
@@ -43,15 +31,9 @@ pub fn text_in(v: Value) -> bool
 {
     match v {
         Value::Default => false,
-        Value::Whole { neg: _, size: _ } => false,
-        Value::Real {
-            neg: _,
-            m: _,
-            eneg: _,
-            e: _,
-            double: _,
-        } => false,
-        Value::Text { start: _, count: _ } => true,
+        Value::Whole { .. } => false,
+        Value::Real { .. } => false,
+        Value::Text { .. } => true,
     }
 }
 
@@ -70,14 +52,8 @@ pub fn within_in(given: bool, low: u32, high: u32, v: Value) -> bool
                 false
             }
         }
-        Value::Real {
-            neg: _,
-            m: _,
-            eneg: _,
-            e: _,
-            double: _,
-        } => false,
-        Value::Text { start: _, count: _ } => false,
+        Value::Real { .. } => false,
+        Value::Text { .. } => false,
     }
 }
 
@@ -87,14 +63,8 @@ pub fn size_in(v: Value) -> u32
 {
     match v {
         Value::Default => 0,
-        Value::Whole { neg: _, size: n } => n,
-        Value::Real {
-            neg: _,
-            m: _,
-            eneg: _,
-            e: _,
-            double: _,
-        } => 0,
-        Value::Text { start: _, count: _ } => 0,
+        Value::Whole { size: n, .. } => n,
+        Value::Real { .. } => 0,
+        Value::Text { .. } => 0,
     }
 }

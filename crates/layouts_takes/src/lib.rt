@@ -92,18 +92,12 @@ fn refer_in(free: bool, want: u8, s: State, v: Value, class: u8) -> Stepped
 {
     match v {
         Value::Default => noted(s, !free),
-        Value::Whole { neg: _, size: n } => noted(
+        Value::Whole { size: n, .. } => noted(
             s,
             !either(zero_in(free, n), references::fits(want, class)),
         ),
-        Value::Real {
-            neg: _,
-            m: _,
-            eneg: _,
-            e: _,
-            double: _,
-        } => Stepped::Bad,
-        Value::Text { start: _, count: _ } => Stepped::Bad,
+        Value::Real { .. } => Stepped::Bad,
+        Value::Text { .. } => Stepped::Bad,
     }
 }
 

@@ -34,14 +34,8 @@ fn put_chars(
 {
     match v {
         Value::Default => at,
-        Value::Whole { neg: _, size: _ } => at,
-        Value::Real {
-            neg: _,
-            m: _,
-            eneg: _,
-            e: _,
-            double: _,
-        } => at,
+        Value::Whole { .. } => at,
+        Value::Real { .. } => at,
         Value::Text { start, count } => put_text(out, at, file, base, w, lines, start, count),
     }
 }

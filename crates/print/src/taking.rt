@@ -18,17 +18,8 @@ fn taken_of(g: Got) -> Taken
     ensures { λ r. ⌜ r ≡ takenOf g ⌝ }
 {
     match g {
-        Got::Found {
-            value,
-            start: _,
-            next,
-            last: _,
-        } => Taken { value, next },
-        Got::Refused {
-            fault: _,
-            start: _,
-            at,
-        } => Taken {
+        Got::Found { value, next, .. } => Taken { value, next },
+        Got::Refused { at, .. } => Taken {
             value: Value::Default,
             next: at,
         },
@@ -52,15 +43,11 @@ fn met_of(g: Got) -> Met
     match g {
         Got::Found {
             value,
-            start: _,
             next,
             last,
+            ..
         } => Met { value, next, last },
-        Got::Refused {
-            fault: _,
-            start: _,
-            at,
-        } => Met {
+        Got::Refused { at, .. } => Met {
             value: Value::Default,
             next: at,
             last: true,

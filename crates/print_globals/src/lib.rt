@@ -49,16 +49,8 @@ fn count_from(file: &[u8], base: usize, lines: usize, c: u8, d: u8, from: usize)
     ensures { λ r. ⌜ r ≤ lines * 72 ⌝ }
 {
     match check_from(file, base, COLUMNS, lines, c, d, from) {
-        Check::Wrong {
-            fault: _,
-            start: _,
-            at: _,
-        } => 0,
-        Check::Done {
-            count,
-            kept: _,
-            end: _,
-        } => count,
+        Check::Wrong { .. } => 0,
+        Check::Done { count, .. } => count,
     }
 }
 

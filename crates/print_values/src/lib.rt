@@ -116,18 +116,14 @@ pub fn put_values(
     while !last {
         let got = value_at(file, base, COLUMNS, lines, c, d, q);
         match got {
-            Got::Refused {
-                fault: _,
-                start: _,
-                at: _,
-            } => {
+            Got::Refused { .. } => {
                 return next;
             }
             Got::Found {
                 value,
-                start: _,
                 next: behind,
                 last: end,
+                ..
             } => {
                 q = behind;
                 last = end;

@@ -89,7 +89,7 @@ pub fn check(list: u64, file: &[u8]) -> Checked
             counts,
             parameter,
             closing,
-            rows: _,
+            ..
         } => Checked::Good {
             counts,
             parameter,

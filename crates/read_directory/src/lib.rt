@@ -27,12 +27,7 @@ fn entry_check(file: &[u8], c: Counts, i: usize, kept: Pass) -> Turn
     let k = cards::entry_line(c, i);
     let line = FileLine(k + 1);
     let read = directory_read::entry_at(file, k);
-    let EntryRead::Spelt {
-        fields,
-        pointer: _,
-        lines: _,
-    } = read
-    else {
+    let EntryRead::Spelt { fields, .. } = read else {
         return Turn::Refused {
             fault: Fault::Directory,
             line,

@@ -22,13 +22,7 @@ pub fn named_at(file: &[u8], first: usize, n: usize, v: Value) -> u8
             }
             class_at(file, first, n, DirectoryNumber(size))
         }
-        Value::Real {
-            neg: _,
-            m: _,
-            eneg: _,
-            e: _,
-            double: _,
-        } => NO_ENTRY,
-        Value::Text { start: _, count: _ } => NO_ENTRY,
+        Value::Real { .. } => NO_ENTRY,
+        Value::Text { .. } => NO_ENTRY,
     }
 }

@@ -36,14 +36,8 @@ fn is_type(typ: u32, v: Value) -> bool
             }
             size == typ
         }
-        Value::Real {
-            neg: _,
-            m: _,
-            eneg: _,
-            e: _,
-            double: _,
-        } => false,
-        Value::Text { start: _, count: _ } => false,
+        Value::Real { .. } => false,
+        Value::Text { .. } => false,
     }
 }
 
@@ -114,19 +108,15 @@ pub fn entity_pass(
 {
     let g = value_at(file, base, COLUMNS, lines, c, d, 0);
     match g {
-        Got::Refused {
-            fault,
-            start: _,
-            at: _,
-        } => Weighed {
+        Got::Refused { fault, .. } => Weighed {
             answer: EntityAnswer::Refused(fault),
             length: 0,
         },
         Got::Found {
             value,
-            start: _,
             next,
             last,
+            ..
         } => {
             let typed = is_type(typ, value);
             let inside = known(list, typ, form);

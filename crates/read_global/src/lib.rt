@@ -66,17 +66,8 @@ fn value_of(g: Got) -> Value
     ensures { λ r. ⌜ r ≡ gotValue g ⌝ }
 {
     match g {
-        Got::Found {
-            value,
-            start: _,
-            next: _,
-            last: _,
-        } => value,
-        Got::Refused {
-            fault: _,
-            start: _,
-            at: _,
-        } => Value::Default,
+        Got::Found { value, .. } => value,
+        Got::Refused { .. } => Value::Default,
     }
 }
 
@@ -84,17 +75,8 @@ fn start_of(g: Got) -> usize
     ensures { λ r. ⌜ r ≡ startOf g ⌝ }
 {
     match g {
-        Got::Found {
-            value: _,
-            start,
-            next: _,
-            last: _,
-        } => start,
-        Got::Refused {
-            fault: _,
-            start,
-            at: _,
-        } => start,
+        Got::Found { start, .. } => start,
+        Got::Refused { start, .. } => start,
     }
 }
 
@@ -102,17 +84,8 @@ fn behind_of(g: Got) -> usize
     ensures { λ r. ⌜ r ≡ behind g ⌝ }
 {
     match g {
-        Got::Found {
-            value: _,
-            start: _,
-            next,
-            last: _,
-        } => next,
-        Got::Refused {
-            fault: _,
-            start: _,
-            at,
-        } => at,
+        Got::Found { next, .. } => next,
+        Got::Refused { at, .. } => at,
     }
 }
 
@@ -176,11 +149,7 @@ fn values_pass(file: &[u8], c: Counts, parameter: u8, closing: u8, from: usize) 
             let line = spelling_line(file, c, start, at);
             Pass::Refused { fault, line }
         }
-        Check::Done {
-            count,
-            kept: _,
-            end,
-        } => done_pass(file, c, parameter, closing, from, count, end),
+        Check::Done { count, end, .. } => done_pass(file, c, parameter, closing, from, count, end),
     }
 }
 

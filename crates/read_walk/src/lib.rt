@@ -81,11 +81,7 @@ fn length_after(length: usize, owed: usize, v: Value) -> usize
             e,
             double,
         } => length + AROUND * owed + AROUND + real_len(neg, m, eneg, e, double),
-        Value::Text { start: _, count } => length
-            + AROUND * owed
-            + AROUND
-            + head_len(count)
-            + count,
+        Value::Text { count, .. } => length + AROUND * owed + AROUND + head_len(count) + count,
     }
 }
 
@@ -123,18 +119,14 @@ pub fn walk(
     loop {
         let g = value_at(file, base, COLUMNS, lines, c, d, q);
         match g {
-            Got::Refused {
-                fault,
-                start: _,
-                at: _,
-            } => {
+            Got::Refused { fault, .. } => {
                 return Walked::Wrong(fault);
             }
             Got::Found {
                 value,
-                start: _,
                 next,
                 last,
+                ..
             } => {
                 state = state_after(file, first, n, state, owed, value);
                 length = length_after(length, owed, value);

@@ -124,14 +124,8 @@ fn put_tail(
     let x = delimiter_of(last);
     match v {
         Value::Default => put_char(out, base, w, p, x),
-        Value::Whole { neg: _, size: _ } => put_char(out, base, w, p, x),
-        Value::Real {
-            neg: _,
-            m: _,
-            eneg: _,
-            e: _,
-            double: _,
-        } => put_char(out, base, w, p, x),
+        Value::Whole { .. } => put_char(out, base, w, p, x),
+        Value::Real { .. } => put_char(out, base, w, p, x),
         Value::Text { start, count } => {
             let end = start + count;
             let e = put_all(out, base, w, p, &src[start..end]);
@@ -167,15 +161,9 @@ fn copied_of(v: Value) -> usize
 {
     match v {
         Value::Default => 0,
-        Value::Whole { neg: _, size: _ } => 0,
-        Value::Real {
-            neg: _,
-            m: _,
-            eneg: _,
-            e: _,
-            double: _,
-        } => 0,
-        Value::Text { start: _, count } => count,
+        Value::Whole { .. } => 0,
+        Value::Real { .. } => 0,
+        Value::Text { count, .. } => count,
     }
 }
 

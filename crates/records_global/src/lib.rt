@@ -178,18 +178,12 @@ fn is_kind(k: GlobalKind, n: u32, v: Value) -> bool
             GlobalKind::Real => false,
             GlobalKind::Integer => in_range(n, neg, size),
         },
-        Value::Real {
-            neg: _,
-            m: _,
-            eneg: _,
-            e: _,
-            double: _,
-        } => match k {
+        Value::Real { .. } => match k {
             GlobalKind::String => false,
             GlobalKind::Real => true,
             GlobalKind::Integer => false,
         },
-        Value::Text { start: _, count: _ } => match k {
+        Value::Text { .. } => match k {
             GlobalKind::String => true,
             GlobalKind::Real => false,
             GlobalKind::Integer => false,

@@ -96,7 +96,7 @@ fn beyond_of(s: usize, n: Next) -> Got
     ensures { λ r. ⌜ r ≡ beyond s n ⌝ }
 {
     match n {
-        Next::Delimiter { at, last: _ } => Got::Refused {
+        Next::Delimiter { at, .. } => Got::Refused {
             fault: Fault::Limit,
             start: s,
             at,
@@ -235,15 +235,9 @@ fn kept_after(v: Value, k: usize, n: usize) -> usize
 {
     match v {
         Value::Default => k,
-        Value::Whole { neg: _, size: _ } => n,
-        Value::Real {
-            neg: _,
-            m: _,
-            eneg: _,
-            e: _,
-            double: _,
-        } => n,
-        Value::Text { start: _, count: _ } => n,
+        Value::Whole { .. } => n,
+        Value::Real { .. } => n,
+        Value::Text { .. } => n,
     }
 }
 
@@ -264,9 +258,9 @@ pub fn check_from(file: &[u8], base: usize, w: usize, lines: usize, c: u8, d: u8
             }
             Got::Found {
                 value,
-                start: _,
                 next,
                 last,
+                ..
             } => {
                 n += 1;
                 kept = kept_after(value, kept, n);

@@ -180,20 +180,9 @@ pub fn step_line(st: State, x: Said) -> Step
 {
     match x {
         Said::Start => start_step(st),
-        Said::Global {
-            number,
-            at: _,
-            value: _,
-        } => global_step(st, number),
-        Said::Entry {
-            known: _,
-            number,
-            fields: _,
-        } => entry_step(st, number),
-        Said::Value {
-            reference: _,
-            value,
-        } => value_step(st, is_missing(value)),
+        Said::Global { number, .. } => global_step(st, number),
+        Said::Entry { number, .. } => entry_step(st, number),
+        Said::Value { value, .. } => value_step(st, is_missing(value)),
         Said::Last(n) => last_step(st, n),
         Said::Nothing(b) => none_step(st, b),
     }

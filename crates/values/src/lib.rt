@@ -95,14 +95,8 @@ pub fn is_missing(v: Value) -> bool
 {
     match v {
         Value::Default => true,
-        Value::Whole { neg: _, size: _ } => false,
-        Value::Real {
-            neg: _,
-            m: _,
-            eneg: _,
-            e: _,
-            double: _,
-        } => false,
-        Value::Text { start: _, count: _ } => false,
+        Value::Whole { .. } => false,
+        Value::Real { .. } => false,
+        Value::Text { .. } => false,
     }
 }

@@ -118,7 +118,7 @@ pub fn put_front(out: &mut [u8], at: usize, v: Value) -> usize
             e,
             double,
         } => put_real(out, at, neg, m, eneg, e, double),
-        Value::Text { start: _, count } => put_head(out, at, count),
+        Value::Text { count, .. } => put_head(out, at, count),
     }
 }
 
@@ -178,6 +178,6 @@ pub fn front_len(v: Value) -> usize
             e,
             double,
         } => real_len(neg, m, eneg, e, double),
-        Value::Text { start: _, count } => head_len(count),
+        Value::Text { count, .. } => head_len(count),
     }
 }

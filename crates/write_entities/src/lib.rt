@@ -199,8 +199,8 @@ fn entity_of(
 {
     let Said::Entry {
         known: marked,
-        number: _,
         fields,
+        ..
     } = said
     else {
         return Asked {

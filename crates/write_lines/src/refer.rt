@@ -59,12 +59,7 @@ pub fn reference_of(classes: &[u8], n: usize, t: &[u8], said: Said, line: SheetL
     requires { ⌜ Tabled (now classes) n (now t) ⌝ }
     ensures { λ r. ⌜ r ≡ saidReferences (sheetTypes (now (t .entry))) (line .0) said ⌝ }
 {
-    let Said::Entry {
-        known: _,
-        number: _,
-        fields,
-    } = said
-    else {
+    let Said::Entry { fields, .. } = said else {
         return Pass::Good;
     };
     let e = directory_rules::entry_of(fields);

@@ -13,11 +13,7 @@ fn rule_of(said: Said, line: SheetLine) -> Pass
     ensures { λ r. ⌜ r ≡ saidRule (line .0) said ⌝ }
 {
     match said {
-        Said::Global {
-            number,
-            at: _,
-            value,
-        } => {
+        Said::Global { number, value, .. } => {
             if records_global::global_fits(number, value) {
                 return Pass::Good;
             }
@@ -26,11 +22,7 @@ fn rule_of(said: Said, line: SheetLine) -> Pass
                 line,
             }
         }
-        Said::Entry {
-            known: _,
-            number: _,
-            fields,
-        } => {
+        Said::Entry { fields, .. } => {
             let rule = directory_rules::entry_rules(fields);
             match rule {
                 Rule::Good => Pass::Good,

@@ -29,11 +29,7 @@ fn class_said(said: Said) -> u8
     ensures { λ r. ⌜ r ≡ saidClass said ⌝ }
 {
     match said {
-        Said::Entry {
-            known: _,
-            number: _,
-            fields,
-        } => {
+        Said::Entry { fields, .. } => {
             let typ = fields.entity.size;
             references::class_of(typ)
         }
