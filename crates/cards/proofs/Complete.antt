@@ -13,7 +13,8 @@ use Rattle.cards.specs.declared.Placed.the-variants.{Here}
 use Rattle.cards.specs.declared.Step.the-variants.{Next}
 use Rattle.cards.specs.declared.CardsRead.the-variants.{Counted}
 use Rattle.columns.specs.Columns.{lineAt}
-use Rattle.cards.specs.Cards.{mostLines, linesFrom, linesOf, counts, placeOf, numberedOf, stepOf, pass, totals, closes, start, cardsOf, total}
+use Rattle.columns.specs.Format.{mostLines}
+use Rattle.cards.specs.Cards.{linesFrom, linesOf, counts, placeOf, numberedOf, stepOf, pass, totals, closes, start, cardsOf, total}
 use Rattle.cards.specs.Rules.{Holds, LineIs, letterAt, numberAt, Meets}
 use Rattle.cards.proofs.Growth.{at-s, at-g, at-d, at-p, at-t, sound}
 use Rattle.cards.proofs.Laws.{here-here, place-s, place-g, place-d, place-p, place-t, whole-lines, file-good}

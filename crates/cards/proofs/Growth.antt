@@ -22,8 +22,9 @@ use Rattle.cards.specs.declared.CardsRead.the-variants.{Counted, Refused
 use Rattle.columns.specs.declared.Fault.{Fault}
 use Rattle.columns.specs.declared.Fault.the-variants.{ListOrLength, Byte, Sequence, Terminate}
 use Rattle.columns.specs.declared.FileLine.{FileLine}
+use Rattle.columns.specs.Format.{mostLines}
 use Rattle.cards.specs.Rules.{Holds, Known, LineIs, letterAt, numberAt, Meets}
-use Rattle.cards.specs.Cards.{mostLines, linesFrom, linesOf, lineOk, seven, counts, here, placeOf, numberedOf, stepOf, pass, tells, totals, closes, start, closed, lengthOk, cardsOf, total}
+use Rattle.cards.specs.Cards.{linesFrom, linesOf, lineOk, seven, counts, here, placeOf, numberedOf, stepOf, pass, tells, totals, closes, start, closed, lengthOk, cardsOf, total}
 
 -- ---- the five moves
 

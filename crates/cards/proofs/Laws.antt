@@ -22,8 +22,9 @@ use Rattle.cards.specs.declared.CardsRead.{CardsRead}
 use Rattle.cards.specs.declared.CardsRead.the-variants.{Counted, Refused}
 use Rattle.columns.specs.declared.Fault.{Fault}
 use Rattle.columns.specs.declared.Fault.the-variants.{ListOrLength, Byte, Section, Sequence, Terminate}
+use Rattle.columns.specs.Format.{mostLines}
 use Rattle.cards.proofs.Growth.{one-more, length-linesFrom}
-use Rattle.cards.specs.Cards.{mostLines, linesFrom, linesOf, lineOk, seven, counts, here, placeOf, numberedOf, stepOf, pass, tells, totals, closes, start, closed, lengthOk, cardsOf}
+use Rattle.cards.specs.Cards.{linesFrom, linesOf, lineOk, seven, counts, here, placeOf, numberedOf, stepOf, pass, tells, totals, closes, start, closed, lengthOk, cardsOf}
 
 -- ---- a line's bytes and LF
 

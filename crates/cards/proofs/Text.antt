@@ -8,9 +8,10 @@ use lib.ListN.{length, getD, take, drop}
 use lib.Seq.{take-all}
 use Rattle.columns.specs.Columns.{columns, lineAt, textOf}
 use Rattle.columns.proofs.Columns.{line-columns}
-use Rattle.cards.specs.Cards.{mostLines, total}
+use Rattle.cards.specs.Cards.{total}
 use Rattle.cards.specs.Written.{Body, Bodies, countsOf, fileOf}
 use Rattle.columns.specs.Columns.{joined}
+use Rattle.columns.specs.Format.{mostLines}
 use Rattle.cards.proofs.Round.{body-of, g-columns, p-columns}
 
 -- the first w columns of line k, as they stand in the file

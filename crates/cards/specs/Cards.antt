@@ -7,8 +7,10 @@ use lib.ListN.{length, getD}
 use lib.Dec.{leb, ltb, eqb}
 use Rattle.columns.specs.declared.Fault.the-variants.{ListOrLength, Byte, Section, Sequence, Terminate}
 use Rattle.columns.specs.Refusal.{Outcome, accepted, refused}
-use Rattle.columns.specs.Columns.{columns, printable, blank, lineBytes, lineAt}
+use Rattle.columns.specs.Columns.{columns, printable, blank, lineAt}
 use Rattle.columns.specs.Fixed.{fieldOf, isNumber}
+use Rattle.columns.specs.Format.{lineColumns, lineBytes, textColumns, fieldColumns, mostLines}
+use Rattle.columns.specs.Letters.{newline, letterD, letterG, letterP, letterS, letterT}
 use Rattle.cards.specs.declared.Counts.{Counts}
 use Rattle.cards.specs.declared.Placed.{Placed}
 use Rattle.cards.specs.declared.Placed.the-variants.{Here, Nowhere}
@@ -17,10 +19,6 @@ use Rattle.cards.specs.declared.Step.the-variants.{Next, Wrong}
 use Rattle.cards.specs.declared.CardsRead.{CardsRead}
 use Rattle.cards.specs.declared.CardsRead.the-variants.{Counted, Refused}
 use Rattle.cards.specs.Shared.{fileLine}
-
--- the most lines that a file may have
-abbrev pub mostLines : ℕ
-mostLines = 200000
 
 -- n lines of a file, from line k on
 unfoldable pub linesFrom : List ℕ → ℕ → ℕ → List (List ℕ)
@@ -33,7 +31,7 @@ linesOf f = linesFrom f 0 (length f / lineBytes)
 
 -- 80 bytes from 32 to 126, then LF
 unfoldable pub lineOk : List ℕ → Bool
-lineOk l = eqb (getD l 80 0) 10 && printable (columns l 0 80)
+lineOk l = eqb (getD l lineColumns 0) newline && printable (columns l 0 lineColumns)
 
 -- the seven columns from at on hold n
 unfoldable pub seven : List ℕ → ℕ → ℕ → Bool
@@ -55,22 +53,22 @@ here before later c n = cond (ltb 0 before && eqb later 0) (Here c n) Nowhere
 unfoldable pub placeOf : Counts → ℕ → ℕ → Placed
 placeOf c left b =
     let (s, g, d, p, t) : ℕ × ℕ × ℕ × ℕ × ℕ = (c .s, c .g, c .d, c .p, c .t) in
-    cond (eqb b 84) (here g t (counts s g d p (t + 1)) (t + 1))
+    cond (eqb b letterT) (here g t (counts s g d p (t + 1)) (t + 1))
     (cond (eqb left 0) Nowhere
-    (cond (eqb b 83) (here 1 (g + d + p + t) (counts (s + 1) g d p t) (s + 1))
-    (cond (eqb b 71) (here s (d + p + t) (counts s (g + 1) d p t) (g + 1))
-    (cond (eqb b 68) (here g (p + t) (counts s g (d + 1) p t) (d + 1))
-    (cond (eqb b 80) (here g t (counts s g d (p + 1) t) (p + 1))
+    (cond (eqb b letterS) (here 1 (g + d + p + t) (counts (s + 1) g d p t) (s + 1))
+    (cond (eqb b letterG) (here s (d + p + t) (counts s (g + 1) d p t) (g + 1))
+    (cond (eqb b letterD) (here g (p + t) (counts s g (d + 1) p t) (d + 1))
+    (cond (eqb b letterP) (here g t (counts s g d (p + 1) t) (p + 1))
     Nowhere)))))
 
 -- its number in columns 74-80
 unfoldable pub numberedOf : Placed → List ℕ → Step
 numberedOf Nowhere l = Wrong Section
-numberedOf (Here c n) l = cond (seven l 73 n) (Next c) (Wrong Sequence)
+numberedOf (Here c n) l = cond (seven l (textColumns + 1) n) (Next c) (Wrong Sequence)
 
 -- one line: its bytes, then its place, then its number
 unfoldable pub stepOf : Counts → ℕ → List ℕ → Step
-stepOf c left l = cond (lineOk l) (numberedOf (placeOf c left (getD l 72 0)) l) (Wrong Byte)
+stepOf c left l = cond (lineOk l) (numberedOf (placeOf c left (getD l textColumns 0)) l) (Wrong Byte)
 
 -- line by line, the first of them line k of the file
 unfoldable pub pass : Counts → ℕ → List (List ℕ) → CardsRead
@@ -83,7 +81,7 @@ tells l at b n = eqb (getD l at 0) b && seven l (at + 1) n
 
 -- the T line: four of these, then blanks
 unfoldable pub totals : Counts → List ℕ → Bool
-totals c l = tells l 0 83 (c .s) && (tells l 8 71 (c .g) && (tells l 16 68 (c .d) && (tells l 24 80 (c .p) && blank (columns l 32 72))))
+totals c l = tells l 0 letterS (c .s) && (tells l fieldColumns letterG (c .g) && (tells l (2 * fieldColumns) letterD (c .d) && (tells l (3 * fieldColumns) letterP (c .p) && blank (columns l (4 * fieldColumns) textColumns))))
 
 -- the D lines are even in number, and T tells the counts
 unfoldable pub closes : Counts → List ℕ → Bool

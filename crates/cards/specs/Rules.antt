@@ -5,11 +5,13 @@ use mathlib.Core.Bool.{true, cond}
 use mathlib.Core.List.{List}
 use lib.ListN.{length, getD}
 use lib.Dec.{ltb}
-use Rattle.columns.specs.Columns.{lineBytes, lineAt}
+use Rattle.columns.specs.Columns.{lineAt}
+use Rattle.columns.specs.Format.{lineBytes, textColumns, mostLines}
+use Rattle.columns.specs.Letters.{letterD, letterG, letterP, letterS, letterT}
 use Rattle.cards.specs.declared.Counts.{Counts}
 use Rattle.cards.specs.declared.CardsRead.{CardsRead}
 use Rattle.cards.specs.declared.CardsRead.the-variants.{Counted, Refused}
-use Rattle.cards.specs.Cards.{mostLines, lineOk, seven, total, totals, firstG, firstD, firstP, firstT}
+use Rattle.cards.specs.Cards.{lineOk, seven, total, totals, firstG, firstD, firstP, firstT}
 
 -- counts that a file of this length may have
 pub record Holds (f : List ℕ) (c : Counts) : Type 0 where
@@ -28,12 +30,12 @@ Known f (Refused w k) = Unit {0}
 -- a good line of letter b and sequence number n
 pub record LineIs (b n : ℕ) (l : List ℕ) : Type 0 where
   pub ok : lineOk l ≡ true
-  pub letter : getD l 72 0 ≡ b
-  pub number : seven l 73 n ≡ true
+  pub letter : getD l textColumns 0 ≡ b
+  pub number : seven l (textColumns + 1) n ≡ true
 
 -- the letter of line i, from 0, in a file with these counts: S, G, D, P, T
 unfoldable pub letterAt : Counts → ℕ → ℕ
-letterAt c i = cond (ltb i (firstG c)) 83 (cond (ltb i (firstD c)) 71 (cond (ltb i (firstP c)) 68 (cond (ltb i (firstT c)) 80 84)))
+letterAt c i = cond (ltb i (firstG c)) letterS (cond (ltb i (firstD c)) letterG (cond (ltb i (firstP c)) letterD (cond (ltb i (firstT c)) letterP letterT)))
 
 -- its number in its section
 unfoldable pub numberAt : Counts → ℕ → ℕ

@@ -7,8 +7,9 @@ use columns::Fault;
 ghost use mathlib.Core.Path.{_≡_};
 ghost use Prim.Native.Nat.{_+_, _*_, _<_, _≤_};
 ghost use lib.ListN.{length};
-ghost use Rattle.columns.specs.Columns.{columns, lineBytes, lineAt};
-ghost use Rattle.cards.specs.Cards.{mostLines, lineOk, counts, here, placeOf, stepOf, total};
+ghost use Rattle.columns.specs.Columns.{columns, lineAt};
+ghost use Rattle.columns.specs.Format.{lineBytes, mostLines};
+ghost use Rattle.cards.specs.Cards.{lineOk, counts, here, placeOf, stepOf, total};
 
 // Whether the line from `at` on has 80 bytes from 32 to 126, then LF.
 fn line_ok(file: &[u8], at: usize) -> bool

@@ -5,7 +5,8 @@ ghost use mathlib.Core.Path.{_≡_};
 ghost use mathlib.Core.Bool.{false, _&&_};
 ghost use Prim.Native.Nat.{_+_, _*_, _≤_};
 ghost use lib.ListN.{length};
-ghost use Rattle.columns.specs.Columns.{lineBytes, lineAt};
+ghost use Rattle.columns.specs.Columns.{lineAt};
+ghost use Rattle.columns.specs.Format.{lineBytes};
 ghost use Rattle.cards.specs.Cards.{tells, closes};
 
 // Whether a letter stands at `at`, and then n.

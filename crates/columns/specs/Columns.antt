@@ -4,6 +4,8 @@ use mathlib.Core.Bool.{Bool, true, false, _&&_}
 use mathlib.Core.List.{List, [], _∷_, _++_}
 use lib.ListN.{take, drop}
 use lib.Dec.{leb, eqb}
+use Rattle.columns.specs.Format.{lineBytes}
+use Rattle.columns.specs.Letters.{space}
 
 -- the columns of s from at up to, not including, end; columns are counted from 0
 unfoldable pub columns : List ℕ → ℕ → ℕ → List ℕ
@@ -17,7 +19,7 @@ printable (b ∷ bs) = leb 32 b && (leb b 126 && printable bs)
 -- blanks alone
 unfoldable pub blank : List ℕ → Bool
 blank [] = true
-blank (b ∷ bs) = eqb b 32 && blank bs
+blank (b ∷ bs) = eqb b space && blank bs
 
 -- byte for byte the same
 unfoldable pub sameBytes : List ℕ → List ℕ → Bool
@@ -30,10 +32,6 @@ sameBytes (a ∷ xs) (b ∷ ys) = eqb a b && sameBytes xs ys
 unfoldable pub joined : List (List ℕ) → List ℕ
 joined [] = []
 joined (l ∷ ls) = l ++ joined ls
-
--- a line's bytes with its LF
-abbrev pub lineBytes : ℕ
-lineBytes = 81
 
 -- line k of a file, from 0, with its LF
 unfoldable pub lineAt : List ℕ → ℕ → List ℕ

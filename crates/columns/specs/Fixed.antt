@@ -9,16 +9,17 @@ use Rattle.columns.specs.declared.Field.the-variants.{Number, Bad}
 use Rattle.columns.specs.declared.Signed.{Signed}
 use Rattle.columns.specs.declared.SignedField.{SignedField}
 use Rattle.columns.specs.declared.SignedField.the-variants.{Number as SignedNumber, Bad as SignedBad}
+use Rattle.columns.specs.Letters.{space, plusSign, minusSign, digit0, digit9}
 
 -- the columns from here on are digits; n is the number so far
 unfoldable pub digitsOf : ℕ → List ℕ → Field
 digitsOf n [] = Number n
-digitsOf n (b ∷ bs) = cond (leb 48 b && leb b 57) (digitsOf (n * 10 + (b - 48)) bs) Bad
+digitsOf n (b ∷ bs) = cond (leb digit0 b && leb b digit9) (digitsOf (n * 10 + (b - digit0)) bs) Bad
 
 -- blanks, then digits
 unfoldable pub fieldOf : List ℕ → Field
 fieldOf [] = Number 0
-fieldOf (b ∷ bs) = cond (eqb b 32) (fieldOf bs) (digitsOf 0 (b ∷ bs))
+fieldOf (b ∷ bs) = cond (eqb b space) (fieldOf bs) (digitsOf 0 (b ∷ bs))
 
 -- the field holds n
 unfoldable pub isNumber : Field → ℕ → Bool
@@ -47,7 +48,7 @@ behindSign neg (b ∷ bs) = withSign neg (digitsOf 0 (b ∷ bs))
 unfoldable pub signedOf : List ℕ → SignedField
 signedOf [] = SignedNumber (signed false 0)
 signedOf (b ∷ bs) =
-    cond (eqb b 32) (signedOf bs)
-    (cond (eqb b 45) (behindSign true bs)
-    (cond (eqb b 43) (behindSign false bs)
+    cond (eqb b space) (signedOf bs)
+    (cond (eqb b minusSign) (behindSign true bs)
+    (cond (eqb b plusSign) (behindSign false bs)
     (withSign false (digitsOf 0 (b ∷ bs)))))

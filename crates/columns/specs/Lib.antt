@@ -1,3 +1,5 @@
+pub mod Letters
+pub mod Format
 pub mod Refusal
 pub mod First
 pub mod Columns

@@ -10,6 +10,7 @@ use Rattle.columns.specs.declared.SignedField.{SignedField}
 use Rattle.columns.specs.declared.SignedField.the-variants.{Number as SignedNumber, Bad as SignedBad}
 use Rattle.columns.specs.Columns.{columns}
 use Rattle.columns.specs.Fixed.{fieldOf, signedOf}
+use Rattle.columns.specs.Letters.{space}
 
 -- a number, if it is one, below m
 abbrev pub Below : ℕ → Field → Type 0
@@ -27,4 +28,4 @@ pub record Behind (s : List ℕ) (at end r : ℕ) : Type 0 where
   pub high : r ≤ end
   pub field : fieldOf (columns s r end) ≡ fieldOf (columns s at end)
   pub signed : signedOf (columns s r end) ≡ signedOf (columns s at end)
-  pub next : r < end → getD s r 0 ≡ 32 → ⊥
+  pub next : r < end → getD s r 0 ≡ space → ⊥

@@ -8,11 +8,12 @@ ghost use Prim.Native.Nat.{_+_, _-_, _≤_, _<_, _^_};
 ghost use lib.ListN.{length};
 ghost use Rattle.columns.specs.Laid.{Wrote};
 ghost use Rattle.columns.specs.Decimal.{dec, signedDec, toRight, toLeft};
+ghost use Rattle.columns.specs.Letters.{space, digit0};
 
 // The digit of n.
 fn digit(n: u64) -> u8
     requires { ⌜ n < 10 ⌝ }
-    ensures { λ r. ⌜ r ≡ 48 + n ⌝ }
+    ensures { λ r. ⌜ r ≡ digit0 + n ⌝ }
 {
     b'0' + n as u8
 }
@@ -164,7 +165,7 @@ pub fn count_signed(x: Signed) -> usize
 // Writes x to the right of `width` columns, with blanks before it.
 pub fn put_signed_right(out: &mut [u8], at: usize, width: usize, x: Signed) -> usize
     requires { ⌜ (at < 2 ^ 62) × (width < 2 ^ 62) ⌝ }
-    ensures { λ r. ⌜ Wrote (now (out .entry)) at (toRight 32 width (signedDec x)) (now (out .exit)) r ⌝ }
+    ensures { λ r. ⌜ Wrote (now (out .entry)) at (toRight space width (signedDec x)) (now (out .exit)) r ⌝ }
     ensures { λ r. ⌜ (at + width ≤ r) × (r ≤ at + width + 11) ⌝ }
 {
     let neg = x.neg;

@@ -10,10 +10,11 @@ ghost use lib.ListN.{length};
 ghost use Rattle.columns.specs.Columns.{columns};
 ghost use Rattle.columns.specs.Fixed.{digitsOf, fieldOf, isNumber, withSign, behindSign, signedOf};
 ghost use Rattle.columns.specs.Reading.{Below, SizeBelow, Behind};
+ghost use Rattle.columns.specs.Format.{fieldColumns};
 
 // Digits from `at` up to `end`.
 fn digits(s: &[u8], at: usize, end: usize) -> Field
-    requires { ⌜ (at ≤ end) × (end ≤ length (now s)) × (end ≤ at + 8) ⌝ }
+    requires { ⌜ (at ≤ end) × (end ≤ length (now s)) × (end ≤ at + fieldColumns) ⌝ }
     ensures { λ r. ⌜ r ≡ digitsOf 0 (columns (now (s .entry)) at end) ⌝ }
     ensures { λ r. ⌜ Below 100000000 r ⌝ }
 {
@@ -50,7 +51,7 @@ fn behind_blanks(s: &[u8], at: usize, end: usize) -> usize
 
 // The number in the columns from `at` up to `end`.
 pub fn read_field(s: &[u8], at: usize, end: usize) -> Field
-    requires { ⌜ (at ≤ end) × (end ≤ length (now s)) × (end ≤ at + 8) ⌝ }
+    requires { ⌜ (at ≤ end) × (end ≤ length (now s)) × (end ≤ at + fieldColumns) ⌝ }
     ensures { λ r. ⌜ r ≡ fieldOf (columns (now (s .entry)) at end) ⌝ }
     ensures { λ r. ⌜ Below 100000000 r ⌝ }
 {
@@ -69,7 +70,7 @@ fn is_number(f: Field, n: u32) -> bool
 
 // Whether the columns from `at` up to `end` hold n.
 pub fn holds(s: &[u8], at: usize, end: usize, n: u32) -> bool
-    requires { ⌜ (at ≤ end) × (end ≤ length (now s)) × (end ≤ at + 8) ⌝ }
+    requires { ⌜ (at ≤ end) × (end ≤ length (now s)) × (end ≤ at + fieldColumns) ⌝ }
     ensures { λ r. ⌜ r ≡ isNumber (fieldOf (columns (now (s .entry)) at end)) n ⌝ }
 {
     let f = read_field(s, at, end);
@@ -96,7 +97,7 @@ fn with_sign(neg: bool, f: Field) -> SignedField
 
 // The digits from `at` up to `end`, behind a sign.
 fn behind_sign(neg: bool, s: &[u8], at: usize, end: usize) -> SignedField
-    requires { ⌜ (at ≤ end) × (end ≤ length (now s)) × (end ≤ at + 8) ⌝ }
+    requires { ⌜ (at ≤ end) × (end ≤ length (now s)) × (end ≤ at + fieldColumns) ⌝ }
     ensures { λ r. ⌜ r ≡ behindSign neg (columns (now (s .entry)) at end) ⌝ }
     ensures { λ r. ⌜ SizeBelow 100000000 r ⌝ }
 {
@@ -109,7 +110,7 @@ fn behind_sign(neg: bool, s: &[u8], at: usize, end: usize) -> SignedField
 
 // The number, with a sign or without, in the columns from `at` up to `end`.
 pub fn read_signed(s: &[u8], at: usize, end: usize) -> SignedField
-    requires { ⌜ (at ≤ end) × (end ≤ length (now s)) × (end ≤ at + 8) ⌝ }
+    requires { ⌜ (at ≤ end) × (end ≤ length (now s)) × (end ≤ at + fieldColumns) ⌝ }
     ensures { λ r. ⌜ r ≡ signedOf (columns (now (s .entry)) at end) ⌝ }
     ensures { λ r. ⌜ SizeBelow 100000000 r ⌝ }
 {

@@ -6,8 +6,8 @@ use lib.Dec.{leb}
 use borrow.Author.Tests.{leb-true}
 use Rattle.columns.specs.declared.Fault.the-variants.{TooLong}
 use Rattle.columns.specs.Refusal.{accepted, demand}
+use Rattle.columns.specs.Format.{mostLines}
 use Rattle.columns.proofs.Outcomes.{then-accepted, demand-accepted}
-use Rattle.cards.specs.Cards.{mostLines}
 use Rattle.sheets.specs.Sheet.{Sheet, sheetText, sheetOf as sheetOfLines}
 use Rattle.sheets.proofs.Sheets.{sheet-again, lines-written, written-read}
 use Rattle.model.specs.Model.{Model, sheetOf, modelOf}

@@ -7,6 +7,7 @@ use native.Mathlib.Omega.{arith}
 use lib.ListN.{replicate}
 use Rattle.columns.specs.Columns.{printable}
 use Rattle.columns.specs.Decimal.{dec, signedDec, lastDigits, toLeft, toRight}
+use Rattle.columns.specs.Format.{mostLines, mostList}
 use Rattle.values.specs.Value.{Item, whole, fine-whole, spelled}
 use Rattle.records.specs.Flow.{firm, gap, piece, flow, lineCount, cut, inLines}
 use Rattle.records.specs.Record.{trimmed}
@@ -14,8 +15,7 @@ use Rattle.records.specs.Global.{canonicalOpening}
 use Rattle.directory.specs.Fields.{fieldsOf, nought, entryOf}
 use Rattle.directory.specs.Lines.{entryLines}
 use Rattle.directory.specs.Rules.{statusOk, rangesOk}
-use Rattle.cards.specs.Cards.{mostLines}
-use Rattle.layouts.specs.Known.{mostList, known}
+use Rattle.layouts.specs.Known.{known}
 use Rattle.layouts.specs.Layout.{paper, bitOf}
 use Rattle.sheets.specs.Line.{isLabel}
 use Rattle.sheets.specs.Sheet.{isStart}

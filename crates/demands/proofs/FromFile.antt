@@ -6,6 +6,7 @@ use native.Mathlib.Omega.{arith}
 use lib.ListN.{length, drop, length-map}
 use Rattle.columns.specs.First.{upFrom}
 use Rattle.columns.specs.Refusal.{accepted}
+use Rattle.columns.specs.Format.{mostList, mostInteger}
 use Rattle.columns.proofs.First.{length-upFrom}
 use Rattle.records.specs.Record.{Values, values, valuesAt, trimmed}
 use Rattle.records.proofs.Fine.{trim-idle}
@@ -13,9 +14,7 @@ use Rattle.cards.specs.declared.Counts.{Counts}
 use Rattle.cards.specs.Cards.{firstG, entries}
 use Rattle.cards.specs.Rules.{Meets}
 use Rattle.cards.proofs.Complete.{rules}
-use Rattle.layouts.specs.Known.{mostList}
 use Rattle.layouts.proofs.Fits.{accepts-keeps}
-use Rattle.sheets.specs.Plain.{most}
 use Rattle.sheets.specs.WellFormed.{Each}
 use Rattle.model.specs.Model.{Carried, Model, typeOf, typesOf, entityOf, fieldsIn}
 use Rattle.model.specs.Read.{Listed, Before, GlobalRead, globalText, two, firstEntry, byParameters, parametersOf, entityIn, listedType, lastPass, modelWith, readModel}
@@ -86,13 +85,13 @@ module _ (list : ℕ) (f : List ℕ) (b : Before) (ys : List Carried) (p : Passe
       (each-both (r .each-told) (each-both (r .each-refers) (r .each-prints))) ys last)
 
   -- there are no more entries than lines
-  entries-few : 2 * length ys ≤ suc most
+  entries-few : 2 * length ys ≤ suc mostInteger
   entries-few =
       let l : length (typesOf ys) ≡ length ys = length-map (map fieldsIn ys) typeOf ∙ length-map ys fieldsIn in
       let k : length (map listedType (b .listed)) ≡ entries c
       = length-map (b .listed) listedType ∙ ap length (p .listed) ∙ length-map (upFrom 0 (entries c)) (entryOf f c) ∙ length-upFrom (entries c) 0 in
       let n : length ys ≡ entries c = sym l ∙ ap length types-kept ∙ k in
-      omega (arith, meets .holds .most)
+      omega (arith, meets .holds .mostInteger)
 
   model-fits : list ≤ mostList → Fits list (modelWith f c (b .global) ys)
   model-fits h =

@@ -6,13 +6,14 @@ use Prim.Native.Nat.{ℕ, _≤_}
 use lib.ListN.{length-map}
 use Rattle.columns.specs.declared.Fault.the-variants.{Global, Reference, Mark}
 use Rattle.columns.specs.Refusal.{accepted}
+use Rattle.columns.specs.Format.{mostList}
 use Rattle.columns.proofs.Outcomes.{then-accepted, demand-accepted}
 use Rattle.columns.proofs.Tests.{both}
 use Rattle.values.specs.Value.{Item, seen}
 use Rattle.records.specs.Global.{globalFits}
 use Rattle.directory.specs.Fields.{entryOf}
 use Rattle.directory.specs.Rules.{referenceRule, references, allFit}
-use Rattle.layouts.specs.Known.{mostList, known}
+use Rattle.layouts.specs.Known.{known}
 use Rattle.layouts.specs.Fits.{Keeps}
 use Rattle.layouts.specs.Entities.{entityCheck, marks}
 use Rattle.layouts.proofs.Fits.{accepts-keeps}

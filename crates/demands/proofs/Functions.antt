@@ -8,8 +8,8 @@ use native.Mathlib.Decide.{decLe}
 use lib.ListN.{length}
 use Rattle.columns.specs.declared.Fault.the-variants.{TooLong}
 use Rattle.columns.specs.Refusal.{Outcome, accepted, refused}
+use Rattle.columns.specs.Format.{mostLines, mostBytes}
 use Rattle.columns.proofs.Refusals.{numbered}
-use Rattle.cards.specs.Cards.{mostLines}
 use Rattle.model.specs.Canonical.{lineTotal, canonical}
 use Rattle.model.specs.Read.{reads}
 use Rattle.model.specs.Write.{writes}
@@ -20,7 +20,7 @@ use Rattle.desk.specs.Content.{sheetBy}
 use Rattle.desk.proofs.Exactly.{exactly-the-rules}
 use Rattle.desk.proofs.Content.{reads-sheet}
 use Rattle.desk.proofs.NeverRoom.{reads-never, writes-never}
-use Rattle.demands.specs.Calls.{ReadCall, WriteCall, given, mostBytes}
+use Rattle.demands.specs.Calls.{ReadCall, WriteCall, given}
 use Rattle.demands.specs.Functions.{ReadsExactly, SheetTold, WritesExactly, ReadWriteRead, SheetWritten, WrittenRead, WriteReadWrite, KeepsRest, AskedFirst, NoneForNothing}
 use Rattle.demands.proofs.Demand.{kept}
 use Rattle.demands.proofs.Impostors.{no-impostor}

@@ -6,9 +6,9 @@ use native.Mathlib.Omega.{arith}
 use lib.ListN.{length, getD, length-append, length-map}
 use Rattle.columns.specs.declared.Fault.{Fault}
 use Rattle.columns.specs.Refusal.{Outcome, accepted, refused}
+use Rattle.columns.specs.Format.{mostLines, mostList}
 use Rattle.values.specs.Value.{Item, default, whole, real, text}
-use Rattle.cards.specs.Cards.{mostLines, entries}
-use Rattle.layouts.specs.Known.{mostList}
+use Rattle.cards.specs.Cards.{entries}
 use Rattle.sheets.specs.Sheet.{Line, last, sheetText, piecesOf, lastPiece, saidByAll, linesIn}
 use Rattle.sheets.proofs.Sheets.{lines-written}
 use Rattle.model.specs.Model.{Model, rowOf, sheetOf}

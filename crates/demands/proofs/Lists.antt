@@ -8,7 +8,7 @@ use lib.ListN.{length}
 use Rattle.columns.specs.declared.Fault.{Fault}
 use Rattle.columns.specs.declared.Fault.the-variants.{TooLong}
 use Rattle.columns.specs.Refusal.{accepted, refused}
-use Rattle.cards.specs.Cards.{mostLines}
+use Rattle.columns.specs.Format.{mostLines}
 use Rattle.layouts.specs.Larger.{Late}
 use Rattle.sheets.specs.Sheet.{sheetText}
 use Rattle.model.specs.Model.{Model, sheetOf}

@@ -6,7 +6,7 @@ use Prim.Native.Nat.{ℕ}
 use native.Mathlib.Omega.{arith}
 use lib.ListN.{length}
 use Rattle.columns.specs.Refusal.{accepted, refused}
-use Rattle.layouts.specs.Known.{mostList}
+use Rattle.columns.specs.Format.{mostList}
 use Rattle.layouts.proofs.Demand.{all-types}
 use Rattle.model.specs.Read.{reads}
 use Rattle.desk.specs.declared.Answer.{Answer}

@@ -13,16 +13,16 @@ use Rattle.columns.specs.First.{firstNot, upFrom}
 use Rattle.columns.specs.Fixed.{digitsOf, fieldOf, isNumber}
 use Rattle.columns.specs.Quoted.{codes}
 use Rattle.columns.specs.Refusal.{accepted, eachAt, _then_}
+use Rattle.columns.specs.Format.{mostLines, mostList}
 use Rattle.columns.proofs.Looks.{same-eq, same-self}
 use Rattle.columns.proofs.Outcomes.{then-accepted}
 use Rattle.records.specs.Flow.{lineCount, cut, inLines}
 use Rattle.records.specs.Global.{mayDelimit, opened, recordDelimiter, openingOf, canonicalOpening}
 use Rattle.cards.specs.declared.Counts.{Counts}
-use Rattle.cards.specs.Cards.{mostLines, linesFrom, linesOf, lineOk, seven, placeOf, numberedOf, stepOf, pass, tells, totals, closes, closed, lengthOk, cardsOf}
+use Rattle.cards.specs.Cards.{linesFrom, linesOf, lineOk, seven, placeOf, numberedOf, stepOf, pass, tells, totals, closes, closed, lengthOk, cardsOf}
 use Rattle.cards.specs.Written.{zeros, lineOf, section, totalsOf, fileLines, fileOf}
 use Rattle.owners.specs.InFile.{ownersIn}
 use Rattle.owners.specs.Owners.{ownersOf}
-use Rattle.layouts.specs.Known.{mostList}
 use Rattle.sheets.specs.Sheet.{sheetText}
 use Rattle.model.specs.Model.{Model, sheetOf}
 use Rattle.model.specs.Canonical.{startLines, globalText, globalLines, directoryLines, parameterLines, lineTotal, canonical}

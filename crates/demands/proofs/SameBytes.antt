@@ -6,7 +6,7 @@ use native.Mathlib.Omega.{arith}
 use native.Mathlib.Decide.{decLe}
 use Rattle.columns.specs.declared.Fault.the-variants.{TooLong}
 use Rattle.columns.specs.Refusal.{accepted, refused}
-use Rattle.cards.specs.Cards.{mostLines}
+use Rattle.columns.specs.Format.{mostLines}
 use Rattle.sheets.specs.Sheet.{sheetText}
 use Rattle.model.specs.Model.{sheetOf}
 use Rattle.model.specs.Canonical.{lineTotal, canonical}

@@ -3,8 +3,8 @@ use mathlib.Core.Path.{_≡_, sym, ap, _∙_}
 use mathlib.Core.List.{List}
 use Prim.Native.Nat.{ℕ, _≤_}
 use Rattle.columns.specs.Refusal.{accepted}
+use Rattle.columns.specs.Format.{mostLines}
 use Rattle.columns.proofs.Outcomes.{then-accepted}
-use Rattle.cards.specs.Cards.{mostLines}
 use Rattle.sheets.specs.Sheet.{sheetText}
 use Rattle.model.specs.Model.{Model, sheetOf}
 use Rattle.model.specs.Canonical.{lineTotal, canonical}

@@ -7,12 +7,13 @@ use lib.ListN.{length-map}
 use borrow.Author.Tests.{le-leb, ne-eqb}
 use Rattle.columns.specs.declared.Fault.the-variants.{Directory, Global, Reference, Mark}
 use Rattle.columns.specs.Refusal.{accepted}
+use Rattle.columns.specs.Format.{mostList}
 use Rattle.columns.proofs.Outcomes.{demand-true}
 use Rattle.columns.proofs.Tests.{both-true}
 use Rattle.values.specs.Value.{Item, seen}
 use Rattle.records.specs.Global.{globalFits}
 use Rattle.directory.specs.Rules.{rangesOk, entryRules, referenceRule}
-use Rattle.layouts.specs.Known.{mostList, known}
+use Rattle.layouts.specs.Known.{known}
 use Rattle.layouts.specs.Entities.{entityCheck, marks}
 use Rattle.layouts.proofs.Fits.{keeps-accepts}
 use Rattle.sheets.specs.Sheet.{sheetText}

@@ -4,7 +4,7 @@ use Prim.Native.Nat.{ℕ, _≤_, _<_}
 use borrow.Author.Tests.{le-leb, lt-leb}
 use Rattle.columns.specs.declared.Fault.the-variants.{TooLong}
 use Rattle.columns.specs.Refusal.{accepted, refused}
-use Rattle.cards.specs.Cards.{mostLines}
+use Rattle.columns.specs.Format.{mostLines}
 use Rattle.sheets.specs.Sheet.{sheetText}
 use Rattle.model.specs.Model.{Model, sheetOf}
 use Rattle.model.specs.Canonical.{lineTotal, canonical}

@@ -8,8 +8,6 @@ use contract.Lifetimes.{Lfts}
 use denote.Ref.{now}
 use denote.Triple.Clauses.{Lasts, atExit}
 use borrow.Fn.Kinds.{Dens, endedOf}
-use Rattle.columns.specs.Columns.{lineBytes}
-use Rattle.cards.specs.Cards.{mostLines}
 use Rattle.desk.specs.declared.Answer.{Answer}
 use Rattle.desk.specs.Rules.{MeetsRules}
 use Rattle.desk.specs.Content.{sheetBy}
@@ -56,6 +54,3 @@ RoomFor list file o = (r : MeetsRules list file) → length (sheetBy r) ≤ leng
 abbrev pub RoomSeen : Type 0
 RoomSeen = (list : ℕ) (file o s : List ℕ) (a : Answer) → ReadCall list file o a s → (a .number ≡ 16 → ⊥) → RoomFor list file o
 
--- for every file: 16,200,000 bytes
-abbrev pub mostBytes : ℕ
-mostBytes = lineBytes * mostLines

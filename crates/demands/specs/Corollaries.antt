@@ -3,7 +3,7 @@ use mathlib.Core.Path.{_≡_}
 use mathlib.Core.List.{List}
 use Prim.Native.Nat.{ℕ, _≤_}
 use Rattle.columns.specs.Refusal.{accepted}
-use Rattle.cards.specs.Cards.{mostLines}
+use Rattle.columns.specs.Format.{mostLines}
 use Rattle.model.specs.Model.{Model}
 use Rattle.model.specs.Canonical.{lineTotal, canonical}
 use Rattle.model.specs.Read.{readModel, reads}

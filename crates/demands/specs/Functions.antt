@@ -5,7 +5,7 @@ use mathlib.Core.List.{List, []}
 use mathlib.Core.Logic.{_⊎_}
 use Prim.Native.Nat.{ℕ, _≤_, _<_}
 use lib.ListN.{length, drop}
-use Rattle.cards.specs.Cards.{mostLines}
+use Rattle.columns.specs.Format.{mostLines, mostBytes}
 use Rattle.model.specs.Canonical.{lineTotal, canonical}
 use Rattle.desk.specs.declared.Answer.{Answer}
 use Rattle.desk.specs.Answers.{answer}
@@ -13,7 +13,7 @@ use Rattle.desk.specs.Words.{Iff}
 use Rattle.desk.specs.Rules.{MeetsRules}
 use Rattle.desk.specs.Demands.{described}
 use Rattle.desk.specs.Content.{sheetBy}
-use Rattle.demands.specs.Calls.{ReadCall, WriteCall, given, RoomFor, mostBytes}
+use Rattle.demands.specs.Calls.{ReadCall, WriteCall, given, RoomFor}
 
 -- ---- what is accepted
 

@@ -6,8 +6,8 @@ use Prim.Native.Nat.{ℕ, _≤_}
 use lib.ListN.{take}
 use Rattle.columns.specs.declared.Fault.{Fault}
 use Rattle.columns.specs.Refusal.{Outcome, accepted, refused}
-use Rattle.cards.specs.Cards.{mostLines, entries}
-use Rattle.layouts.specs.Known.{mostList}
+use Rattle.columns.specs.Format.{mostLines, mostList}
+use Rattle.cards.specs.Cards.{entries}
 use Rattle.sheets.specs.Sheet.{Line, last, sheetText, linesIn}
 use Rattle.model.specs.Model.{Carried, Model, fieldsIn, sheetOf}
 use Rattle.model.specs.Canonical.{lineTotal, canonical}

@@ -6,12 +6,13 @@ use Prim.Native.Nat.{ℕ, _≤_}
 use lib.ListN.{length}
 use Rattle.columns.specs.declared.Fault.{Fault}
 use Rattle.columns.specs.Refusal.{number}
+use Rattle.columns.specs.Format.{mostBytes}
 use Rattle.layouts.specs.Larger.{Late}
 use Rattle.sheets.specs.Sheet.{Sheet, sheetText}
 use Rattle.desk.specs.declared.Answer.{Answer}
 use Rattle.desk.specs.Answers.{answer}
 use Rattle.desk.specs.Demands.{OneInside, SheetsAlike, EarlierEntry}
-use Rattle.demands.specs.Calls.{ReadCall, WriteCall, given, RoomFor, mostBytes}
+use Rattle.demands.specs.Calls.{ReadCall, WriteCall, given, RoomFor}
 use Rattle.demands.specs.Letters.{LettersOnly}
 
 -- two texts are two sheets that differ only in the letters that mark an entity only the larger list knows, and its references

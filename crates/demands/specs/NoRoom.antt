@@ -11,6 +11,8 @@ use Rattle.columns.specs.Decimal.{lastDigits, dec, signedDec, toRight}
 use Rattle.columns.specs.First.{firstNot, upFrom}
 use Rattle.columns.specs.Fixed.{digitsOf, fieldOf, isNumber, signedOf}
 use Rattle.columns.specs.Refusal.{accepted, eachAt}
+use Rattle.columns.specs.Format.{mostList}
+use Rattle.columns.specs.Letters.{tab, newline}
 use Rattle.values.specs.Head.{headOf}
 use Rattle.values.specs.Number.{power, powerAt, numberOf}
 use Rattle.values.specs.Value.{spelled}
@@ -25,7 +27,7 @@ use Rattle.owners.specs.InFile.{numberOr0, sizeOr0, nameOf, ownerIn, fromIn, co
 use Rattle.owners.specs.Owners.{nameIs, entryOwns, inRange as owners-inRange, lineOwned, ownersOf}
 use Rattle.layouts.specs.Entities.{everywhere, verdict, entityCheck, referencePlaces, marks}
 use Rattle.layouts.specs.Fits.{placesOf, asked}
-use Rattle.layouts.specs.Known.{mostList, known}
+use Rattle.layouts.specs.Known.{known}
 use Rattle.layouts.specs.Layout.{paper, bitOf}
 use Rattle.layouts.specs.Named.{named}
 use Rattle.sheets.specs.Line.{spell, spells, entryLine}
@@ -35,10 +37,10 @@ use Rattle.model.specs.Read.{startsIn, noStray, given, globalIn, entryIn, entri
 use Rattle.desk.specs.Answers.{answer, answerOf}
 
 abbrev line : List ℕ → List ℕ
-line l = l ++ (10 ∷ [])
+line l = l ++ (newline ∷ [])
 
 abbrev field : List ℕ → List ℕ
-field l = 9 ∷ l
+field l = tab ∷ l
 
 abbrev pub surface : List ℕ
 surface =

@@ -5,8 +5,9 @@ use Prim.Native.Nat.{ℕ, _*_, _%_, _≤_}
 use native.Mathlib.Omega.{arith}
 use lib.ListN.{length, length-map}
 use Rattle.columns.specs.Decimal.{toLeft}
+use Rattle.columns.specs.Format.{mostLines}
 use Rattle.cards.specs.declared.Counts.{Counts}
-use Rattle.cards.specs.Cards.{mostLines, total}
+use Rattle.cards.specs.Cards.{total}
 use Rattle.cards.specs.Written.{Bodies, countsOf}
 use Rattle.model.specs.Model.{Model, typesOf}
 use Rattle.model.specs.Canonical.{startLines, globalLines, directoryLines, parameterLines, lineTotal}

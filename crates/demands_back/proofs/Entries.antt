@@ -9,9 +9,10 @@ use Rattle.columns.specs.declared.Fault.the-variants.{Reference}
 use Rattle.columns.specs.Columns.{lineAt}
 use Rattle.columns.specs.First.{upFrom}
 use Rattle.columns.specs.Refusal.{accepted}
+use Rattle.columns.specs.Format.{mostLines}
 use Rattle.columns.proofs.Outcomes.{demand-true}
 use Rattle.cards.specs.declared.Counts.{Counts}
-use Rattle.cards.specs.Cards.{mostLines, total, entryLine}
+use Rattle.cards.specs.Cards.{total, entryLine}
 use Rattle.cards.specs.Written.{Bodies, lineOf, countsOf, fileOf, zeros}
 use Rattle.cards.proofs.Round.{d-line}
 use Rattle.directory.specs.declared.EntryRead.the-variants.{Spelt}

@@ -10,6 +10,7 @@ use lib.Dec.{eqb}
 use Rattle.columns.specs.declared.Signed.{Signed}
 use Rattle.columns.specs.Columns.{printable, joined}
 use Rattle.columns.specs.Decimal.{dec, signedDec, padded, toRight}
+use Rattle.columns.specs.Format.{mostLines}
 use Rattle.columns.proofs.Tests.{cond-cases}
 use Rattle.columns.proofs.Looks.{print-both, print-cons, print-replicate}
 use Rattle.columns.proofs.Decimals.{dec-digits, print-digits, print-signed, print-right}
@@ -20,7 +21,6 @@ use Rattle.directory.specs.Lines.{Slot, number, again, pointer, lines, reserved
 use Rattle.directory.specs.Reading.{firstLine, secondLine, Writable}
 use Rattle.directory.proofs.Puts.{entry-lines}
 use Rattle.directory.proofs.Round.{first-length, second-length}
-use Rattle.cards.specs.Cards.{mostLines}
 use Rattle.cards.specs.Written.{Body, Bodies, none as no-bodies, one as a-body}
 use Rattle.cards.proofs.Round.{all-append}
 use Rattle.sheets.specs.WellFormed.{Each, none, one}

@@ -10,12 +10,12 @@ use borrow.Author.Tests.{eqb-true}
 use Rattle.columns.specs.declared.Signed.{Signed}
 use Rattle.columns.specs.Columns.{printable}
 use Rattle.columns.specs.Fixed.{NormalSign}
+use Rattle.columns.specs.Format.{mostLines}
 use Rattle.columns.proofs.Tests.{both}
 use Rattle.values.specs.Value.{Item, whole, Fine, fine-whole}
 use Rattle.directory.specs.declared.Fields.{Fields}
 use Rattle.directory.specs.Fields.{inOrder}
 use Rattle.directory.specs.Reading.{Normals, Writable}
-use Rattle.cards.specs.Cards.{mostLines}
 use Rattle.sheets.specs.Line.{isLabel}
 use Rattle.sheets.specs.WellFormed.{Each, none, one, Proper, Numbered, Held}
 use Rattle.model.specs.Model.{Carried, typeOf}

@@ -7,12 +7,13 @@ use lib.ListN.{length, getD, replicate}
 use borrow.Author.Tests.{eq-eqb}
 use Rattle.columns.specs.Columns.{columns}
 use Rattle.columns.specs.Refusal.{accepted}
+use Rattle.columns.specs.Format.{mostLines}
 use Rattle.values.specs.Value.{Item}
 use Rattle.records.specs.Record.{values, valuesAt}
 use Rattle.records.specs.Flow.{flow, lineCount}
 use Rattle.records.proofs.Round.{round}
 use Rattle.cards.specs.declared.Counts.{Counts}
-use Rattle.cards.specs.Cards.{mostLines, total}
+use Rattle.cards.specs.Cards.{total}
 use Rattle.cards.specs.Written.{Bodies, countsOf, fileOf}
 use Rattle.cards.proofs.Text.{p-text}
 use Rattle.layouts.proofs.Fits.{keeps-accepts}

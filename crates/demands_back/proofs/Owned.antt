@@ -10,9 +10,10 @@ use Rattle.columns.specs.declared.SignedField.{SignedField}
 use Rattle.columns.specs.declared.ParameterLine.{ParameterLine}
 use Rattle.columns.specs.Fixed.{signedOf}
 use Rattle.columns.specs.Refusal.{accepted}
+use Rattle.columns.specs.Format.{mostLines}
 use Rattle.columns.proofs.Tests.{both-left, both-right}
 use Rattle.cards.specs.declared.Counts.{Counts}
-use Rattle.cards.specs.Cards.{mostLines, total, entryLine}
+use Rattle.cards.specs.Cards.{total, entryLine}
 use Rattle.cards.specs.Written.{Bodies, countsOf, fileOf}
 use Rattle.directory.specs.declared.Fields.{Fields}
 use Rattle.directory.specs.declared.EntryRead.the-variants.{Spelt, Wrong}

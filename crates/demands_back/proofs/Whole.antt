@@ -3,8 +3,7 @@ use mathlib.Core.Path.{_≡_}
 use Prim.Native.Nat.{ℕ, _≤_}
 use borrow.Author.Tests.{le-leb}
 use Rattle.columns.specs.Refusal.{accepted}
-use Rattle.cards.specs.Cards.{mostLines}
-use Rattle.layouts.specs.Known.{mostList}
+use Rattle.columns.specs.Format.{mostLines, mostList}
 use Rattle.model.specs.Model.{Model}
 use Rattle.model.specs.Canonical.{lineTotal, canonical}
 use Rattle.model.specs.Fit.{Fits}

@@ -9,11 +9,11 @@ use lib.ListN.{length}
 use borrow.Author.Tests.{le-leb, eq-eqb}
 use Rattle.columns.specs.First.{upFrom}
 use Rattle.columns.specs.Refusal.{Outcome, accepted, eachAt}
+use Rattle.columns.specs.Format.{mostList}
 use Rattle.values.specs.Value.{whole}
 use Rattle.records.specs.Record.{values, valuesAt, trimmed}
 use Rattle.cards.specs.declared.Counts.{Counts}
 use Rattle.cards.specs.Cards.{entries}
-use Rattle.layouts.specs.Known.{mostList}
 use Rattle.sheets.specs.Sheet.{sheetText}
 use Rattle.model.specs.Model.{typeOf, entityOf, sheetOf}
 use Rattle.model.specs.Read.{two, globalText, parametersOf, entityIn, firstEntry, lastPass, readModel, reads}

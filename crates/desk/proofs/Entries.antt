@@ -8,10 +8,11 @@ use lib.ListN.{getD, take, drop}
 use Rattle.columns.specs.declared.Fault.{Fault}
 use Rattle.columns.specs.declared.Fault.the-variants.{FirstValue}
 use Rattle.columns.specs.Refusal.{Outcome, accepted, refused, demand, eachAt, _then_}
+use Rattle.columns.specs.Format.{mostList}
 use Rattle.columns.proofs.Outcomes.{then-accepted}
 use Rattle.values.specs.Value.{default}
 use Rattle.records.specs.Record.{Values, values, wrong, trimmed, valuesAt}
-use Rattle.layouts.specs.Known.{mostList, Inside}
+use Rattle.layouts.specs.Known.{Inside}
 use Rattle.layouts.specs.Entities.{Entity}
 use Rattle.layouts.specs.Larger.{Late}
 use Rattle.layouts.proofs.Demand.{Added, alike, added-then, added-after, sooner, entity-more}

@@ -8,12 +8,13 @@ use native.Mathlib.Omega.{arith}
 use lib.ListN.{length, drop}
 use borrow.Author.Tests.{le-leb}
 use Rattle.columns.specs.Refusal.{Outcome, accepted, eachAt, _then_}
+use Rattle.columns.specs.Format.{mostList}
 use Rattle.columns.proofs.Outcomes.{then-accepted}
 use Rattle.values.specs.Value.{Item}
 use Rattle.records.specs.Record.{Values, trimmed, valuesAt}
 use Rattle.cards.specs.declared.Counts.{Counts}
 use Rattle.layouts.specs.Entities.{Entity, entityCheck, verdict, fault, carried, marks}
-use Rattle.layouts.specs.Known.{mostList, known, Inside}
+use Rattle.layouts.specs.Known.{known, Inside}
 use Rattle.layouts.proofs.Demand.{knows, marks-same}
 use Rattle.layouts.proofs.Fits.{marks-length}
 use Rattle.model.specs.Model.{Carried, Model, entityOf, marked, rowOf, sheetOf}

@@ -34,8 +34,9 @@ use Rattle.cards.specs.declared.CardsRead.{CardsRead}
 use Rattle.cards.specs.declared.CardsRead.the-variants.{Counted, Refused as NoCards}
 use Rattle.columns.specs.Columns.{lineAt}
 use Rattle.columns.specs.First.{firstNot}
+use Rattle.columns.specs.Format.{mostLines, mostList}
 use Rattle.cards.specs.Shared.{fileLine}
-use Rattle.cards.specs.Cards.{mostLines, start, linesOf, seven, numberedOf, stepOf, lineOk, placeOf, pass, closes, closed, lengthOk, cardsOf, outcome}
+use Rattle.cards.specs.Cards.{start, linesOf, seven, numberedOf, stepOf, lineOk, placeOf, pass, closes, closed, lengthOk, cardsOf, outcome}
 use Rattle.directory.specs.declared.EntryRead.{EntryRead}
 use Rattle.directory.specs.declared.EntryRead.the-variants.{Spelt, Wrong as WrongEntry}
 use Rattle.directory.specs.declared.Fields.{Fields}
@@ -47,7 +48,7 @@ use Rattle.owners.specs.declared.Owned.the-variants.{Everyone, Entry, Line}
 use Rattle.owners.specs.InFile.{ownersIn, outcome as ownershipOutcome}
 use Rattle.layouts.specs.declared.Verdict.{Verdict}
 use Rattle.layouts.specs.declared.Verdict.the-variants.{Good, Layout, LayoutReference}
-use Rattle.layouts.specs.Known.{mostList, known}
+use Rattle.layouts.specs.Known.{known}
 use Rattle.layouts.specs.Entities.{Entity, fault, verdict, entityCheck}
 use Rattle.sheets.specs.declared.Verdict.{Verdict as SheetVerdict}
 use Rattle.sheets.specs.declared.Verdict.the-variants.{Good as GoodSheet, Wrong as WrongSheet}

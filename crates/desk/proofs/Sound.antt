@@ -10,6 +10,7 @@ use borrow.Author.Tests.{eqb-true, eq-eqb}
 use Rattle.columns.specs.declared.Fault.the-variants.{Directory, Macro, Reference}
 use Rattle.columns.specs.Fixed.{signedOf}
 use Rattle.columns.specs.Refusal.{Outcome, accepted, refused, demand}
+use Rattle.columns.specs.Format.{mostList}
 use Rattle.columns.proofs.Outcomes.{then-accepted, demand-accepted}
 use Rattle.values.specs.Value.{Item, default, whole, real, text}
 use Rattle.records.specs.Record.{values, valuesAt, trimmed}
@@ -24,7 +25,7 @@ use Rattle.directory.specs.Rules.{rangesOk, entryRules, referenceRule, referenc
 use Rattle.owners.specs.InFile.{ownerIn, fromIn, countIn}
 use Rattle.owners.specs.Rules.{Owns}
 use Rattle.owners.proofs.Round.{passes-owns}
-use Rattle.layouts.specs.Known.{mostList, known}
+use Rattle.layouts.specs.Known.{known}
 use Rattle.layouts.specs.Fits.{Keeps}
 use Rattle.layouts.proofs.Fits.{accepts-keeps}
 use Rattle.desk.proofs.Keeping.{all-kept}

@@ -6,13 +6,15 @@ use lib.ListN.{length, take, drop}
 use lib.Dec.{leb, ltb, eqb}
 use Rattle.columns.specs.declared.Fault.the-variants.{ListOrLength, Room}
 use Rattle.columns.specs.Refusal.{Outcome, accepted, refused, demand, number, _then_}
-use Rattle.columns.specs.Columns.{blank, lineBytes}
+use Rattle.columns.specs.Columns.{blank}
 use Rattle.columns.specs.Decimal.{dec}
 use Rattle.columns.specs.Laid.{laid}
+use Rattle.columns.specs.Format.{lineBytes, fieldColumns, mostList}
+use Rattle.columns.specs.Letters.{tab, newline, letterX}
 use Rattle.cards.specs.Cards.{entryLine}
 use Rattle.directory.specs.Fields.{named, entryOf}
-use Rattle.directory.specs.Lines.{parameterLine, slots, slotColumns, slotsALine, seek, label}
-use Rattle.layouts.specs.Known.{mostList, known}
+use Rattle.directory.specs.Lines.{parameterLine, slots, slotsALine, seek, label}
+use Rattle.layouts.specs.Known.{known}
 use Rattle.desk.specs.declared.Answer.{Answer}
 use Rattle.desk.specs.declared.Record.{Record}
 use Rattle.model.specs.Model.{typeOf}
@@ -74,11 +76,11 @@ pub data Shown : Type 0 where
 
 -- where the label columns of the entry stand whose first D line is line k of the file
 abbrev pub labelByte : ℕ → ℕ
-labelByte k = lineBytes * (k + seek label slots / slotsALine) + slotColumns * (seek label slots % slotsALine)
+labelByte k = lineBytes * (k + seek label slots / slotsALine) + fieldColumns * (seek label slots % slotsALine)
 
 -- the label from this byte on, or the stand-in if it is blank
 abbrev pub labelOr : List ℕ → ℕ → Shown
-labelOr f at = cond (blank (take slotColumns (drop at f))) standIn (labelFrom at)
+labelOr f at = cond (blank (take fieldColumns (drop at f))) standIn (labelFrom at)
 
 -- a directory number names an entry if it is odd and in the file
 abbrev pub nameIn : List ℕ → ℕ → Before → Shown
@@ -106,7 +108,7 @@ mostOutput = 65536
 -- the sheet; or X, number, place, parted by tabs, then LF
 abbrev pub printed : Outcome (List ℕ) → List ℕ
 printed (accepted s) = s
-printed (refused n place) = 88 ∷ (9 ∷ (dec (number n) ++ (9 ∷ (dec place ++ (10 ∷ [])))))
+printed (refused n place) = letterX ∷ (tab ∷ (dec (number n) ++ (tab ∷ (dec place ++ (newline ∷ [])))))
 
 -- 1 or 16 by these limits
 unfoldable pub withinLimits : List ℕ → Outcome (List ℕ)

@@ -11,6 +11,8 @@ use Rattle.columns.specs.declared.Fault.the-variants.{Directory}
 use Rattle.columns.specs.Refusal.{number}
 use Rattle.columns.specs.Fixed.{digitsOf, fieldOf}
 use Rattle.columns.specs.Decimal.{lastDigits, dec}
+use Rattle.columns.specs.Format.{textColumns}
+use Rattle.columns.specs.Letters.{comma, semicolon}
 use Rattle.values.specs.Number.{power, powerAt, numberOf}
 use Rattle.values.specs.Head.{headOf}
 use Rattle.values.specs.Value.{spelled}
@@ -50,7 +52,7 @@ statusTold (Number n) = cond (statusOk n) passes (refuses (number Directory))
 statusTold Bad = refuses (number Directory)
 
 abbrev computed : Case → Told
-computed (value t x) = told (valuesAt 72 44 59 (codes t ++ (59 ∷ [])) 0)
+computed (value t x) = told (valuesAt textColumns comma semicolon (codes t ++ (semicolon ∷ [])) 0)
 computed (status t x) = statusTold (fieldOf (codes t))
 
 abbrev expected : Case → Told

@@ -5,12 +5,12 @@ use Prim.Native.Nat.{ℕ}
 use lib.ListN.{length}
 use Rattle.columns.specs.Quoted.{codes}
 use Rattle.columns.specs.Refusal.{accepted}
-use Rattle.layouts.specs.Known.{mostList}
 use Rattle.columns.specs.Columns.{columns, printable, blank, sameBytes, joined, lineAt, textOf as columns-textOf}
 use Rattle.columns.specs.Decimal.{lastDigits, dec, signedDec, toRight, toLeft}
 use Rattle.columns.specs.First.{firstNot, upFrom}
 use Rattle.columns.specs.Fixed.{digitsOf, fieldOf, isNumber, signedOf}
 use Rattle.columns.specs.Refusal.{eachAt}
+use Rattle.columns.specs.Format.{mostList}
 use Rattle.values.specs.Head.{headOf}
 use Rattle.values.specs.Number.{power, powerAt, numberOf}
 use Rattle.values.specs.Strict.{strictOf}

@@ -8,10 +8,11 @@ use lib.ListN.{length, take, drop}
 use Rattle.columns.specs.declared.Fault.{Fault}
 use Rattle.columns.specs.declared.Fault.the-variants.{TooLong}
 use Rattle.columns.specs.Refusal.{Outcome, accepted, refused, eachAt}
+use Rattle.columns.specs.Format.{mostLines, mostList}
 use Rattle.values.specs.Value.{Item}
-use Rattle.cards.specs.Cards.{mostLines, entries}
+use Rattle.cards.specs.Cards.{entries}
 use Rattle.directory.specs.declared.Fields.{Fields}
-use Rattle.layouts.specs.Known.{mostList, known, Inside}
+use Rattle.layouts.specs.Known.{known, Inside}
 use Rattle.layouts.specs.Larger.{Late}
 use Rattle.sheets.specs.Sheet.{Row, Sheet, row, sheetText, linesIn, sheetOf as sheetOfLines}
 use Rattle.desk.specs.declared.Record.{Record}

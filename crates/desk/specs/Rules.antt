@@ -4,7 +4,8 @@ use mathlib.Core.Bool.{true, false}
 use mathlib.Core.List.{List, [], _∷_}
 use Prim.Native.Nat.{ℕ, _+_, _*_, _≤_, _<_}
 use lib.ListN.{length, getD, drop}
-use Rattle.columns.specs.Columns.{blank, lineBytes, textOf}
+use Rattle.columns.specs.Columns.{blank, textOf}
+use Rattle.columns.specs.Format.{lineBytes, textColumns, parameterColumns, mostList}
 use Rattle.values.specs.declared.Value.{Value}
 use Rattle.values.specs.Value.{Item, default, whole, itemOf, seen}
 use Rattle.records.specs.declared.Got.the-variants.{Found}
@@ -20,7 +21,7 @@ use Rattle.directory.specs.Fields.{entryOf}
 use Rattle.directory.specs.Lines.{entryAt, parameterLine as lineNumber}
 use Rattle.directory.specs.Rules.{rangesOk, references, allFit}
 use Rattle.owners.specs.InFile.{ownerIn}
-use Rattle.layouts.specs.Known.{mostList, known}
+use Rattle.layouts.specs.Known.{known}
 use Rattle.layouts.specs.Fits.{Keeps}
 use Rattle.model.specs.Model.{typeOf, entityOf}
 use Rattle.model.specs.Read.{globalText}
@@ -34,7 +35,7 @@ pub data Spells (w c d : ℕ) (t : List ℕ) : ℕ → List Item → ℕ → Typ
 -- the Global section opens with these delimiters and spells these fields; later columns are blank
 pub data GlobalIs (t : List ℕ) (c d : ℕ) : List Item → Type 0 where
   no-fields : {next : ℕ} → openingOf t ≡ Opened c d next true → blank (drop next t) ≡ true → GlobalIs t c d []
-  fields : {next end : ℕ} {vs : List Item} → openingOf t ≡ Opened c d next false → Spells 72 c d t next vs end → blank (drop end t) ≡ true
+  fields : {next end : ℕ} {vs : List Item} → openingOf t ≡ Opened c d next false → Spells textColumns c d t next vs end → blank (drop end t) ≡ true
       → GlobalIs t c d vs
 
 -- what the D lines of entry i say: its numbers, the number of its first parameter line, and how many there are
@@ -61,7 +62,7 @@ pub record EntryMeets (list : ℕ) (f : List ℕ) (counts : Counts) (c d : ℕ) 
   -- its parameter lines spell its type number and its values
   pub values : List Item
   pub end : ℕ
-  pub spells : Spells 64 c d (textOf f (lineBytes * parameterLine counts (e .pointer)) 64 (e .lines)) 0 (whole false (typeOf (e .fields)) ∷ values) end
+  pub spells : Spells parameterColumns c d (textOf f (lineBytes * parameterLine counts (e .pointer)) parameterColumns (e .lines)) 0 (whole false (typeOf (e .fields)) ∷ values) end
   -- a known entity keeps to its layout
   pub layout : known list (typeOf (e .fields)) (e .fields .form .size) ≡ true → Keeps types (entityOf (e .fields) values)
 

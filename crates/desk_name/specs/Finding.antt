@@ -3,9 +3,9 @@ use mathlib.Core.Bool.{cond, _&&_}
 use mathlib.Core.List.{List}
 use Prim.Native.Nat.{ℕ, _+_, _/_, _%_, _≤_}
 use lib.Dec.{ltb, eqb}
+use Rattle.columns.specs.Format.{fieldColumns, mostBytes}
 use Rattle.cards.specs.declared.Counts.{Counts}
 use Rattle.cards.specs.Cards.{entryLine, entries}
-use Rattle.directory.specs.Lines.{slotColumns}
 use Rattle.desk.specs.Answers.{Shown, labelFrom, standIn, nothing, labelByte, labelOr}
 use Rattle.desk_name.specs.declared.Found.{Found}
 use Rattle.desk_name.specs.declared.Found.the-variants.{Label, Blank, Nobody}
@@ -22,6 +22,6 @@ foundOf nothing = Nobody
 
 -- a label stands in a file of this length, which has at most 200,000 lines
 abbrev pub Inside : ℕ → Found → Type 0
-Inside size (Label at) = (at + slotColumns ≤ size) × (at ≤ 16200000)
+Inside size (Label at) = (at + fieldColumns ≤ size) × (at ≤ mostBytes)
 Inside size Blank = Unit {0}
 Inside size Nobody = Unit {0}

@@ -2,7 +2,8 @@
 use mathlib.Core.List.{List, [], _∷_, _++_}
 use Prim.Native.Nat.{ℕ}
 use Rattle.columns.specs.Decimal.{dec}
+use Rattle.columns.specs.Letters.{tab, newline, letterX}
 
 -- X, number, place, parted by tabs, then LF
 unfoldable pub refusalLine : ℕ → ℕ → List ℕ
-refusalLine number place = 88 ∷ (9 ∷ (dec number ++ (9 ∷ (dec place ++ (10 ∷ [])))))
+refusalLine number place = letterX ∷ (tab ∷ (dec number ++ (tab ∷ (dec place ++ (newline ∷ [])))))

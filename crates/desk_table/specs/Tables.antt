@@ -7,6 +7,7 @@ use lib.Dec.{leb}
 use Rattle.columns.specs.declared.Fault.the-variants.{Room}
 use Rattle.columns.specs.declared.ParameterLine.{ParameterLine}
 use Rattle.columns.specs.Refusal.{number}
+use Rattle.columns.specs.Format.{lineBytes}
 use Rattle.cards.specs.declared.Counts.{Counts}
 use Rattle.cards.specs.Cards.{firstD, entries}
 use Rattle.directory.specs.declared.Fields.{Fields}
@@ -53,7 +54,7 @@ recordIn list f first i = recordAt list f (2 * i + 1) (first + 2 * i)
 
 -- its lines stand in the file, and its directory number is one of 32 bits
 abbrev pub HasEntry : List ℕ → ℕ → ℕ → Type 0
-HasEntry f first i = (81 * (first + 2 * i) + 162 ≤ length f) × (i < 2 ^ 30)
+HasEntry f first i = (lineBytes * (first + 2 * i) + 2 * lineBytes ≤ length f) × (i < 2 ^ 30)
 
 -- the slots with the first n of them taken by the records of a file's entries
 abbrev pub filled : ℕ → List ℕ → ℕ → List Record → ℕ → List Record

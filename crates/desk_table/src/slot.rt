@@ -9,13 +9,14 @@ ghost use mathlib.Core.Path.{_≡_};
 ghost use mathlib.Core.List.{[]};
 ghost use Prim.Native.Nat.{_+_, _*_, _≤_};
 ghost use lib.ListN.{length, take, drop};
+ghost use Rattle.columns.specs.Format.{lineBytes, fieldColumns};
 ghost use Rattle.directory.specs.Fields.{fieldsOf};
 ghost use Rattle.desk_table.specs.Tables.{recordSpelt, recordAt};
 
 // The eight bytes from a place on.
 fn eight(file: &[u8], at: usize) -> [u8; 8]
-    requires { ⌜ at + 8 ≤ length (now file) ⌝ }
-    ensures { λ r. ⌜ r ≡ take 8 (drop at (now (file .entry))) ⌝ }
+    requires { ⌜ at + fieldColumns ≤ length (now file) ⌝ }
+    ensures { λ r. ⌜ r ≡ take fieldColumns (drop at (now (file .entry))) ⌝ }
 {
     [
         file[at],
@@ -80,7 +81,7 @@ fn record_with(
 
 // Of the entry with this directory number whose first D line is line k.
 pub fn record_at(list: u64, file: &[u8], number: DirectoryNumber, k: usize) -> Record
-    requires { ⌜ 81 * k + 162 ≤ length (now file) ⌝ }
+    requires { ⌜ lineBytes * k + 2 * lineBytes ≤ length (now file) ⌝ }
     ensures { λ r. ⌜ r ≡ recordAt list (now (file .entry)) (number .0) k ⌝ }
 {
     let at = directory_read::label_at(k);

@@ -15,11 +15,12 @@ use Rattle.columns.specs.declared.SignedField.the-variants.{Number as SignedNum
 use Rattle.columns.specs.Columns.{columns, lineAt}
 use Rattle.columns.specs.First.{upFrom}
 use Rattle.columns.specs.Fixed.{fieldOf, signedOf, withSign}
+use Rattle.columns.specs.Format.{fieldColumns}
 use Rattle.columns.proofs.Tests.{cond-same, both-left, both-right}
 use Rattle.columns.proofs.Columns.{line-columns}
 use Rattle.columns.proofs.First.{getD-upFrom}
 use Rattle.directory.specs.Fields.{fieldCount}
-use Rattle.directory.specs.Lines.{Slot, number, label, slots, seek, slotsALine, slotColumns, slotIn, unsigned, numberIn, labelAt}
+use Rattle.directory.specs.Lines.{Slot, number, label, slots, seek, slotsALine, slotIn, unsigned, numberIn, labelAt}
 use Rattle.directory.specs.Reading.{slotAt, startOf}
 
 -- ---- the columns of each slot
@@ -30,14 +31,14 @@ in-at f k x = refl
 
 module _ (f : List ℕ) (k : ℕ) where
   -- of a slot on the first line, and on the second
-  pub first-slot : (j : ℕ) → j < slotsALine → slotAt f k j ≡ columns (lineAt f k) (slotColumns * j) (slotColumns * j + slotColumns)
+  pub first-slot : (j : ℕ) → j < slotsALine → slotAt f k j ≡ columns (lineAt f k) (fieldColumns * j) (fieldColumns * j + fieldColumns)
   unfolding slotAt
   first-slot j h =
       let a : k + j / 9 ≡ k = omega arith in
       let b : j % 9 ≡ j = omega arith in
       rw (a, b)
 
-  pub second-slot : (j : ℕ) → j < slotsALine → slotAt f k (slotsALine + j) ≡ columns (lineAt f (k + 1)) (slotColumns * j) (slotColumns * j + slotColumns)
+  pub second-slot : (j : ℕ) → j < slotsALine → slotAt f k (slotsALine + j) ≡ columns (lineAt f (k + 1)) (fieldColumns * j) (fieldColumns * j + fieldColumns)
   unfolding slotAt
   second-slot j h =
       let a : k + (9 + j) / 9 ≡ k + 1 = omega arith in
@@ -49,7 +50,7 @@ module _ (f : List ℕ) (k : ℕ) where
   label-slot = in-at f k label ∙ second-slot 7 (omega arith)
 
   -- the slots in the file
-  pub slot-columns : (j : ℕ) → slotAt f k j ≡ columns f (startOf k j) (startOf k j + slotColumns)
+  pub slot-columns : (j : ℕ) → slotAt f k j ≡ columns f (startOf k j) (startOf k j + fieldColumns)
   unfolding slotAt
   slot-columns j =
       let e : 81 * (k + j / 9) + (8 * (j % 9) + 8) ≡ startOf k j + 8 = omega arith in

@@ -11,6 +11,8 @@ use Rattle.columns.specs.declared.ParameterLine.{ParameterLine}
 use Rattle.columns.specs.Columns.{columns, lineAt, joined}
 use Rattle.columns.specs.Fixed.{fieldOf, signedOf, withSign}
 use Rattle.columns.specs.Decimal.{dec, signedDec, padded, zeroFilled}
+use Rattle.columns.specs.Format.{fieldColumns}
+use Rattle.columns.specs.Letters.{space}
 use Rattle.directory.specs.declared.Fields.{Fields}
 use Rattle.directory.specs.declared.EntryRead.{EntryRead}
 use Rattle.directory.specs.declared.EntryRead.the-variants.{Spelt, Wrong}
@@ -41,10 +43,6 @@ slots =
 abbrev pub slotsALine : ℕ
 slotsALine = 9
 
--- a field has eight columns
-abbrev pub slotColumns : ℕ
-slotColumns = 8
-
 -- the same slot
 abbrev pub isSlot : Slot → Slot → Bool
 isSlot (number j) (number k) = eqb j k
@@ -73,8 +71,8 @@ seek x (y ∷ ys) = cond (isSlot x y) 0 (suc (seek x ys))
 unfoldable pub slotIn : List ℕ → ℕ → Slot → List ℕ
 slotIn f k x =
     let j = seek x slots in
-    let at = slotColumns * (j % slotsALine) in
-    columns (lineAt f (k + j / slotsALine)) at (at + slotColumns)
+    let at = fieldColumns * (j % slotsALine) in
+    columns (lineAt f (k + j / slotsALine)) at (at + fieldColumns)
 
 -- ---- reading
 
@@ -144,15 +142,15 @@ labelAt f k = slotIn f k label
 
 -- number n of the entry
 abbrev pub written : ℕ → Signed → List ℕ
-written n x = cond (eqb n statusAt) (zeroFilled slotColumns (x .size)) (padded slotColumns (signedDec x))
+written n x = cond (eqb n statusAt) (zeroFilled fieldColumns (x .size)) (padded fieldColumns (signedDec x))
 
 -- what stands in a field
 abbrev pub slotOf : Fields → ℕ → ℕ → List ℕ → Slot → List ℕ
 slotOf x from count name (number n) = written n (getD (inOrder x) n nought)
 slotOf x from count name again = written typeAt (x .entity)
-slotOf x from count name pointer = padded slotColumns (dec from)
-slotOf x from count name lines = padded slotColumns (dec count)
-slotOf x from count name reserved = replicate slotColumns 32
+slotOf x from count name pointer = padded fieldColumns (dec from)
+slotOf x from count name lines = padded fieldColumns (dec count)
+slotOf x from count name reserved = replicate fieldColumns space
 slotOf x from count name label = name
 
 -- the columns 1-72 of an entry's two D lines: its numbers, the pointer and line count of its parameters, its label

@@ -7,31 +7,32 @@ use Prim.Native.Nat.{ℕ, _+_, _*_, _/_, _%_, _≤_, _<_}
 use lib.ListN.{length, take, drop}
 use Rattle.columns.specs.declared.Signed.{Signed}
 use Rattle.columns.specs.declared.ParameterLine.{ParameterLine}
-use Rattle.columns.specs.Columns.{columns, lineBytes, lineAt, joined}
+use Rattle.columns.specs.Columns.{columns, lineAt, joined}
 use Rattle.columns.specs.Fixed.{NormalSign}
 use Rattle.columns.specs.Decimal.{signedDec, padded}
+use Rattle.columns.specs.Format.{lineBytes, fieldColumns}
 use Rattle.directory.specs.declared.Fields.{Fields}
 use Rattle.directory.specs.declared.EntryRead.{EntryRead}
 use Rattle.directory.specs.declared.EntryRead.the-variants.{Spelt, Wrong}
 use Rattle.directory.specs.Fields.{inOrder}
 use Rattle.directory.specs.Rules.{rangesOk}
-use Rattle.directory.specs.Lines.{label, slots, slotsALine, slotColumns, slotOf}
+use Rattle.directory.specs.Lines.{label, slots, slotsALine, slotOf}
 
 -- ---- where a slot stands
 
 -- the columns of slot j of the entry whose first D line is line k
 unfoldable pub slotAt : List ℕ → ℕ → ℕ → List ℕ
-slotAt f k j = columns (lineAt f (k + j / slotsALine)) (slotColumns * (j % slotsALine)) (slotColumns * (j % slotsALine) + slotColumns)
+slotAt f k j = columns (lineAt f (k + j / slotsALine)) (fieldColumns * (j % slotsALine)) (fieldColumns * (j % slotsALine) + fieldColumns)
 
 -- its first byte in the file
 abbrev pub startOf : ℕ → ℕ → ℕ
-startOf k j = lineBytes * (k + j / slotsALine) + slotColumns * (j % slotsALine)
+startOf k j = lineBytes * (k + j / slotsALine) + fieldColumns * (j % slotsALine)
 
 -- ---- the lines as they are written
 
 -- three numbers side by side
 unfoldable pub three : Signed → Signed → Signed → List ℕ
-three x y z = padded slotColumns (signedDec x) ++ (padded slotColumns (signedDec y) ++ padded slotColumns (signedDec z))
+three x y z = padded fieldColumns (signedDec x) ++ (padded fieldColumns (signedDec y) ++ padded fieldColumns (signedDec z))
 
 -- the two elements of entryLines: neither line has what stands on the other
 unfoldable pub firstLine : Fields → ℕ → List ℕ
@@ -45,7 +46,7 @@ secondLine x count name = joined (map (slotOf x 0 count name) (drop slotsALine s
 
 -- a number that was read from eight columns: it fits them, so it is below ten to the eighth, and nought has no sign
 pub record Eight (x : Signed) : Type 0 where
-  pub fits : length (signedDec x) ≤ slotColumns
+  pub fits : length (signedDec x) ≤ fieldColumns
   pub below : x .size < 100000000
   pub normal : NormalSign x
 
@@ -89,4 +90,4 @@ pub record Writable (x : Fields) (from count : ℕ) (name : List ℕ) : Type 0 w
   pub fromHigh : from ≤ 99999999
   pub countLow : 1 ≤ count
   pub countHigh : count ≤ 99999999
-  pub label : length name ≡ 8
+  pub label : length name ≡ fieldColumns

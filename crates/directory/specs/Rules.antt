@@ -9,13 +9,13 @@ use Rattle.columns.specs.declared.Signed.{Signed}
 use Rattle.columns.specs.declared.DirectoryNumber.{DirectoryNumber}
 use Rattle.columns.specs.Decimal.{signedDec}
 use Rattle.columns.specs.Refusal.{Outcome, demand, _then_}
+use Rattle.columns.specs.Format.{fieldColumns}
 use Rattle.references.specs.References.{any, entry124, entry314, classAt, fits}
 use Rattle.directory.specs.declared.Fields.{Fields}
 use Rattle.directory.specs.declared.Attribute.{Attribute}
 use Rattle.directory.specs.declared.Attribute.the-variants.{Number as NumberOf, Reference as ReferenceTo}
 use Rattle.directory.specs.declared.Entry.{Entry}
 use Rattle.directory.specs.Fields.{inOrder, entryOf}
-use Rattle.directory.specs.Lines.{slotColumns}
 
 -- ---- 9: ranges
 
@@ -42,7 +42,7 @@ statusOk n = pairOk (n / 1000000) 1 && (pairOk (n / 10000) 3 && (pairOk (n / 100
 -- a value isn't too wide for its field
 abbrev pub narrow : List Signed → Bool
 narrow [] = true
-narrow (x ∷ xs) = leb (length (signedDec x)) slotColumns && narrow xs
+narrow (x ∷ xs) = leb (length (signedDec x)) fieldColumns && narrow xs
 
 -- type, view, matrix, label display, weight, form are 0 or more; so is the subscript
 abbrev pub signsOk : Fields → Bool

@@ -4,6 +4,7 @@ use crate::SLOT_COLUMNS;
 use crate::order::NUMBERS;
 ghost use mathlib.Core.Path.{_≡_};
 ghost use Prim.Native.Nat.{_+_, _*_, _^_, _<_};
+ghost use Rattle.columns.specs.Format.{lineBytes};
 ghost use Rattle.directory.specs.Lines.{Slot, slots, seek};
 ghost use Rattle.directory.specs.Reading.{startOf};
 
@@ -71,7 +72,7 @@ pub fn place_of(n: usize) -> usize
 
 // The byte where slot j starts, of the entry whose first D line is line k of the file, from 0.
 pub fn start_of(k: usize, j: usize) -> usize
-    requires { ⌜ (81 * k + 162 < 2 ^ 64) × (j < 18) ⌝ }
+    requires { ⌜ (lineBytes * k + 2 * lineBytes < 2 ^ 64) × (j < 18) ⌝ }
     ensures { λ r. ⌜ r ≡ startOf k j ⌝ }
 {
     LINE_BYTES * (k + j / SLOTS_A_LINE) + SLOT_COLUMNS * (j % SLOTS_A_LINE)

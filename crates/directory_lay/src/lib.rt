@@ -7,6 +7,7 @@ ghost use Prim.Native.Nat.{_+_, _^_, _≤_, _<_};
 ghost use lib.ListN.{length};
 ghost use Rattle.columns.specs.Decimal.{signedDec, padded};
 ghost use Rattle.columns.specs.Laid.{Wrote};
+ghost use Rattle.columns.specs.Format.{fieldColumns};
 ghost use Rattle.directory.specs.Reading.{three, firstLine, secondLine};
 
 // The two reserved fields.
@@ -15,7 +16,7 @@ const RESERVED: usize = 16;
 // Writes a number.
 fn put_number(out: &mut [u8], at: usize, x: Signed) -> usize
     requires { ⌜ at < 2 ^ 60 ⌝ }
-    ensures { λ r. ⌜ Wrote (now (out .entry)) at (padded 8 (signedDec x)) (now (out .exit)) r ⌝ }
+    ensures { λ r. ⌜ Wrote (now (out .entry)) at (padded fieldColumns (signedDec x)) (now (out .exit)) r ⌝ }
     ensures { λ r. ⌜ r ≤ at + 19 ⌝ }
 {
     columns_decimals::put_signed_right(out, at, SLOT_COLUMNS, x)
@@ -48,7 +49,7 @@ pub fn put_first(out: &mut [u8], at: usize, x: Fields, from: ParameterLine) -> u
 
 // Writes its second D line; `count` is its parameter line count.
 pub fn put_second(out: &mut [u8], at: usize, x: Fields, count: u32, label: &[u8]) -> usize
-    requires { ⌜ (at < 2 ^ 59) × (length (now label) ≤ 8) ⌝ }
+    requires { ⌜ (at < 2 ^ 59) × (length (now label) ≤ fieldColumns) ⌝ }
     ensures { λ r. ⌜ Wrote (now (out .entry)) at (secondLine x count (now (label .entry))) (now (out .exit)) r ⌝ }
     ensures { λ r. ⌜ r ≤ at + 252 ⌝ }
 {

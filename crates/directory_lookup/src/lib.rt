@@ -5,12 +5,13 @@ use references::NO_ENTRY;
 ghost use mathlib.Core.Path.{_≡_};
 ghost use Prim.Native.Nat.{_+_, _*_, _≤_};
 ghost use lib.ListN.{length};
+ghost use Rattle.columns.specs.Format.{lineBytes};
 ghost use Rattle.references.specs.References.{classAt};
 ghost use Rattle.directory.specs.Naming.{typesAt};
 
 // The class of what a directory number names, among n entries.
 pub fn class_at(file: &[u8], first: usize, n: usize, number: DirectoryNumber) -> u8
-    requires { ⌜ 81 * (first + 2 * n) ≤ length (now file) ⌝ }
+    requires { ⌜ lineBytes * (first + 2 * n) ≤ length (now file) ⌝ }
     ensures { λ r. ⌜ r ≡ classAt (typesAt (now (file .entry)) first n) (number .0) ⌝ }
 {
     if number.0 % 2 != 1 {

@@ -16,6 +16,7 @@ ghost use lib.ListN.{length};
 ghost use Rattle.columns.specs.Columns.{columns};
 ghost use Rattle.columns.specs.Fixed.{fieldOf, signedOf, withSign};
 ghost use Rattle.columns.specs.Reading.{SizeBelow};
+ghost use Rattle.columns.specs.Format.{lineBytes, fieldColumns};
 ghost use Rattle.directory.specs.Fields.{typeAt};
 ghost use Rattle.directory.specs.Lines.{Slot, slotIn, unsigned, numberIn, Numbers, numbersFrom, entryAt};
 ghost use Rattle.directory.specs.Lines.{positive, sizeOf, isSame, speltAs};
@@ -23,8 +24,8 @@ ghost use Rattle.directory.specs.Reading.{slotAt, Small};
 
 // What the slot from `at` on holds, a sign allowed.
 fn signed_at(file: &[u8], at: usize) -> SignedField
-    requires { ⌜ at + 8 ≤ length (now file) ⌝ }
-    ensures { λ r. ⌜ r ≡ signedOf (columns (now (file .entry)) at (at + 8)) ⌝ }
+    requires { ⌜ at + fieldColumns ≤ length (now file) ⌝ }
+    ensures { λ r. ⌜ r ≡ signedOf (columns (now (file .entry)) at (at + fieldColumns)) ⌝ }
     ensures { λ r. ⌜ SizeBelow 100000000 r ⌝ }
 {
     columns_fixed::read_signed(file, at, at + SLOT_COLUMNS)
@@ -32,7 +33,7 @@ fn signed_at(file: &[u8], at: usize) -> SignedField
 
 // What slot j holds, a sign allowed.
 fn signed_in(file: &[u8], k: usize, j: usize) -> SignedField
-    requires { ⌜ (81 * k + 162 ≤ length (now file)) × (j < 18) ⌝ }
+    requires { ⌜ (lineBytes * k + 2 * lineBytes ≤ length (now file)) × (j < 18) ⌝ }
     ensures { λ r. ⌜ r ≡ signedOf (slotAt (now (file .entry)) k j) ⌝ }
     ensures { λ r. ⌜ SizeBelow 100000000 r ⌝ }
 {
@@ -55,7 +56,7 @@ fn plain(f: Field) -> SignedField
 
 // What slot j holds, no sign allowed.
 fn plain_in(file: &[u8], k: usize, j: usize) -> SignedField
-    requires { ⌜ (81 * k + 162 ≤ length (now file)) × (j < 18) ⌝ }
+    requires { ⌜ (lineBytes * k + 2 * lineBytes ≤ length (now file)) × (j < 18) ⌝ }
     ensures { λ r. ⌜ r ≡ withSign false (fieldOf (slotAt (now (file .entry)) k j)) ⌝ }
 {
     let at = lines::start_of(k, j);
@@ -71,7 +72,7 @@ fn is_plain(n: usize) -> bool
 
 // Number n of the entry.
 fn number_in(file: &[u8], k: usize, n: usize) -> SignedField
-    requires { ⌜ (81 * k + 162 ≤ length (now file)) × (n < 12) ⌝ }
+    requires { ⌜ (lineBytes * k + 2 * lineBytes ≤ length (now file)) × (n < 12) ⌝ }
     ensures { λ r. ⌜ r ≡ numberIn (now (file .entry)) k n ⌝ }
 {
     let j = lines::place_of(n);
@@ -139,7 +140,7 @@ fn spelt_as(x: Fields, again: SignedField, from: SignedField, count: SignedField
 
 // The entry of the numbers xs.
 fn with_pointer(file: &[u8], k: usize, xs: [Signed; order::NUMBERS]) -> EntryRead
-    requires { ⌜ (81 * k + 162 ≤ length (now file)) × (numbersFrom (now file) k 0 12 ≡ Numbers.numbers xs) ⌝ }
+    requires { ⌜ (lineBytes * k + 2 * lineBytes ≤ length (now file)) × (numbersFrom (now file) k 0 12 ≡ Numbers.numbers xs) ⌝ }
     ensures { λ r. ⌜ r ≡ entryAt (now (file .entry)) k ⌝ }
     ensures { λ r. ⌜ Small r ⌝ }
 {
@@ -151,7 +152,7 @@ fn with_pointer(file: &[u8], k: usize, xs: [Signed; order::NUMBERS]) -> EntryRea
 
 // The entry whose first D line is line k.
 pub fn entry_at(file: &[u8], k: usize) -> EntryRead
-    requires { ⌜ 81 * k + 162 ≤ length (now file) ⌝ }
+    requires { ⌜ lineBytes * k + 2 * lineBytes ≤ length (now file) ⌝ }
     ensures { λ r. ⌜ r ≡ entryAt (now (file .entry)) k ⌝ }
     ensures { λ r. ⌜ Small r ⌝ }
 {
@@ -173,7 +174,7 @@ pub fn entry_at(file: &[u8], k: usize) -> EntryRead
 
 // The size of what slot j holds.
 fn size_in(file: &[u8], k: usize, j: usize) -> u32
-    requires { ⌜ (81 * k + 162 ≤ length (now file)) × (j < 18) ⌝ }
+    requires { ⌜ (lineBytes * k + 2 * lineBytes ≤ length (now file)) × (j < 18) ⌝ }
     ensures { λ r. ⌜ r ≡ sizeOf (signedOf (slotAt (now (file .entry)) k j)) ⌝ }
     ensures { λ r. ⌜ r < 100000000 ⌝ }
 {
@@ -184,7 +185,7 @@ fn size_in(file: &[u8], k: usize, j: usize) -> u32
 
 // Its type.
 pub fn type_at(file: &[u8], k: usize) -> u32
-    requires { ⌜ 81 * k + 162 ≤ length (now file) ⌝ }
+    requires { ⌜ lineBytes * k + 2 * lineBytes ≤ length (now file) ⌝ }
     ensures { λ r. ⌜ r ≡ sizeOf (signedOf (slotIn (now (file .entry)) k (Slot.number typeAt))) ⌝ }
     ensures { λ r. ⌜ r < 100000000 ⌝ }
 {
@@ -193,8 +194,8 @@ pub fn type_at(file: &[u8], k: usize) -> u32
 
 // The byte where its label starts.
 pub fn label_at(k: usize) -> usize
-    requires { ⌜ 81 * k + 162 < 2 ^ 64 ⌝ }
-    ensures { λ r. ⌜ r ≡ 81 * (k + 1) + 56 ⌝ }
+    requires { ⌜ lineBytes * k + 2 * lineBytes < 2 ^ 64 ⌝ }
+    ensures { λ r. ⌜ r ≡ lineBytes * (k + 1) + 7 * fieldColumns ⌝ }
 {
     lines::start_of(k, lines::LABEL)
 }

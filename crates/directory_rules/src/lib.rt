@@ -13,6 +13,7 @@ ghost use Prim.Native.Nat.{_<_};
 ghost use lib.ListN.{length};
 ghost use lib.Dec.{leb};
 ghost use Rattle.columns.specs.Decimal.{signedDec};
+ghost use Rattle.columns.specs.Format.{fieldColumns};
 ghost use Rattle.directory.specs.Fields.{attributeOf, entryOf};
 ghost use Rattle.directory.specs.Rules.{orLess, upTo, signsOk, limitsOk, pairOk, statusOk, narrow, rangesOk};
 ghost use Rattle.directory.specs.Asking.{ruleOf, ofNumber, ofAttribute, referenceCount, wantedOf};
@@ -94,7 +95,7 @@ fn status_ok(n: u32) -> bool
 
 // Whether x fits eight columns, its sign counted.
 fn is_narrow(x: Signed) -> bool
-    ensures { λ r. ⌜ r ≡ leb (length (signedDec x)) 8 ⌝ }
+    ensures { λ r. ⌜ r ≡ leb (length (signedDec x)) fieldColumns ⌝ }
 {
     if x.neg {
         return x.size < 10000000;

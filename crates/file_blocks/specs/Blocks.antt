@@ -6,6 +6,8 @@ use mathlib.Core.List.{List, [], _∷_, _++_, map}
 use Prim.Native.Nat.{ℕ}
 use Rattle.values.specs.Value.{Item, whole}
 use Rattle.columns.specs.Columns.{joined}
+use Rattle.columns.specs.Format.{textColumns, parameterColumns}
+use Rattle.columns.specs.Letters.{newline, letterG}
 use Rattle.records.specs.Flow.{flow, inLines}
 use Rattle.cards.specs.Written.{zeros, section}
 use Rattle.sheets.specs.Sheet.{Line, start, global, entry, value, last, none}
@@ -70,20 +72,20 @@ behindGlobals ls = behindOf globalGiven ls
 
 -- the G lines of these fields
 unfoldable pub globalBytes : List (ℕ × Item) → List ℕ
-globalBytes gs = joined (section 71 1 (inLines 72 (globalText gs)))
+globalBytes gs = joined (section letterG 1 (inLines textColumns (globalText gs)))
 
 -- ---- an entity's record
 
 -- the type number and the values
 abbrev pub recordText : ℕ → List Item → List ℕ
-recordText typ vs = flow 64 0 (whole false typ ∷ vs)
+recordText typ vs = flow parameterColumns 0 (whole false typ ∷ vs)
 
 -- its P lines with this directory number
 abbrev pub blockLines : ℕ → ℕ → List Item → List (List ℕ)
-blockLines number typ vs = map (owned number) (inLines 64 (recordText typ vs))
+blockLines number typ vs = map (owned number) (inLines parameterColumns (recordText typ vs))
 
 -- ---- a line's last columns
 
 -- its letter, its number, LF
 unfoldable pub tailOf : ℕ → ℕ → List ℕ
-tailOf b n = b ∷ (zeros n ++ (10 ∷ []))
+tailOf b n = b ∷ (zeros n ++ (newline ∷ []))

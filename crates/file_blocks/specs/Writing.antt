@@ -4,9 +4,10 @@ use mathlib.Core.Bool.{false}
 use mathlib.Core.List.{List, [], _∷_, _++_}
 use Prim.Native.Nat.{ℕ, zero, suc, _+_, _-_, _≤_, _<_}
 use lib.ListN.{length, take, drop}
-use Rattle.columns.specs.Columns.{lineBytes}
 use Rattle.columns.specs.Decimal.{dec, padded}
 use Rattle.columns.specs.Laid.{laid}
+use Rattle.columns.specs.Format.{lineBytes, numberColumns}
+use Rattle.columns.specs.Letters.{space}
 use Rattle.values.specs.declared.Value.{Value}
 use Rattle.values.specs.Value.{Item, itemOf}
 use Rattle.records.specs.Flow.{piece}
@@ -28,7 +29,7 @@ parted w p (v ∷ vs) = piece w p v false ++ parted w (p + length (piece w p v f
 
 -- the columns 65 to 72 of a P line: a blank, and the directory number
 abbrev pub ownerOf : ℕ → List ℕ
-ownerOf number = 32 ∷ padded 7 (dec number)
+ownerOf number = space ∷ padded numberColumns (dec number)
 
 -- the ends of so many lines, the first of them at q with number n: m stands before the letter
 unfoldable pub tailed : List ℕ → ℕ → List ℕ → ℕ → ℕ → ℕ → List ℕ

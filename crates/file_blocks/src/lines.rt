@@ -16,6 +16,8 @@ ghost use lib.ListN.{length};
 ghost use Rattle.columns.specs.Columns.{joined};
 ghost use Rattle.columns.specs.Decimal.{toLeft};
 ghost use Rattle.columns.specs.Laid.{Wrote};
+ghost use Rattle.columns.specs.Format.{lineBytes, textColumns, fieldColumns};
+ghost use Rattle.columns.specs.Letters.{letterD, letterG, letterP, letterS, letterT};
 ghost use Rattle.directory.specs.Lines.{entryLines};
 ghost use Rattle.cards.specs.Written.{zeros, lineOf, section, totalsOf};
 ghost use Rattle.file_blocks.specs.Blocks.{tailOf};
@@ -50,9 +52,9 @@ pub fn put_tail(out: &mut [u8], at: usize, letter: u8, n: usize) -> usize
 
 // S line n with this text.
 pub fn put_start_line(out: &mut [u8], at: usize, text: &[u8], n: usize) -> usize
-    requires { ⌜ (at < 2 ^ 59) × (length (now text) ≤ 72) × (n ≤ 9999999) ⌝ }
-    ensures { λ r. ⌜ Wrote (now (out .entry)) at (lineOf (toLeft 72 (now (text .entry))) 83 n) (now (out .exit)) r ⌝ }
-    ensures { λ r. ⌜ r ≡ at + 81 ⌝ }
+    requires { ⌜ (at < 2 ^ 59) × (length (now text) ≤ textColumns) × (n ≤ 9999999) ⌝ }
+    ensures { λ r. ⌜ Wrote (now (out .entry)) at (lineOf (toLeft textColumns (now (text .entry))) letterS n) (now (out .exit)) r ⌝ }
+    ensures { λ r. ⌜ r ≡ at + lineBytes ⌝ }
 {
     let a = columns_decimals::put_left(out, at, TEXT, text);
     put_tail(out, a, START, n)
@@ -69,9 +71,9 @@ pub fn put_entry_lines(
     label: &[u8],
     number: DirectoryNumber,
 ) -> usize
-    requires { ⌜ (at < 2 ^ 58) × (length (now label) ≤ 8) × (number .0 + 1 ≤ 9999999) ⌝ }
+    requires { ⌜ (at < 2 ^ 58) × (length (now label) ≤ fieldColumns) × (number .0 + 1 ≤ 9999999) ⌝ }
     ensures { λ r. ⌜ Wrote (now (out .entry)) at
-        (joined (section 68 (number .0) (entryLines x (from .0) count (now (label .entry))))) (now (out .exit)) r ⌝ }
+        (joined (section letterD (number .0) (entryLines x (from .0) count (now (label .entry))))) (now (out .exit)) r ⌝ }
     ensures { λ r. ⌜ r ≤ at + 522 ⌝ }
 {
     let n = number.0 as usize;
@@ -85,7 +87,7 @@ pub fn put_entry_lines(
 fn put_totals(out: &mut [u8], at: usize, c: Counts) -> usize
     requires { ⌜ (at < 2 ^ 59) × (c .s ≤ 9999999) × (c .g ≤ 9999999) × (c .d ≤ 9999999) × (c .p ≤ 9999999) ⌝ }
     ensures { λ r. ⌜ Wrote (now (out .entry)) at
-        ((83 ∷ zeros (c .s)) ++ ((71 ∷ zeros (c .g)) ++ ((68 ∷ zeros (c .d)) ++ (80 ∷ zeros (c .p))))) (now (out .exit)) r ⌝ }
+        ((letterS ∷ zeros (c .s)) ++ ((letterG ∷ zeros (c .g)) ++ ((letterD ∷ zeros (c .d)) ++ (letterP ∷ zeros (c .p))))) (now (out .exit)) r ⌝ }
     ensures { λ r. ⌜ r ≡ at + 32 ⌝ }
 {
     let e = put_count(out, at, START, wide(c.s));
@@ -97,8 +99,8 @@ fn put_totals(out: &mut [u8], at: usize, c: Counts) -> usize
 // The T line: how many lines each section has.
 pub fn put_last_line(out: &mut [u8], at: usize, c: Counts) -> usize
     requires { ⌜ (at < 2 ^ 59) × (c .s ≤ 9999999) × (c .g ≤ 9999999) × (c .d ≤ 9999999) × (c .p ≤ 9999999) ⌝ }
-    ensures { λ r. ⌜ Wrote (now (out .entry)) at (lineOf (totalsOf c) 84 1) (now (out .exit)) r ⌝ }
-    ensures { λ r. ⌜ r ≡ at + 81 ⌝ }
+    ensures { λ r. ⌜ Wrote (now (out .entry)) at (lineOf (totalsOf c) letterT 1) (now (out .exit)) r ⌝ }
+    ensures { λ r. ⌜ r ≡ at + lineBytes ⌝ }
 {
     let a = put_totals(out, at, c);
     let b = columns_emit::put_run(out, a, b' ', REST);

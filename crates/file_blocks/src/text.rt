@@ -3,6 +3,8 @@ ghost use mathlib.Core.Path.{_≡_};
 ghost use mathlib.Core.List.{[], _∷_};
 ghost use Prim.Native.Nat.{_-_, _*_, _^_, _≤_};
 ghost use lib.ListN.{replicate};
+ghost use Rattle.columns.specs.Format.{lineColumns};
+ghost use Rattle.columns.specs.Letters.{space, semicolon};
 ghost use Rattle.records.specs.Flow.{lineCount};
 ghost use Rattle.records.specs.Written.{over};
 
@@ -10,9 +12,9 @@ const SEMICOLON: u8 = b';';
 
 // Ends the record whose values take p characters, each with ',' behind it: ';' stands at last, and blanks fill its last line.
 pub fn close(out: &mut [u8], base: usize, w: usize, p: usize) -> usize
-    requires { ⌜ (base ≤ 2 ^ 40) × (1 ≤ p) × (p ≤ 2 ^ 40) × (1 ≤ w) × (w ≤ 80) ⌝ }
+    requires { ⌜ (base ≤ 2 ^ 40) × (1 ≤ p) × (p ≤ 2 ^ 40) × (1 ≤ w) × (w ≤ lineColumns) ⌝ }
     ensures { λ r. ⌜ now (out .exit)
-        ≡ over base w (over base w (now (out .entry)) (p - 1) (59 ∷ [])) p (replicate (lineCount w p * w - p) 32) ⌝ }
+        ≡ over base w (over base w (now (out .entry)) (p - 1) (semicolon ∷ [])) p (replicate (lineCount w p * w - p) space) ⌝ }
     ensures { λ r. ⌜ r ≡ lineCount w p ⌝ }
 {
     let lines = records_flow::line_count(w, p);

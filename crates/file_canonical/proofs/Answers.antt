@@ -9,9 +9,10 @@ use lib.Dec.{leb}
 use borrow.Author.Tests.{le-leb, lt-leb, leb-true, leb-false}
 use Rattle.columns.specs.declared.Fault.the-variants.{Directory, TooLong}
 use Rattle.columns.specs.Refusal.{accepted, refused, demand}
+use Rattle.columns.specs.Format.{mostLines}
 use Rattle.columns.proofs.Outcomes.{then-accepted, demand-accepted}
 use Rattle.cards.specs.declared.Counts.{Counts}
-use Rattle.cards.specs.Cards.{mostLines, total}
+use Rattle.cards.specs.Cards.{total}
 use Rattle.directory.specs.Rules.{rangesOk, entryRules}
 use Rattle.sheets.specs.declared.Verdict.the-variants.{Good}
 use Rattle.sheets.specs.Sheet.{Row, Sheet, linesIn, sheetOf}

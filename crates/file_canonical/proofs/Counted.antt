@@ -6,14 +6,14 @@ use Prim.Native.Nat.{ℕ, _+_, _≤_, _<_}
 use native.Mathlib.Omega.{arith}
 use lib.Dec.{leb}
 use borrow.Author.Tests.{le-leb, lt-leb, leb-false}
+use Rattle.columns.specs.Format.{parameterColumns, mostLines}
 use Rattle.values.specs.Value.{Item}
 use Rattle.records.specs.Flow.{lineCount}
 use Rattle.records.proofs.Lines.{lines-hold}
-use Rattle.cards.specs.Cards.{mostLines}
 use Rattle.sheets.specs.Sheet.{Line, start, global, entry, value, last, none}
 use Rattle.file_canonical.specs.declared.Tally.{Tally}
 use Rattle.file_canonical.specs.declared.Lines.the-variants.{Are, TooMany}
-use Rattle.file_canonical.specs.Counting.{columnsHeld, behind, skipped, withValue, tallyLine, countsIn, totalIn, tallied, within, mostColumns, behindValue, full, capped}
+use Rattle.file_canonical.specs.Counting.{behind, skipped, withValue, tallyLine, countsIn, totalIn, tallied, within, mostColumns, behindValue, full, capped}
 
 -- ---- what a tally tells
 
@@ -80,8 +80,8 @@ pub value-same : (x : Tally) (p : ℕ) (reference : Bool) (v : Item) (ls : List 
 unfolding behindValue
 value-same x p reference v ls = pick (leb p mostColumns) refl
   where
-    pick : (b : Bool) → leb p mostColumns ≡ b → within (tallied (withValue x (cond b (behind columnsHeld p v) p)) ls) ≡ within (tallied (withValue x (behind columnsHeld p v)) ls)
+    pick : (b : Bool) → leb p mostColumns ≡ b → within (tallied (withValue x (cond b (behind parameterColumns p v) p)) ls) ≡ within (tallied (withValue x (behind parameterColumns p v)) ls)
     pick true e = refl
     pick false e =
         let h : mostColumns < p = leb-false p mostColumns e in
-        many-more (withValue x p) ls (far-many x p h) ∙ sym (many-more (withValue x (behind columnsHeld p v)) ls (far-many x (behind columnsHeld p v) (omega (arith, further columnsHeld p v))))
+        many-more (withValue x p) ls (far-many x p h) ∙ sym (many-more (withValue x (behind parameterColumns p v)) ls (far-many x (behind parameterColumns p v) (omega (arith, further parameterColumns p v))))

@@ -10,11 +10,12 @@ use borrow.Author.Tests.{leb-true, leb-false}
 use Rattle.columns.specs.Columns.{joined}
 use Rattle.columns.specs.Decimal.{toLeft}
 use Rattle.columns.specs.Laid.{Wrote}
+use Rattle.columns.specs.Format.{mostLines}
 use Rattle.columns.proofs.Writes.{wrote-same, wrote-length}
 use Rattle.values.specs.Value.{Item}
 use Rattle.records.specs.Flow.{lineCount}
 use Rattle.cards.specs.declared.Counts.{Counts}
-use Rattle.cards.specs.Cards.{mostLines, total}
+use Rattle.cards.specs.Cards.{total}
 use Rattle.cards.specs.Written.{lineOf, section, totalsOf, fileLines, fileOf, one}
 use Rattle.sheets.specs.declared.Verdict.the-variants.{Good}
 use Rattle.sheets.specs.Sheet.{Line, Sheet, rowLines, linesOf, linesIn, sheetOf}

@@ -7,11 +7,11 @@ use native.Mathlib.Omega.{arith}
 use lib.ListN.{length, take, drop, length-append}
 use Rattle.columns.specs.Columns.{joined}
 use Rattle.columns.specs.Decimal.{dec, toLeft}
+use Rattle.columns.specs.Format.{mostLines}
 use Rattle.columns.proofs.Decimals.{length-dec-le, length-right}
 use Rattle.records.specs.Flow.{lineCount, cut, inLines}
 use Rattle.records.proofs.Lines.{line-long, length-lines}
 use Rattle.values.specs.Value.{Item}
-use Rattle.cards.specs.Cards.{mostLines}
 use Rattle.cards.specs.Written.{zeros, lineOf, section, All, none, one}
 use Rattle.cards.proofs.Round.{length-zeros}
 use Rattle.directory.specs.Lines.{entryLines}

@@ -7,6 +7,7 @@ use native.Mathlib.Omega.{arith}
 use lib.ListN.{length, drop}
 use borrow.Author.Tests.{le-leb, lt-leb}
 use Rattle.columns.specs.declared.Signed.{Signed}
+use Rattle.columns.specs.Format.{textColumns, parameterColumns, mostLines}
 use Rattle.values.specs.declared.Value.{Value}
 use Rattle.values.specs.declared.Value.the-variants.{Whole}
 use Rattle.values.specs.declared.Strict.the-variants.{Is}
@@ -22,7 +23,7 @@ use Rattle.records.proofs.Round.{length-piece}
 use Rattle.records.proofs.Fine.{strict-writable}
 use Rattle.records.proofs.Puts.{piece-end-is, spelled-length, copied-few}
 use Rattle.cards.specs.declared.Counts.{Counts}
-use Rattle.cards.specs.Cards.{mostLines, counts}
+use Rattle.cards.specs.Cards.{counts}
 use Rattle.directory.specs.declared.Fields.{Fields}
 use Rattle.sheets.specs.declared.Said.{Said}
 use Rattle.sheets.specs.declared.Said.the-variants.{Start, Global, Entry, Value as Given, Last, Nothing}
@@ -31,7 +32,7 @@ use Rattle.values.proofs.Backs.{strict-inside}
 use Rattle.sheets.proofs.Walk.{line-says}
 use Rattle.file_canonical.specs.declared.Tally.{Tally}
 use Rattle.file_canonical.specs.declared.Lines.the-variants.{Are, TooMany}
-use Rattle.file_canonical.specs.Counting.{globalColumns, columnsHeld, behind, skipped, withStart, withGlobal, withEntry, withValue, tallyLine, tallySaid, countsIn, totalIn, within, mostColumns, behindValue, full, capped, Under, Few, Short}
+use Rattle.file_canonical.specs.Counting.{behind, skipped, withStart, withGlobal, withEntry, withValue, tallyLine, tallySaid, countsIn, totalIn, within, mostColumns, behindValue, full, capped, Under, Few, Short}
 use Rattle.sheets.proofs.Limits.{Can, says-can}
 use Rattle.file_canonical.proofs.Counted.{within-few, within-many}
 
@@ -60,9 +61,9 @@ behind-whole w p size = omega (arith, length-piece w p (whole false size) false)
 
 tally-can : (x : Tally) (l : List ℕ) (y : Said) → Can l y → tallySaid x y ≡ tallyLine x (lineFrom l y)
 tally-can x l Start k = refl
-tally-can x l (Global n at v) k = ap (withGlobal x n) (behind-is globalColumns (x .global + skipped (x .field) n) (drop at l) v k)
-tally-can x l (Entry known n f) k = ap (withEntry x (lineCount columnsHeld (x .at))) (behind-whole columnsHeld 0 (f .entity .size))
-tally-can x l (Given reference v) k = ap (withValue x) (behind-is columnsHeld (x .at) (drop 2 l) v k)
+tally-can x l (Global n at v) k = ap (withGlobal x n) (behind-is textColumns (x .global + skipped (x .field) n) (drop at l) v k)
+tally-can x l (Entry known n f) k = ap (withEntry x (lineCount parameterColumns (x .at))) (behind-whole parameterColumns 0 (f .entity .size))
+tally-can x l (Given reference v) k = ap (withValue x) (behind-is parameterColumns (x .at) (drop 2 l) v k)
 tally-can x l (Last n) k = refl
 tally-can x l (Nothing b) k = refl
 
@@ -89,20 +90,20 @@ under-more b c x u h = record { s = omega arith; global = omega arith; d = omega
 
 -- ---- what the functions are asked
 module _ (x : Tally) where
-  pub global-is : (n : ℕ) (v : Value) {k e : ℕ} → k ≡ skipped (x .field) n → e ≡ pieceEnd globalColumns (x .global + k) v → withGlobal x n e ≡ withGlobal x n (pieceEnd globalColumns (x .global + skipped (x .field) n) v)
+  pub global-is : (n : ℕ) (v : Value) {k e : ℕ} → k ≡ skipped (x .field) n → e ≡ pieceEnd textColumns (x .global + k) v → withGlobal x n e ≡ withGlobal x n (pieceEnd textColumns (x .global + skipped (x .field) n) v)
   global-is n v p q = rw (q, p)
 
-  pub entry-is : (typ : ℕ) {k e : ℕ} → k ≡ lineCount columnsHeld (x .at) → e ≡ pieceEnd columnsHeld 0 (Whole false typ) → withEntry x k e ≡ withEntry x (lineCount columnsHeld (x .at)) (pieceEnd columnsHeld 0 (Whole false typ))
+  pub entry-is : (typ : ℕ) {k e : ℕ} → k ≡ lineCount parameterColumns (x .at) → e ≡ pieceEnd parameterColumns 0 (Whole false typ) → withEntry x k e ≡ withEntry x (lineCount parameterColumns (x .at)) (pieceEnd parameterColumns 0 (Whole false typ))
   entry-is typ p q = rw (q, p)
 
-  pub value-is : (v : Value) {e : ℕ} → e ≡ pieceEnd columnsHeld (x .at) v → withValue x e ≡ withValue x (pieceEnd columnsHeld (x .at) v)
+  pub value-is : (v : Value) {e : ℕ} → e ≡ pieceEnd parameterColumns (x .at) v → withValue x e ≡ withValue x (pieceEnd parameterColumns (x .at) v)
   value-is v q = rw q
 
-  pub total-is : {g p : ℕ} → g ≡ lineCount globalColumns (x .global) → p ≡ lineCount columnsHeld (x .at) → x .s + g + x .d + (x .p + p) + 1 ≡ totalIn x
+  pub total-is : {g p : ℕ} → g ≡ lineCount textColumns (x .global) → p ≡ lineCount parameterColumns (x .at) → x .s + g + x .d + (x .p + p) + 1 ≡ totalIn x
   unfolding totalIn countsIn
   total-is e f = rw (e, f)
 
-  pub counts-are : {g p : ℕ} → g ≡ lineCount globalColumns (x .global) → p ≡ lineCount columnsHeld (x .at) → counts (x .s) g (x .d) (x .p + p) 1 ≡ countsIn x
+  pub counts-are : {g p : ℕ} → g ≡ lineCount textColumns (x .global) → p ≡ lineCount parameterColumns (x .at) → counts (x .s) g (x .d) (x .p + p) 1 ≡ countsIn x
   unfolding countsIn
   counts-are e f = rw (e, f)
 
@@ -111,13 +112,13 @@ module _ (x : Tally) where
     pub said-start : y ≡ Start → r ≡ withStart x → r ≡ tallySaid x y
     said-start e q = q ∙ rw e
 
-    pub said-global : {n at : ℕ} {v : Value} → y ≡ Global n at v → r ≡ withGlobal x n (pieceEnd globalColumns (x .global + skipped (x .field) n) v) → r ≡ tallySaid x y
+    pub said-global : {n at : ℕ} {v : Value} → y ≡ Global n at v → r ≡ withGlobal x n (pieceEnd textColumns (x .global + skipped (x .field) n) v) → r ≡ tallySaid x y
     said-global e q = q ∙ rw e
 
-    pub said-entry : {known : Bool} {n : Signed} {f : Fields} → y ≡ Entry known n f → r ≡ withEntry x (lineCount columnsHeld (x .at)) (pieceEnd columnsHeld 0 (Whole false (f .entity .size))) → r ≡ tallySaid x y
+    pub said-entry : {known : Bool} {n : Signed} {f : Fields} → y ≡ Entry known n f → r ≡ withEntry x (lineCount parameterColumns (x .at)) (pieceEnd parameterColumns 0 (Whole false (f .entity .size))) → r ≡ tallySaid x y
     said-entry e q = q ∙ rw e
 
-    pub said-value : {reference : Bool} {v : Value} → y ≡ Given reference v → r ≡ withValue x (pieceEnd columnsHeld (x .at) v) → r ≡ tallySaid x y
+    pub said-value : {reference : Bool} {v : Value} → y ≡ Given reference v → r ≡ withValue x (pieceEnd parameterColumns (x .at) v) → r ≡ tallySaid x y
     said-value e q = q ∙ rw e
 
   pub said-last : {y : Said} {n : ℕ} → y ≡ Last n → x ≡ tallySaid x y
@@ -141,9 +142,9 @@ module _ (l : List ℕ) {v : Value} (s : strictOf l ≡ Is v) where
   strict-low = omega (arith, strict-short l s)
 
   module _ (p : ℕ) (h : p ≤ mostColumns) {r : ℕ} where
-    pub value-near : r ≡ pieceEnd columnsHeld p v → r ≡ behindValue p (itemOf l v)
+    pub value-near : r ≡ pieceEnd parameterColumns p v → r ≡ behindValue p (itemOf l v)
     unfolding behindValue
-    value-near e = e ∙ behind-is columnsHeld p l v (strict-writable l v s) ∙ simp (le-leb p mostColumns h)
+    value-near e = e ∙ behind-is parameterColumns p l v (strict-writable l v s) ∙ simp (le-leb p mostColumns h)
 
     pub value-low : r ≤ p + length l + 81 → r ≤ 2 ^ 38
     value-low k = omega (arith, strict-short l s)

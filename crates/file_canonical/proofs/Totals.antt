@@ -7,13 +7,14 @@ use native.Mathlib.Nat.{zero-add, add-zero, add-assoc, mod-lt}
 use native.Mathlib.Omega.{arith}
 use lib.ListN.{length, replicate, length-append, length-map}
 use borrow.Author.Tests.{le-leb}
+use Rattle.columns.specs.Format.{mostLines}
 use Rattle.values.specs.Value.{Item, default, whole, spelled}
 use Rattle.records.specs.Flow.{firm, gap, piece, none as no-more, flow, lineCount, inLines}
 use Rattle.records.proofs.Round.{length-piece, opening-length}
 use Rattle.records.proofs.Lines.{length-lines}
 use Rattle.records.specs.Global.{canonicalOpening}
 use Rattle.cards.specs.declared.Counts.{Counts}
-use Rattle.cards.specs.Cards.{mostLines, counts, total}
+use Rattle.cards.specs.Cards.{counts, total}
 use Rattle.cards.specs.Written.{countsOf}
 use Rattle.directory.specs.Lines.{entryLines}
 use Rattle.sheets.specs.Sheet.{Line, Row, Sheet, startLines, globalLines, valueLines, rowLines, linesOf}

@@ -5,11 +5,11 @@ use Prim.Native.Nat.{ℕ, _+_, _*_, _^_, _≤_}
 use native.Mathlib.Omega.{arith}
 use lib.ListN.{length, drop}
 use Rattle.columns.specs.Laid.{laid, Wrote}
+use Rattle.columns.specs.Format.{mostLines}
 use Rattle.columns.proofs.Writes.{then, wrote-length, wrote-same}
 use Rattle.records.specs.Flow.{lineCount}
 use Rattle.records.proofs.Lines.{lines-hold}
 use Rattle.cards.specs.declared.Counts.{Counts}
-use Rattle.cards.specs.Cards.{mostLines}
 use Rattle.cards.specs.Written.{lineOf, totalsOf}
 use Rattle.sheets.specs.Sheet.{linesIn}
 use Rattle.model.specs.Canonical.{globalText}

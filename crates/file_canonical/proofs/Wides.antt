@@ -9,13 +9,14 @@ use lib.Dec.{leb}
 use borrow.Author.Tests.{leb-true}
 use Rattle.columns.specs.declared.Signed.{Signed}
 use Rattle.columns.specs.Decimal.{toLeft}
+use Rattle.columns.specs.Format.{mostLines}
 use Rattle.columns.proofs.Decimals.{length-left}
 use Rattle.columns.proofs.Tests.{both-left}
 use Rattle.values.specs.Value.{whole}
 use Rattle.records.proofs.Round.{length-flow}
 use Rattle.records.proofs.Lines.{lines-hold}
 use Rattle.cards.specs.declared.Counts.{Counts}
-use Rattle.cards.specs.Cards.{mostLines, total}
+use Rattle.cards.specs.Cards.{total}
 use Rattle.cards.specs.Written.{zeros, lineOf, totalsOf, none, one}
 use Rattle.cards.proofs.Round.{length-zeros}
 use Rattle.directory.specs.declared.Fields.{Fields}

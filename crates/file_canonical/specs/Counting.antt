@@ -5,26 +5,19 @@ use mathlib.Core.List.{List, [], _∷_}
 use Prim.Native.Nat.{ℕ, suc, _+_, _-_, _*_, _≤_}
 use lib.ListN.{length}
 use lib.Dec.{leb}
+use Rattle.columns.specs.Format.{textColumns, parameterColumns, mostLines, openingColumns}
 use Rattle.values.specs.declared.Value.the-variants.{Whole}
 use Rattle.values.specs.Value.{Item, whole}
 use Rattle.records.specs.Flow.{piece, lineCount}
 use Rattle.records.specs.Written.{copied, pieceEnd}
 use Rattle.cards.specs.declared.Counts.{Counts}
-use Rattle.cards.specs.Cards.{mostLines, counts, total}
+use Rattle.cards.specs.Cards.{counts, total}
 use Rattle.sheets.specs.declared.Said.{Said}
 use Rattle.sheets.specs.declared.Said.the-variants.{Start, Global, Entry, Value as Given, Last, Nothing}
 use Rattle.sheets.specs.Sheet.{Line, start, global, entry, value, last, none}
 use Rattle.file_canonical.specs.declared.Tally.{Tally}
 use Rattle.file_canonical.specs.declared.Lines.{Lines}
 use Rattle.file_canonical.specs.declared.Lines.the-variants.{Are, TooMany}
-
--- the columns of a G line that hold values
-abbrev pub globalColumns : ℕ
-globalColumns = 72
-
--- those of a P line
-abbrev pub columnsHeld : ℕ
-columnsHeld = 64
 
 -- the position behind a value's piece at p
 unfoldable pub behind : ℕ → ℕ → Item → ℕ
@@ -40,7 +33,7 @@ tally s end field d p at = record { s = s; global = end; field = field; d = d; p
 
 -- before the first line: the G record's opening has eight columns, and its fields start at 3
 abbrev pub begun : Tally
-begun = tally 0 8 2 0 0 0
+begun = tally 0 openingColumns 2 0 0 0
 
 -- ---- a line more
 
@@ -63,18 +56,18 @@ withValue x end = tally (x .s) (x .global) (x .field) (x .d) (x .p) end
 -- any line
 abbrev pub tallyLine : Tally → Line → Tally
 tallyLine x (start t) = withStart x
-tallyLine x (global n v) = withGlobal x n (behind globalColumns (x .global + skipped (x .field) n) v)
-tallyLine x (entry known n f label) = withEntry x (lineCount columnsHeld (x .at)) (behind columnsHeld 0 (whole false (f .entity .size)))
-tallyLine x (value reference v) = withValue x (behind columnsHeld (x .at) v)
+tallyLine x (global n v) = withGlobal x n (behind textColumns (x .global + skipped (x .field) n) v)
+tallyLine x (entry known n f label) = withEntry x (lineCount parameterColumns (x .at)) (behind parameterColumns 0 (whole false (f .entity .size)))
+tallyLine x (value reference v) = withValue x (behind parameterColumns (x .at) v)
 tallyLine x (last n) = x
 tallyLine x (none b) = x
 
 -- the same by what was read of the line
 abbrev pub tallySaid : Tally → Said → Tally
 tallySaid x Start = withStart x
-tallySaid x (Global n at v) = withGlobal x n (pieceEnd globalColumns (x .global + skipped (x .field) n) v)
-tallySaid x (Entry known n f) = withEntry x (lineCount columnsHeld (x .at)) (pieceEnd columnsHeld 0 (Whole false (f .entity .size)))
-tallySaid x (Given reference v) = withValue x (pieceEnd columnsHeld (x .at) v)
+tallySaid x (Global n at v) = withGlobal x n (pieceEnd textColumns (x .global + skipped (x .field) n) v)
+tallySaid x (Entry known n f) = withEntry x (lineCount parameterColumns (x .at)) (pieceEnd parameterColumns 0 (Whole false (f .entity .size)))
+tallySaid x (Given reference v) = withValue x (pieceEnd parameterColumns (x .at) v)
 tallySaid x (Last n) = x
 tallySaid x (Nothing b) = x
 
@@ -82,7 +75,7 @@ tallySaid x (Nothing b) = x
 
 -- the lines of each section: S, G, D, P, and the T line
 unfoldable pub countsIn : Tally → Counts
-countsIn x = counts (x .s) (lineCount globalColumns (x .global)) (x .d) (x .p + lineCount columnsHeld (x .at)) 1
+countsIn x = counts (x .s) (lineCount textColumns (x .global)) (x .d) (x .p + lineCount parameterColumns (x .at)) 1
 
 -- all of them
 unfoldable pub totalIn : Tally → ℕ
@@ -105,11 +98,11 @@ linesOfSheet ls = within (tallied begun ls)
 
 -- the columns of the P lines that a file may have; where a value stands behind these is not told
 abbrev pub mostColumns : ℕ
-mostColumns = mostLines * columnsHeld
+mostColumns = mostLines * parameterColumns
 
 -- the position behind a value line's value, up to there
 unfoldable pub behindValue : ℕ → Item → ℕ
-behindValue p v = cond (leb p mostColumns) (behind columnsHeld p v) p
+behindValue p v = cond (leb p mostColumns) (behind parameterColumns p v) p
 
 -- a line too many
 abbrev pub full : Tally
@@ -132,9 +125,9 @@ pub record Under (b : ℕ) (x : Tally) : Type 0 where
 -- a file may have each of these counts
 pub record Few (x : Tally) : Type 0 where
   pub s : x .s ≤ mostLines
-  pub g : lineCount globalColumns (x .global) ≤ mostLines
+  pub g : lineCount textColumns (x .global) ≤ mostLines
   pub d : x .d ≤ mostLines
-  pub p : x .p + lineCount columnsHeld (x .at) ≤ mostLines
+  pub p : x .p + lineCount parameterColumns (x .at) ≤ mostLines
 
 -- a string that a line says has at most 999 characters
 abbrev pub Short : Said → Type 0

@@ -5,13 +5,15 @@ use mathlib.Core.Bool.{true}
 use mathlib.Core.List.{List, [], _∷_, _++_, map}
 use Prim.Native.Nat.{ℕ, suc, _+_, _-_, _*_, _^_, _≤_, _<_}
 use lib.ListN.{length, take, drop}
-use Rattle.columns.specs.Columns.{lineBytes, joined}
+use Rattle.columns.specs.Columns.{joined}
 use Rattle.columns.specs.Decimal.{toLeft}
 use Rattle.columns.specs.Laid.{laid, Wrote}
+use Rattle.columns.specs.Format.{lineBytes, textColumns, parameterColumns, fieldColumns, mostLines, mostInteger}
+use Rattle.columns.specs.Letters.{letterD, letterP, letterS, letterT}
 use Rattle.values.specs.Value.{Item}
 use Rattle.records.specs.Flow.{lineCount}
 use Rattle.cards.specs.declared.Counts.{Counts}
-use Rattle.cards.specs.Cards.{mostLines, total}
+use Rattle.cards.specs.Cards.{total}
 use Rattle.cards.specs.Written.{lineOf, section, totalsOf}
 use Rattle.directory.specs.declared.Fields.{Fields}
 use Rattle.directory.specs.Lines.{entryLines}
@@ -19,7 +21,7 @@ use Rattle.directory.specs.Rules.{rangesOk}
 use Rattle.sheets.specs.Sheet.{Line, start, global, entry, value, last, none, Row, rowLines, linesIn}
 use Rattle.sheets_rows.specs.Rows.{linesAt, firstOf, behindOf, allOf}
 use Rattle.model.specs.Model.{Carried}
-use Rattle.model.specs.Canonical.{startColumns, globalText, directoryLines, parameterLines}
+use Rattle.model.specs.Canonical.{globalText, directoryLines, parameterLines}
 use Rattle.file_blocks.specs.Blocks.{behindValues, Unbroken, itemsFirst, itemsAt, globalsFirst, behindGlobals}
 use Rattle.file_blocks.specs.Blocks.{globalBytes, recordText, blockLines}
 use Rattle.file_canonical.specs.declared.Place.{Place}
@@ -47,13 +49,13 @@ behindStarts ls = behindOf startGiven ls
 pub record StartStands (t : List ℕ) (at end : ℕ) : Type 0 where
   pub low : at + 2 ≤ end
   pub high : end < length t
-  pub short : end ≤ at + 2 + 72
+  pub short : end ≤ at + 2 + textColumns
   pub texts : startsFirst (linesAt t at) ≡ take (end - (at + 2)) (drop (at + 2) t) ∷ startsFirst (linesAt t (end + 1))
   pub behind : behindStarts (linesAt t at) ≡ behindStarts (linesAt t (end + 1))
 
 -- S lines from number n on
 unfoldable pub startBytes : ℕ → List (List ℕ) → List ℕ
-startBytes n ts = joined (section 83 n (map (toLeft startColumns) ts))
+startBytes n ts = joined (section letterS n (map (toLeft textColumns) ts))
 
 -- ---- D and P
 
@@ -84,11 +86,11 @@ numberOf k = 2 * k + 1
 
 -- the D lines of entries, the first of them entry k, its P lines from number from on
 unfoldable pub directoryBytes : ℕ → ℕ → List Carried → List ℕ
-directoryBytes k from es = joined (section 68 (numberOf k) (directoryLines (numberOf k) from es))
+directoryBytes k from es = joined (section letterD (numberOf k) (directoryLines (numberOf k) from es))
 
 -- their P lines
 unfoldable pub parameterBytes : ℕ → ℕ → List Carried → List ℕ
-parameterBytes k from es = joined (section 80 from (parameterLines (numberOf k) es))
+parameterBytes k from es = joined (section letterP from (parameterLines (numberOf k) es))
 
 -- two writes under way: ds from d on and ps from q on are still to be laid, and what d owes ends before q
 pub record Owing (o o′ : List ℕ) (d : ℕ) (ds : List ℕ) (q : ℕ) (ps : List ℕ) : Type 0 where
@@ -129,17 +131,17 @@ valuesBehind t end = itemsAt t (end + 1)
 
 -- its P lines
 abbrev pub blockCount : List ℕ → ℕ → ℕ → ℕ
-blockCount t end typ = lineCount 64 (length (recordText typ (valuesBehind t end)))
+blockCount t end typ = lineCount parameterColumns (length (recordText typ (valuesBehind t end)))
 
 -- its label ends its line
 abbrev pub labelBefore : List ℕ → ℕ → List ℕ
-labelBefore t end = take (end - (end - 8)) (drop (end - 8) t)
+labelBefore t end = take (end - (end - fieldColumns)) (drop (end - fieldColumns) t)
 
 -- its line is whole, and its D and P lines have room where they come
 pub record EntryHasRoom (t : List ℕ) (x : Place) (k end typ : ℕ) : Type 0 where
-  pub low : 8 ≤ end
+  pub low : fieldColumns ≤ end
   pub high : end < length t
-  pub small : typ ≤ 2147483647
+  pub small : typ ≤ mostInteger
   pub d : x .d ≤ 2 ^ 36
   pub p : x .p ≤ 2 ^ 36
   pub few : x .from .0 + blockCount t end typ ≤ 9999999
@@ -150,8 +152,8 @@ pub record EntryHasRoom (t : List ℕ) (x : Place) (k end typ : ℕ) : Type 0 wh
 -- they are laid, and y is where the next entry stands
 pub record EntryLaid (o t : List ℕ) (x : Place) (k end : ℕ) (f : Fields) (o′ : List ℕ) (y : Place) : Type 0 where
   pub wrote :
-      Wrote (laid o (x .p) (joined (section 80 (x .from .0) (blockLines (numberOf k) (f .entity .size) (valuesBehind t end))))) (x .d)
-      (joined (section 68 (numberOf k) (entryLines f (x .from .0) (blockCount t end (f .entity .size)) (labelBefore t end)))) o′ (y .d)
+      Wrote (laid o (x .p) (joined (section letterP (x .from .0) (blockLines (numberOf k) (f .entity .size) (valuesBehind t end))))) (x .d)
+      (joined (section letterD (numberOf k) (entryLines f (x .from .0) (blockCount t end (f .entity .size)) (labelBefore t end)))) o′ (y .d)
   pub p : y .p ≡ x .p + lineBytes * blockCount t end (f .entity .size)
   pub from : y .from .0 ≡ x .from .0 + blockCount t end (f .entity .size)
   pub lines : linesAt t (y .at) ≡ behindValues (linesAt t (end + 1))
@@ -167,13 +169,13 @@ fieldsIn ls = globalsFirst (behindStarts ls)
 pub record TextsFit (ls : List Line) (s : ℕ) : Type 0 where
   pub starts : length (startsFirst ls) ≡ s
   pub few : s ≤ mostLines
-  pub globals : lineCount 72 (length (globalText (fieldsIn ls))) ≤ mostLines
+  pub globals : lineCount textColumns (length (globalText (fieldsIn ls))) ≤ mostLines
 
 -- they are laid, and the sheet goes on at next
 pub record TextsLaid (o t : List ℕ) (s : ℕ) (o′ : List ℕ) (next : ℕ) : Type 0 where
   pub wrote :
       Wrote o 0 (startBytes 1 (startsFirst (linesIn t)) ++ globalBytes (fieldsIn (linesIn t))) o′
-      (lineBytes * (s + lineCount 72 (length (globalText (fieldsIn (linesIn t))))))
+      (lineBytes * (s + lineCount textColumns (length (globalText (fieldsIn (linesIn t))))))
   pub lines : linesAt t next ≡ behindGlobals (behindStarts (linesIn t))
   pub inside : next ≤ length t
 
@@ -184,7 +186,7 @@ fileBytes ls c =
     ++ (globalBytes (fieldsIn ls)
     ++ (directoryBytes 0 1 (entriesIn ls)
     ++ (parameterBytes 0 1 (entriesIn ls)
-    ++ lineOf (totalsOf c) 84 1)))
+    ++ lineOf (totalsOf c) letterT 1)))
 
 -- an entry's numbers keep their ranges (rule 9), so that each has room in its eight columns
 abbrev pub Ranged : Row → Type 0
@@ -194,7 +196,7 @@ Ranged r = rangesOk (r .fields) ≡ true
 pub record Ready (ls : List Line) (n : ℕ) (c : Counts) : Type 0 where
   pub few : total c ≤ mostLines
   pub s : length (startsFirst ls) ≡ c .s
-  pub g : lineCount 72 (length (globalText (fieldsIn ls))) ≡ c .g
+  pub g : lineCount textColumns (length (globalText (fieldsIn ls))) ≡ c .g
   pub rows : List Row
   pub lines : behindGlobals (behindStarts ls) ≡ rowLines 0 rows
   pub entries : entriesIn (behindGlobals (behindStarts ls)) ≡ entriesIn ls

@@ -11,6 +11,7 @@ use file_globals::put_globals;
 ghost use mathlib.Core.Path.{_≡_};
 ghost use Prim.Native.Nat.{_*_};
 ghost use Rattle.columns.specs.Laid.{Wrote};
+ghost use Rattle.columns.specs.Format.{lineBytes};
 ghost use Rattle.cards.specs.Cards.{total};
 ghost use Rattle.sheets.specs.declared.Verdict.the-variants.{Good};
 ghost use Rattle.sheets.specs.Sheet.{linesIn, sheetOf};
@@ -58,7 +59,7 @@ pub fn put_file(out: &mut [u8], t: &[u8], c: Counts, n: usize) -> usize
     requires { ⌜ linesOfSheet (linesIn (now t)) ≡ Are c ⌝ }
     requires { ⌜ Each Ranged (sheetOf (linesIn (now t)) .rows) ⌝ }
     ensures { λ r. ⌜ Wrote (now (out .entry)) 0 (canonical (modelOf (sheetOf (linesIn (now (t .entry)))))) (now (out .exit)) r ⌝ }
-    ensures { λ r. ⌜ r ≡ 81 * total c ⌝ }
+    ensures { λ r. ⌜ r ≡ lineBytes * total c ⌝ }
 {
     put_sections(out, t, c, n)
 }

@@ -5,6 +5,7 @@ ghost use mathlib.Core.Path.{_≡_};
 ghost use Prim.Native.Nat.{_*_, _≤_, _<_};
 ghost use lib.ListN.{length};
 ghost use Rattle.columns.specs.Laid.{Wrote};
+ghost use Rattle.columns.specs.Format.{lineBytes};
 ghost use Rattle.sheets.specs.Sheet.{linesIn};
 ghost use Rattle.sheets_rows.specs.Rows.{linesAt};
 ghost use Rattle.file_canonical.specs.Laying.{startsFirst, behindStarts, StartStands, startBytes};
@@ -20,7 +21,7 @@ fn start_end(t: &[u8], at: usize) -> usize
 // Lays the S lines of a sheet with so many start lines, and tells where the sheet goes on.
 pub fn put_starts(out: &mut [u8], t: &[u8], s: usize) -> usize
     requires { ⌜ (length (startsFirst (linesIn (now t))) ≡ s) × (s ≤ 9999998) ⌝ }
-    ensures { λ r. ⌜ Wrote (now (out .entry)) 0 (startBytes 1 (startsFirst (linesIn (now (t .entry))))) (now (out .exit)) (81 * s) ⌝ }
+    ensures { λ r. ⌜ Wrote (now (out .entry)) 0 (startBytes 1 (startsFirst (linesIn (now (t .entry))))) (now (out .exit)) (lineBytes * s) ⌝ }
     ensures { λ r. ⌜ linesAt (now (t .entry)) r ≡ behindStarts (linesIn (now (t .entry))) ⌝ }
     ensures { λ r. ⌜ r ≤ length (now (t .entry)) ⌝ }
 {

@@ -13,6 +13,8 @@ ghost use mathlib.Core.List.{[], _∷_};
 ghost use Prim.Native.Nat.{_+_, _-_, _^_, _≤_, _<_};
 ghost use lib.ListN.{length};
 ghost use Rattle.columns.specs.Laid.{laid};
+ghost use Rattle.columns.specs.Format.{textColumns};
+ghost use Rattle.columns.specs.Letters.{letterG};
 ghost use Rattle.values.specs.Value.{itemOf};
 ghost use Rattle.records.specs.Flow.{lineCount};
 ghost use Rattle.records.specs.Global.{firstField, lastField};
@@ -79,8 +81,8 @@ fn put_field(
     v: Value,
 ) -> usize
     requires { ⌜ (base ≤ 2 ^ 40) × (p ≤ 2 ^ 39) × (number ≤ lastField) × Writable (length (now src)) v ⌝ }
-    ensures { λ r. ⌜ Put base 72 (now (out .entry)) p
-        (parted 72 p (filled n ((number, itemOf (now (src .entry)) v) ∷ []))) (now (out .exit)) r ⌝ }
+    ensures { λ r. ⌜ Put base textColumns (now (out .entry)) p
+        (parted textColumns p (filled n ((number, itemOf (now (src .entry)) v) ∷ []))) (now (out .exit)) r ⌝ }
 {
     let a = records_flow::put_run(out, base, COLUMNS, p, COMMA, missing(n, number));
     records_flow::put_piece(out, base, COLUMNS, a, src, v, false)
@@ -90,9 +92,9 @@ fn put_field(
 fn put_fields(out: &mut [u8], base: usize, t: &[u8], at: usize, p: usize) -> Flowed
     requires { ⌜ (at ≤ length (now t))
         × (base ≤ 2 ^ 40)
-        × (p + length (parted 72 p (filled firstField (fieldsAt (now t) at))) ≤ 2 ^ 39) ⌝ }
-    ensures { λ r. ⌜ Put base 72 (now (out .entry)) p
-        (parted 72 p (filled firstField (fieldsAt (now (t .entry)) at))) (now (out .exit)) (r .end) ⌝ }
+        × (p + length (parted textColumns p (filled firstField (fieldsAt (now t) at))) ≤ 2 ^ 39) ⌝ }
+    ensures { λ r. ⌜ Put base textColumns (now (out .entry)) p
+        (parted textColumns p (filled firstField (fieldsAt (now (t .entry)) at))) (now (out .exit)) (r .end) ⌝ }
     ensures { λ r. ⌜ linesAt (now (t .entry)) (r .next) ≡ behindGlobals (linesAt (now (t .entry)) at) ⌝ }
     ensures { λ r. ⌜ (at ≤ r .next) × (r .next ≤ length (now (t .entry))) ⌝ }
 {
@@ -121,7 +123,7 @@ fn put_fields(out: &mut [u8], base: usize, t: &[u8], at: usize, p: usize) -> Flo
 // Columns 73 to LF of so many G lines from 1 on, column 73 of the first of which is at q.
 fn put_tails(out: &mut [u8], q: usize, lines: usize)
     requires { ⌜ (q ≤ 2 ^ 41) × (lines ≤ 9999998) ⌝ }
-    ensures { λ _. ⌜ now (out .exit) ≡ tailed (now (out .entry)) q [] 71 1 lines ⌝ }
+    ensures { λ _. ⌜ now (out .exit) ≡ tailed (now (out .entry)) q [] letterG 1 lines ⌝ }
 {
     let mut at = q;
     let mut i = 0;
@@ -137,9 +139,9 @@ pub fn put_globals(out: &mut [u8], base: usize, t: &[u8], at: usize) -> Block
     requires { ⌜ (at ≤ length (now t))
         × (base ≤ 2 ^ 36)
         × (length (globalText (fieldsAt (now t) at)) ≤ 2 ^ 36) ⌝ }
-    requires { ⌜ 1 + lineCount 72 (length (globalText (fieldsAt (now t) at))) ≤ 9999999 ⌝ }
+    requires { ⌜ 1 + lineCount textColumns (length (globalText (fieldsAt (now t) at))) ≤ 9999999 ⌝ }
     ensures { λ r. ⌜ now (out .exit) ≡ laid (now (out .entry)) base (globalBytes (fieldsAt (now (t .entry)) at)) ⌝ }
-    ensures { λ r. ⌜ r .lines ≡ lineCount 72 (length (globalText (fieldsAt (now (t .entry)) at))) ⌝ }
+    ensures { λ r. ⌜ r .lines ≡ lineCount textColumns (length (globalText (fieldsAt (now (t .entry)) at))) ⌝ }
     ensures { λ r. ⌜ linesAt (now (t .entry)) (r .next) ≡ behindGlobals (linesAt (now (t .entry)) at) ⌝ }
     ensures { λ r. ⌜ (at ≤ r .next) × (r .next ≤ length (now (t .entry))) ⌝ }
 {

@@ -15,6 +15,8 @@ ghost use Prim.Native.Nat.{_+_, _^_, _≤_, _<_};
 ghost use lib.ListN.{length};
 ghost use Rattle.columns.specs.Columns.{joined};
 ghost use Rattle.columns.specs.Laid.{laid, Wrote};
+ghost use Rattle.columns.specs.Format.{parameterColumns, mostInteger};
+ghost use Rattle.columns.specs.Letters.{letterP};
 ghost use Rattle.values.specs.declared.Strict.the-variants.{Is};
 ghost use Rattle.values.specs.Value.{itemOf};
 ghost use Rattle.values.specs.Strict.{strictOf, meant};
@@ -35,8 +37,8 @@ const COMMA: u8 = b',';
 // Writes the value that l spells at position p with ',' behind it: its spelling is its canonical form.
 fn put_spelled(out: &mut [u8], base: usize, p: usize, l: &[u8]) -> usize
     requires { ⌜ (base ≤ 2 ^ 40) × (p ≤ 2 ^ 40) × (strictOf (now l) ≡ Is (meant (now l))) ⌝ }
-    ensures { λ r. ⌜ Put base 64 (now (out .entry)) p
-        (piece 64 p (itemOf (now (l .entry)) (meant (now (l .entry)))) false) (now (out .exit)) r ⌝ }
+    ensures { λ r. ⌜ Put base parameterColumns (now (out .entry)) p
+        (piece parameterColumns p (itemOf (now (l .entry)) (meant (now (l .entry)))) false) (now (out .exit)) r ⌝ }
 {
     let n = values_strict::front_of(l);
     let g = records_flow::gap_of(COLUMNS, p, n + 1);
@@ -50,9 +52,9 @@ fn put_spelled(out: &mut [u8], base: usize, p: usize, l: &[u8]) -> usize
 fn put_values(out: &mut [u8], base: usize, t: &[u8], at: usize, p: usize) -> Flowed
     requires { ⌜ (at ≤ length (now t))
         × (base ≤ 2 ^ 40)
-        × (p + length (parted 64 p (itemsAt (now t) at)) ≤ 2 ^ 40)
+        × (p + length (parted parameterColumns p (itemsAt (now t) at)) ≤ 2 ^ 40)
         × Unbroken (linesAt (now t) at) ⌝ }
-    ensures { λ r. ⌜ Put base 64 (now (out .entry)) p (parted 64 p (itemsAt (now (t .entry)) at)) (now (out .exit)) (r .end) ⌝ }
+    ensures { λ r. ⌜ Put base parameterColumns (now (out .entry)) p (parted parameterColumns p (itemsAt (now (t .entry)) at)) (now (out .exit)) (r .end) ⌝ }
     ensures { λ r. ⌜ linesAt (now (t .entry)) (r .next) ≡ behindValues (linesAt (now (t .entry)) at) ⌝ }
     ensures { λ r. ⌜ (at ≤ r .next) × (r .next ≤ length (now (t .entry))) ⌝ }
 {
@@ -72,7 +74,7 @@ fn put_values(out: &mut [u8], base: usize, t: &[u8], at: usize, p: usize) -> Flo
 // Column 65 to LF of P line n of the entry with this directory number.
 fn put_owned(out: &mut [u8], at: usize, number: DirectoryNumber, n: ParameterLine) -> usize
     requires { ⌜ (at < 2 ^ 59) × (number .0 ≤ 9999999) × (n .0 ≤ 9999999) ⌝ }
-    ensures { λ r. ⌜ Wrote (now (out .entry)) at (ownerOf (number .0) ++ tailOf 80 (n .0)) (now (out .exit)) r ⌝ }
+    ensures { λ r. ⌜ Wrote (now (out .entry)) at (ownerOf (number .0) ++ tailOf letterP (n .0)) (now (out .exit)) r ⌝ }
     ensures { λ r. ⌜ r ≡ at + 17 ⌝ }
 {
     let a = columns_emit::put(out, at, b' ');
@@ -83,7 +85,7 @@ fn put_owned(out: &mut [u8], at: usize, number: DirectoryNumber, n: ParameterLin
 // The same of so many lines, column 65 of the first of which is at q.
 fn put_tails(out: &mut [u8], q: usize, number: DirectoryNumber, from: ParameterLine, lines: usize)
     requires { ⌜ (q ≤ 2 ^ 41) × (number .0 ≤ 9999999) × (from .0 + lines ≤ 9999999) ⌝ }
-    ensures { λ _. ⌜ now (out .exit) ≡ tailed (now (out .entry)) q (ownerOf (number .0)) 80 (from .0) lines ⌝ }
+    ensures { λ _. ⌜ now (out .exit) ≡ tailed (now (out .entry)) q (ownerOf (number .0)) letterP (from .0) lines ⌝ }
 {
     let mut at = q;
     let mut i = 0;
@@ -106,14 +108,14 @@ pub fn put_block(
 ) -> Block
     requires { ⌜ (at ≤ length (now t))
         × (base ≤ 2 ^ 36)
-        × (typ ≤ 2147483647)
+        × (typ ≤ mostInteger)
         × (length (recordText typ (itemsAt (now t) at)) ≤ 2 ^ 36) ⌝ }
     requires { ⌜ (number .0 ≤ 9999999)
-        × (from .0 + lineCount 64 (length (recordText typ (itemsAt (now t) at))) ≤ 9999999) ⌝ }
+        × (from .0 + lineCount parameterColumns (length (recordText typ (itemsAt (now t) at))) ≤ 9999999) ⌝ }
     requires { ⌜ Unbroken (linesAt (now t) at) ⌝ }
     ensures { λ r. ⌜ now (out .exit)
-        ≡ laid (now (out .entry)) base (joined (section 80 (from .0) (blockLines (number .0) typ (itemsAt (now (t .entry)) at)))) ⌝ }
-    ensures { λ r. ⌜ r .lines ≡ lineCount 64 (length (recordText typ (itemsAt (now (t .entry)) at))) ⌝ }
+        ≡ laid (now (out .entry)) base (joined (section letterP (from .0) (blockLines (number .0) typ (itemsAt (now (t .entry)) at)))) ⌝ }
+    ensures { λ r. ⌜ r .lines ≡ lineCount parameterColumns (length (recordText typ (itemsAt (now (t .entry)) at))) ⌝ }
     ensures { λ r. ⌜ linesAt (now (t .entry)) (r .next) ≡ behindValues (linesAt (now (t .entry)) at) ⌝ }
     ensures { λ r. ⌜ (at ≤ r .next) × (r .next ≤ length (now (t .entry))) ⌝ }
 {

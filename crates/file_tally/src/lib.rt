@@ -11,13 +11,14 @@ use values::Value;
 ghost use mathlib.Core.Path.{_≡_};
 ghost use mathlib.Core.Bool.{false};
 ghost use Prim.Native.Nat.{_+_, _-_, _^_, _≤_, _<_};
+ghost use Rattle.columns.specs.Format.{textColumns, parameterColumns};
 ghost use Rattle.values.specs.declared.Value.the-variants.{Whole};
 ghost use Rattle.values.specs.declared.Strict.the-variants.{Is};
 ghost use Rattle.values.specs.Value.{itemOf};
 ghost use Rattle.values.specs.Strict.{strictOf};
 ghost use Rattle.records.specs.Flow.{lineCount};
 ghost use Rattle.records.specs.Written.{copied, pieceEnd};
-ghost use Rattle.file_canonical.specs.Counting.{globalColumns, columnsHeld, skipped, withStart, withGlobal, withEntry, withValue};
+ghost use Rattle.file_canonical.specs.Counting.{skipped, withStart, withGlobal, withEntry, withValue};
 ghost use Rattle.file_canonical.specs.Counting.{tallySaid, countsIn, totalIn, within, behindValue, capped, Under, Few, Short};
 
 // The columns of a G line and of a P line that hold values.
@@ -57,7 +58,7 @@ fn with_start(x: Tally) -> Tally
 // A G line.
 fn with_global(x: Tally, n: u32, v: Value) -> Tally
     requires { ⌜ Under (2 ^ 36) x × (copied v ≤ 999) ⌝ }
-    ensures { λ r. ⌜ r ≡ withGlobal x n (pieceEnd globalColumns (x .global + skipped (x .field) n) v) ⌝ }
+    ensures { λ r. ⌜ r ≡ withGlobal x n (pieceEnd textColumns (x .global + skipped (x .field) n) v) ⌝ }
     ensures { λ r. ⌜ Under (2 ^ 38) r ⌝ }
 {
     let k = skipped(x.field, n);
@@ -75,7 +76,7 @@ fn with_global(x: Tally, n: u32, v: Value) -> Tally
 // An entry line: the lines of the entry before are whole.
 fn with_entry(x: Tally, typ: u32) -> Tally
     requires { ⌜ Under (2 ^ 36) x ⌝ }
-    ensures { λ r. ⌜ r ≡ withEntry x (lineCount columnsHeld (x .at)) (pieceEnd columnsHeld 0 (Whole false typ)) ⌝ }
+    ensures { λ r. ⌜ r ≡ withEntry x (lineCount parameterColumns (x .at)) (pieceEnd parameterColumns 0 (Whole false typ)) ⌝ }
     ensures { λ r. ⌜ Under (2 ^ 38) r ⌝ }
 {
     let k = line_count(COLUMNS, x.at);
@@ -97,7 +98,7 @@ fn with_entry(x: Tally, typ: u32) -> Tally
 // A value line.
 fn with_value(x: Tally, v: Value) -> Tally
     requires { ⌜ Under (2 ^ 36) x × (copied v ≤ 999) ⌝ }
-    ensures { λ r. ⌜ r ≡ withValue x (pieceEnd columnsHeld (x .at) v) ⌝ }
+    ensures { λ r. ⌜ r ≡ withValue x (pieceEnd parameterColumns (x .at) v) ⌝ }
     ensures { λ r. ⌜ Under (2 ^ 38) r ⌝ }
 {
     let e = piece_end(COLUMNS, x.at, v);

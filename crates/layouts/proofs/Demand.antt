@@ -12,11 +12,12 @@ use borrow.Author.Tests.{ltb-true, ltb-false}
 use Rattle.columns.specs.declared.Fault.{Fault}
 use Rattle.columns.specs.declared.Fault.the-variants.{Layout as LayoutFault, LayoutReference as LayoutReferenceFault}
 use Rattle.columns.specs.Refusal.{Outcome, accepted, refused, _then_}
+use Rattle.columns.specs.Format.{mostList}
 use Rattle.columns.proofs.Stops.{Stops, here, later, not-both}
 use Rattle.layouts.specs.declared.Verdict.{Verdict}
 use Rattle.layouts.specs.declared.Verdict.the-variants.{Good, Layout, LayoutReference}
 use Rattle.layouts.specs.Layout.{paper, bitOf}
-use Rattle.layouts.specs.Known.{bit, known, mostList, Inside}
+use Rattle.layouts.specs.Known.{bit, known, Inside}
 use Rattle.layouts.specs.Entities.{Entity, fault, verdict, marks, entityCheck}
 use Rattle.layouts.proofs.Tables.{upTo-at}
 use Rattle.layouts.specs.Larger.{Late}

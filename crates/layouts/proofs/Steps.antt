@@ -6,6 +6,7 @@ use native.Mathlib.Omega.{arith}
 use lib.Dec.{eqb, ltb}
 use lib.ListN.{List·getD-eq-default}
 use borrow.Author.Tests.{ltb-true, ltb-false, lt-ltb, le-ltb}
+use Rattle.columns.specs.Format.{mostInteger}
 use Rattle.layouts.specs.declared.Kind.{Kind}
 use Rattle.layouts.specs.declared.Kind.the-variants.{R, Given, Weight, S, I, Flag, Count, Outer, Upper1, Upper2, Degree1, Degree2, P, Q, Bound, Rest}
 use Rattle.layouts.specs.declared.Place.{Place}
@@ -17,7 +18,7 @@ use Rattle.layouts.specs.declared.Stepped.{Stepped}
 use Rattle.layouts.specs.declared.Stepped.the-variants.{Go, Bad}
 use Rattle.layouts.specs.declared.Verdict.{Verdict}
 use Rattle.layouts.specs.declared.Verdict.the-variants.{Layout}
-use Rattle.layouts.specs.Layout.{mostInteger, mostUpper, paper, bitOf}
+use Rattle.layouts.specs.Layout.{mostUpper, paper, bitOf}
 use Rattle.layouts.specs.Table.{placeAt, starts, startOf}
 use Rattle.layouts.specs.Machine.{fresh, start, real, above, text, need, refer, takes, settle, onward, rests, moved, step, closed, after, finish, end, within, size, withK1, withK2, withM1, withM2, withBad, stand, follow, enter, beyond, reals, kindAt, runsOn}
 use Rattle.references.specs.References.{fits}

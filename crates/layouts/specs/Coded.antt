@@ -6,12 +6,13 @@ use Prim.Native.Char.{Char, code}
 use Prim.Native.String.{String, [] as []ˢ, _∷_ as _∷ˢ_}
 use lib.Dec.{eqb, ltb}
 use lib.ListN.{getD}
+use Rattle.columns.specs.Format.{mostInteger}
 use Rattle.layouts.specs.declared.Kind.the-variants.{R, Given, Weight, S, I, Flag, Count, Outer}
 use Rattle.layouts.specs.declared.Kind.the-variants.{Upper1, Upper2, Degree1, Degree2, P, Q, Bound, Rest}
 use Rattle.layouts.specs.declared.Times.the-variants.{Fixed, N, Knots1, Knots2, C, ThreeC}
 use Rattle.layouts.specs.declared.Place.{Place}
 use Rattle.references.specs.References.{entry308, entry142}
-use Rattle.layouts.specs.Layout.{_of_, any, mostInteger}
+use Rattle.layouts.specs.Layout.{_of_, any}
 use Rattle.layouts.specs.Known.{bit}
 
 -- a letter and its place

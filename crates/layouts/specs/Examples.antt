@@ -6,13 +6,14 @@ use Prim.Native.Nat.{ℕ}
 use lib.ListN.{replicate}
 use Rattle.columns.specs.declared.Fault.the-variants.{Layout as LayoutFault, LayoutReference as LayoutReferenceFault}
 use Rattle.columns.specs.Refusal.{Outcome, accepted, refused}
+use Rattle.columns.specs.Format.{mostList}
 use Rattle.values.specs.Value.{Item, default, whole, real, text}
 use Rattle.layouts.specs.declared.Verdict.{Verdict}
 use Rattle.layouts.specs.declared.Verdict.the-variants.{Good, Layout, LayoutReference}
 use Rattle.references.specs.References.{classAt, classOf}
 use Rattle.layouts.specs.Named.{named}
 use Rattle.layouts.specs.Layout.{paper, bitOf}
-use Rattle.layouts.specs.Known.{known, mostList}
+use Rattle.layouts.specs.Known.{known}
 use Rattle.layouts.specs.Fits.{placesOf, asked}
 use Rattle.layouts.specs.Entities.{Entity, everywhere, verdict, entityCheck, referencePlaces, marks}
 

@@ -6,6 +6,7 @@ use mathlib.Core.List.{List, [], _∷_, _++_, map}
 use Prim.Native.Nat.{ℕ, _+_, _*_}
 use lib.Dec.{eqb}
 use lib.ListN.{getD, drop, replicate}
+use Rattle.columns.specs.Format.{mostInteger}
 use Rattle.layouts.specs.declared.Kind.{Kind}
 use Rattle.layouts.specs.declared.Kind.the-variants.{R, Given, Weight, S, I, Flag, Count, Outer}
 use Rattle.layouts.specs.declared.Kind.the-variants.{Upper1, Upper2, Degree1, Degree2, P, Q, Bound, Rest}
@@ -16,7 +17,7 @@ use Rattle.values.specs.declared.Value.{Value}
 use Rattle.values.specs.Value.{Item, default, seen, isMissing}
 use Rattle.references.specs.References.{fits}
 use Rattle.layouts.specs.Named.{named}
-use Rattle.layouts.specs.Layout.{Row, mostInteger, mostUpper, paper, groups, bitOf}
+use Rattle.layouts.specs.Layout.{Row, mostUpper, paper, groups, bitOf}
 use Rattle.layouts.specs.Tests.{real, above, text, within, size, integer}
 use Rattle.layouts.specs.Entity.{Entity}
 

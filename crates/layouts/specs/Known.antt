@@ -6,10 +6,6 @@ use lib.Dec.{eqb, ltb}
 use lib.ListN.{length}
 use Rattle.layouts.specs.Layout.{paper, bitOf}
 
--- a list is a number 0..16,383: a bit for each row
-abbrev pub mostList : ℕ
-mostList = 16383
-
 -- bit k of a list
 abbrev pub bit : ℕ → ℕ → Bool
 bit k list = eqb (list / 2 ^ k % 2) 1

@@ -3,6 +3,7 @@ use mathlib.Core.Bool.{Bool, true, cond, _&&_}
 use mathlib.Core.List.{List, [], _∷_}
 use Prim.Native.Nat.{ℕ, suc}
 use lib.Dec.{eqb}
+use Rattle.columns.specs.Format.{mostInteger}
 use Rattle.layouts.specs.declared.Kind.{Kind}
 use Rattle.layouts.specs.declared.Kind.the-variants.{R, Given, Weight, S, I, Flag, Count, Outer}
 use Rattle.layouts.specs.declared.Kind.the-variants.{Upper1, Upper2, Degree1, Degree2, P, Q, Bound}
@@ -24,10 +25,6 @@ one k = Fixed 1 of k
 -- a reference that asks its target for no type; others name the class that they ask for
 abbrev pub any : ℕ
 any = noEntry
-
--- the largest integer
-abbrev pub mostInteger : ℕ
-mostInteger = 2147483647
 
 -- the largest K of 126 and 128
 abbrev pub mostUpper : ℕ

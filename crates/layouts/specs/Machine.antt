@@ -2,6 +2,7 @@
 use mathlib.Core.Bool.{Bool, true, false, cond, not, _&&_, _||_}
 use Prim.Native.Nat.{ℕ, zero, suc, _+_, _-_, _*_}
 use lib.Dec.{eqb, ltb}
+use Rattle.columns.specs.Format.{mostInteger}
 use Rattle.layouts.specs.declared.Kind.{Kind}
 use Rattle.layouts.specs.declared.Kind.the-variants.{R, Given, Weight, S, I, Flag, Count, Outer}
 use Rattle.layouts.specs.declared.Kind.the-variants.{Upper1, Upper2, Degree1, Degree2, P, Q, Bound, Rest}
@@ -19,7 +20,7 @@ use Rattle.layouts.specs.declared.Verdict.{Verdict}
 use Rattle.layouts.specs.declared.Verdict.the-variants.{Good, Layout, LayoutReference}
 use Rattle.references.specs.References.{noEntry, fits}
 pub use Rattle.layouts.specs.Tests.{real, above, text, within, size}
-use Rattle.layouts.specs.Layout.{mostInteger, mostUpper, bitOf}
+use Rattle.layouts.specs.Layout.{mostUpper, bitOf}
 use Rattle.layouts.specs.Table.{placeAt, startOf}
 
 -- ---- the state

@@ -4,9 +4,10 @@ use mathlib.Core.Bool.{true, false}
 use mathlib.Core.List.{List, [], _∷_, _++_, map}
 use Prim.Native.Nat.{ℕ}
 use lib.ListN.{replicate}
+use Rattle.columns.specs.Format.{mostInteger}
 use Rattle.values.specs.Value.{Item, default, whole}
 use Rattle.references.specs.References.{noEntry, entry142}
-use Rattle.layouts.specs.Layout.{mostInteger, paper, bitOf}
+use Rattle.layouts.specs.Layout.{paper, bitOf}
 use Rattle.layouts.specs.Entity.{Entity}
 use Rattle.layouts.specs.Fits.{Ask, aReal, aGivenReal, aWeight, anInteger, aReference, placesOf, asked}
 

@@ -1,8 +1,9 @@
 // What a type list knows.
 ghost use mathlib.Core.Path.{_≡_};
 ghost use lib.Dec.{leb};
+ghost use Rattle.columns.specs.Format.{mostList};
 ghost use Rattle.layouts.specs.Layout.{bitOf};
-ghost use Rattle.layouts.specs.Known.{known, mostList};
+ghost use Rattle.layouts.specs.Known.{known};
 
 // How many rows the table of types has: a bit for each.
 pub const ROWS: usize = 14;

@@ -4,13 +4,14 @@ use mathlib.Core.Bool.{Bool, true, false, not, _||_}
 use Prim.Native.Nat.{ℕ, _^_, _<_}
 use native.Mathlib.Omega.{arith}
 use lib.Dec.{eqb}
+use Rattle.columns.specs.Format.{mostInteger}
 use Rattle.layouts.specs.declared.Kind.{Kind}
 use Rattle.layouts.specs.declared.Kind.the-variants.{R, Given, Weight, S, I, Flag, Count, Outer, Upper1, Upper2, Degree1, Degree2, P, Q, Bound, Rest}
 use Rattle.values.specs.declared.Value.{Value}
 use Rattle.values.specs.Value.{isMissing}
 use Rattle.layouts.specs.declared.State.{State}
 use Rattle.layouts.specs.declared.Stepped.{Stepped}
-use Rattle.layouts.specs.Layout.{mostInteger, mostUpper}
+use Rattle.layouts.specs.Layout.{mostUpper}
 use Rattle.layouts.specs.Machine.{real, above, text, within, size, need, refer, takes, withK1, withK2, withM1, withM2}
 use Rattle.layouts.proofs.Values.{within-size}
 

@@ -11,6 +11,7 @@ use Rattle.columns.specs.declared.Fault.the-variants.{ListOrLength, Global, Fir
 use Rattle.columns.specs.declared.ParameterLine.{ParameterLine}
 use Rattle.columns.specs.First.{firstNot}
 use Rattle.columns.specs.Refusal.{Outcome, accepted, demand, eachAt, _then_}
+use Rattle.columns.specs.Format.{mostList}
 use Rattle.columns.proofs.Outcomes.{then-accepted, demand-accepted}
 use Rattle.values.specs.Value.{Item, default}
 use Rattle.records.specs.declared.Opening.{Opening}
@@ -25,7 +26,6 @@ use Rattle.directory.specs.declared.EntryRead.the-variants.{Spelt, Wrong}
 use Rattle.directory.specs.Lines.{entryAt, labelAt}
 use Rattle.directory.specs.Rules.{entryRules}
 use Rattle.owners.specs.InFile.{ownersIn, outcome as ownershipOutcome}
-use Rattle.layouts.specs.Known.{mostList}
 use Rattle.layouts.specs.Entities.{entityCheck}
 use Rattle.model.specs.Model.{Carried, Model, typeOf, entityOf}
 use Rattle.model.specs.Read.{GlobalRead, globalRead, Listed, Before, globalText, globalLine, noStray, fieldFits, given, byValues, byOpening, globalIn, byEntry, entryIn, entriesIn, referencesIn, isType, carried, byParameters, lastPass, modelWith, before, readModel}

@@ -6,8 +6,8 @@ use lib.Dec.{leb}
 use borrow.Author.Tests.{leb-true}
 use Rattle.columns.specs.declared.Fault.the-variants.{ListOrLength}
 use Rattle.columns.specs.Refusal.{accepted, demand, eachAt}
+use Rattle.columns.specs.Format.{mostList}
 use Rattle.columns.proofs.Outcomes.{then-accepted, demand-accepted}
-use Rattle.layouts.specs.Known.{mostList}
 use Rattle.sheets.specs.Sheet.{Sheet, linesIn, sheetOf}
 use Rattle.sheets.specs.Order.{readSheet}
 use Rattle.sheets.proofs.Sheets.{sheet-again, written-read}

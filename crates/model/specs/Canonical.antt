@@ -4,6 +4,8 @@ use mathlib.Core.List.{List, [], _∷_, _++_, map}
 use Prim.Native.Nat.{ℕ, suc, _+_, _-_}
 use lib.ListN.{length, replicate}
 use Rattle.columns.specs.Decimal.{dec, padded, toLeft}
+use Rattle.columns.specs.Format.{textColumns, parameterColumns, numberColumns, openingColumns}
+use Rattle.columns.specs.Letters.{space}
 use Rattle.values.specs.Value.{Item, default, whole}
 use Rattle.records.specs.Flow.{flow, inLines}
 use Rattle.records.specs.Global.{firstField, canonicalOpening}
@@ -13,13 +15,9 @@ use Rattle.model.specs.Model.{Carried, Model, typeOf}
 
 -- ---- S
 
--- a start text takes columns 1-72
-abbrev pub startColumns : ℕ
-startColumns = 72
-
 -- one S line for each start text
 unfoldable pub startLines : Model → List (List ℕ)
-startLines m = map (toLeft startColumns) (m .starts)
+startLines m = map (toLeft textColumns) (m .starts)
 
 -- ---- G
 
@@ -31,25 +29,25 @@ filled n (g ∷ gs) = replicate (g .0 - n) default ++ (g .1 ∷ filled (suc (g .
 -- the opening and the fields
 unfoldable pub globalText : List (ℕ × Item) → List ℕ
 globalText [] = canonicalOpening true
-globalText (g ∷ gs) = canonicalOpening false ++ flow 72 8 (filled firstField (g ∷ gs))
+globalText (g ∷ gs) = canonicalOpening false ++ flow textColumns openingColumns (filled firstField (g ∷ gs))
 
 -- as many G lines as the record takes
 unfoldable pub globalLines : Model → List (List ℕ)
-globalLines m = inLines 72 (globalText (m .globals))
+globalLines m = inLines textColumns (globalText (m .globals))
 
 -- ---- P
 
 -- the record of an entry: its type number and its values
 unfoldable pub parameterText : Carried → List ℕ
-parameterText e = flow 64 0 (whole false (typeOf (e .fields)) ∷ e .values)
+parameterText e = flow parameterColumns 0 (whole false (typeOf (e .fields)) ∷ e .values)
 
 -- a P line: 64 columns of the record, column 65 blank, the directory number in 66-72
 abbrev pub owned : ℕ → List ℕ → List ℕ
-owned n t = t ++ (32 ∷ padded 7 (dec n))
+owned n t = t ++ (space ∷ padded numberColumns (dec n))
 
 -- the P lines of an entry with this directory number
 unfoldable pub blockOf : ℕ → Carried → List (List ℕ)
-blockOf n e = map (owned n) (inLines 64 (parameterText e))
+blockOf n e = map (owned n) (inLines parameterColumns (parameterText e))
 
 -- ---- D and P, entry by entry: n is the directory number, from the number of the next P line. Blocks follow directory order
 

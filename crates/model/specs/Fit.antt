@@ -4,14 +4,14 @@ use mathlib.Core.Bool.{true}
 use mathlib.Core.List.{List}
 use Prim.Native.Nat.{ℕ, suc, _*_, _≤_, _<_}
 use lib.ListN.{length}
+use Rattle.columns.specs.Format.{mostList, mostInteger}
 use Rattle.values.specs.Value.{Item, seen}
 use Rattle.records.specs.Record.{trimmed}
 use Rattle.records.specs.Global.{globalFits}
 use Rattle.directory.specs.Fields.{entryOf}
 use Rattle.directory.specs.Rules.{rangesOk, references, allFit}
-use Rattle.layouts.specs.Known.{mostList, known}
+use Rattle.layouts.specs.Known.{known}
 use Rattle.layouts.specs.Fits.{Keeps}
-use Rattle.sheets.specs.Plain.{most}
 use Rattle.sheets.specs.Line.{isLabel}
 use Rattle.sheets.specs.Sheet.{isStart}
 use Rattle.sheets.specs.Order.{noField}
@@ -50,4 +50,4 @@ pub record Fits (list : ℕ) (m : Model) : Type 0 where
   pub in-kind : Each InKind (m .globals)
   pub entries : Each (EntryFits list (typesOf (m .entries))) (m .entries)
   -- the last directory number is within the limit
-  pub few : 2 * length (m .entries) ≤ suc most
+  pub few : 2 * length (m .entries) ≤ suc mostInteger

@@ -7,8 +7,10 @@ use lib.Dec.{leb, eqb}
 use Rattle.columns.specs.declared.Fault.the-variants.{ListOrLength, Spelling, Global, Directory, FirstValue}
 use Rattle.columns.specs.Refusal.{Outcome, accepted, refused, demand, eachAt, _then_}
 use Rattle.columns.specs.First.{firstNot, upFrom}
-use Rattle.columns.specs.Columns.{columns, lineBytes, lineAt, textOf}
+use Rattle.columns.specs.Columns.{columns, lineAt, textOf}
 use Rattle.columns.specs.Trim.{trimEnd}
+use Rattle.columns.specs.Format.{lineBytes, textColumns, parameterColumns, mostList}
+use Rattle.columns.specs.Letters.{space}
 use Rattle.values.specs.Value.{Item, default, whole, real, text, seen, isDefault}
 use Rattle.records.specs.declared.Opening.{Opening}
 use Rattle.records.specs.declared.Opening.the-variants.{Opened, Wrong}
@@ -22,7 +24,6 @@ use Rattle.directory.specs.declared.EntryRead.the-variants.{Spelt, Wrong as Wro
 use Rattle.directory.specs.Lines.{entryAt, labelAt}
 use Rattle.directory.specs.Rules.{entryRules, referenceRule}
 use Rattle.owners.specs.InFile.{ownersIn, outcome as ownershipOutcome}
-use Rattle.layouts.specs.Known.{mostList}
 use Rattle.layouts.specs.Entities.{entityCheck}
 use Rattle.sheets.specs.Sheet.{sheetText}
 use Rattle.model.specs.Model.{Carried, Model, typeOf, entityOf, sheetOf}
@@ -31,11 +32,11 @@ use Rattle.model.specs.Model.{Carried, Model, typeOf, entityOf, sheetOf}
 
 -- a blank
 abbrev pub isBlank : ℕ → Bool
-isBlank b = eqb b 32
+isBlank b = eqb b space
 
 -- of line k
 abbrev pub startText : List ℕ → ℕ → List ℕ
-startText f k = trimEnd isBlank (columns (lineAt f k) 0 72)
+startText f k = trimEnd isBlank (columns (lineAt f k) 0 textColumns)
 
 -- of all S lines
 unfoldable pub startsIn : List ℕ → Counts → List (List ℕ)
@@ -45,11 +46,11 @@ startsIn f c = map (startText f) (upFrom 0 (c .s))
 
 -- columns 1-72 of G lines joined
 abbrev pub globalText : List ℕ → Counts → List ℕ
-globalText f c = textOf f (lineBytes * firstG c) 72 (c .g)
+globalText f c = textOf f (lineBytes * firstG c) textColumns (c .g)
 
 -- the file line, from 1, of a position of this text
 abbrev pub globalLine : Counts → ℕ → ℕ
-globalLine c p = firstG c + p / 72 + 1
+globalLine c p = firstG c + p / textColumns + 1
 
 -- the line where the value starts, or the last G line if the text ends early
 abbrev pub spellingLine : Counts → List ℕ → ℕ → ℕ → ℕ
@@ -84,14 +85,14 @@ byValues c t p d from (wrong n start at) = refused n (spellingLine c t start at)
 byValues c t p d from (values vs end) =
     let k = firstNot (fieldFits vs) 0 (length vs) in
     noStray c t end
-    then λ _. demand (eqb k (length vs)) Global (globalLine c (startAt 72 p d t from k))
+    then λ _. demand (eqb k (length vs)) Global (globalLine c (startAt textColumns p d t from k))
     then λ _. accepted (globalRead p d (given firstField vs))
 
 -- a wrong opening has the first G line; an opening that ends the record leaves no fields
 abbrev pub byOpening : Counts → List ℕ → Opening → Outcome GlobalRead
 byOpening c t Wrong = refused Spelling (firstG c + 1)
 byOpening c t (Opened p d next true) = noStray c t next then λ _. accepted (globalRead p d [])
-byOpening c t (Opened p d next false) = byValues c t p d next (valuesAt 72 p d t next)
+byOpening c t (Opened p d next false) = byValues c t p d next (valuesAt textColumns p d t next)
 
 -- what G says, or its first refusal
 unfoldable pub globalIn : List ℕ → Counts → Outcome GlobalRead
@@ -144,7 +145,7 @@ referencesIn c es = eachAt two (referencesOf (map listedType es)) (firstEntry c)
 
 -- columns 1-64 of an entity's P lines joined
 abbrev pub parametersOf : List ℕ → Counts → Listed → List ℕ
-parametersOf f c e = textOf f (lineBytes * parameterLine c (e .pointer)) 64 (e .lines)
+parametersOf f c e = textOf f (lineBytes * parameterLine c (e .pointer)) parameterColumns (e .lines)
 
 -- the integer type
 abbrev pub isType : ℕ → Item → Bool
@@ -169,7 +170,7 @@ byParameters list types place e (values vs end) =
 -- one entity of the last pass
 unfoldable pub entityIn : ℕ → List ℕ → Counts → GlobalRead → List ℕ → ℕ → Listed → Outcome Carried
 entityIn list f c g types place e =
-    byParameters list types place e (valuesAt 64 (g .parameter) (g .record-end) (parametersOf f c e) 0)
+    byParameters list types place e (valuesAt parameterColumns (g .parameter) (g .record-end) (parametersOf f c e) 0)
 
 -- each entry in turn
 unfoldable pub lastPass : ℕ → List ℕ → Counts → GlobalRead → List Listed → Outcome (List Carried)

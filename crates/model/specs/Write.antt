@@ -6,11 +6,11 @@ use lib.ListN.{length}
 use lib.Dec.{leb}
 use Rattle.columns.specs.declared.Fault.the-variants.{ListOrLength, Global, Mark, TooLong}
 use Rattle.columns.specs.Refusal.{Outcome, accepted, demand, eachAt, _then_}
+use Rattle.columns.specs.Format.{mostLines, mostList}
 use Rattle.values.specs.Value.{Item, seen}
 use Rattle.records.specs.Global.{globalFits}
-use Rattle.cards.specs.Cards.{mostLines}
 use Rattle.directory.specs.Rules.{entryRules, referenceRule}
-use Rattle.layouts.specs.Known.{mostList, known}
+use Rattle.layouts.specs.Known.{known}
 use Rattle.layouts.specs.Entities.{Entity, entityCheck, marks}
 use Rattle.sheets.specs.Sheet.{Row, Sheet}
 use Rattle.sheets.specs.Order.{readSheet}

@@ -18,7 +18,6 @@ use Rattle.columns.specs.declared.Field.the-variants.{Number, Bad}
 use Rattle.columns.specs.Columns.{columns, lineAt}
 use Rattle.columns.specs.Fixed.{fieldOf, signedOf}
 use Rattle.cards.specs.declared.Counts.{Counts}
-use Rattle.cards.specs.Cards.{mostLines}
 use Rattle.cards.specs.Rules.{Holds}
 use Rattle.cards.specs.Shared.{fileLine}
 use Rattle.columns.proofs.Tests.{cond-cases}
@@ -29,6 +28,7 @@ use Rattle.directory.proofs.Slots.{in-at, slot-signed}
 use Rattle.owners.specs.declared.Owned.{Owned}
 use Rattle.owners.specs.declared.Owned.the-variants.{Everyone, Entry, Line}
 use Rattle.columns.specs.First.{firstNot}
+use Rattle.columns.specs.Format.{mostLines}
 use Rattle.owners.specs.Owners.{nameIs, entryOwns, inRange, lineOwned, ownersOf, verdict}
 use Rattle.owners.specs.InFile.{numberOr0, sizeOr0, nameOf, ownerIn, fromIn, countIn, entryIn, lineIn, ownersIn, lineOf, Small}
 use Rattle.columns.proofs.First.{first-ge, first-on, first-here, first-end, call-on, call-here, from-start}

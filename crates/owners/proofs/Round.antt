@@ -6,8 +6,9 @@ use mathlib.Core.List.{List, []}
 use lib.ListN.{length, getD}
 use Rattle.columns.specs.Columns.{lineAt}
 use Rattle.columns.specs.Refusal.{accepted}
+use Rattle.columns.specs.Format.{mostLines}
 use Rattle.cards.specs.declared.Counts.{Counts}
-use Rattle.cards.specs.Cards.{mostLines, total, entries}
+use Rattle.cards.specs.Cards.{total, entries}
 use Rattle.cards.specs.Written.{Bodies, countsOf, fileOf}
 use Rattle.cards.proofs.Round.{body-of, line-byte, p-line, p-columns}
 use Rattle.owners.specs.declared.Owned.{Owned}

@@ -12,8 +12,10 @@ use Rattle.columns.specs.declared.SignedField.the-variants.{Number as SignedNum
 use Rattle.columns.specs.Refusal.{Outcome, accepted, refused}
 use Rattle.columns.specs.Columns.{columns, lineAt}
 use Rattle.columns.specs.Fixed.{fieldOf, signedOf}
+use Rattle.columns.specs.Format.{textColumns, parameterColumns, mostLines}
+use Rattle.columns.specs.Letters.{space}
 use Rattle.cards.specs.declared.Counts.{Counts}
-use Rattle.cards.specs.Cards.{mostLines, firstD, firstP, entries, entryLine, parameterLine}
+use Rattle.cards.specs.Cards.{firstD, firstP, entries, entryLine, parameterLine}
 use Rattle.directory.specs.Lines.{pointer, lines, slotIn}
 use Rattle.owners.specs.declared.Owned.{Owned}
 use Rattle.owners.specs.declared.Owned.the-variants.{Everyone, Entry, Line}
@@ -31,7 +33,7 @@ sizeOr0 (SignedNumber x) = cond (x .neg) 0 (x .size)
 
 -- the directory number that a P line names: none if column 65 is not blank
 unfoldable pub nameOf : List ℕ → ℕ
-nameOf l = cond (eqb (getD l 64 0) 32) (numberOr0 (fieldOf (columns l 65 72))) 0
+nameOf l = cond (eqb (getD l parameterColumns 0) space) (numberOr0 (fieldOf (columns l (parameterColumns + 1) textColumns))) 0
 
 -- what P line k names
 unfoldable pub ownerIn : List ℕ → Counts → ℕ → ℕ

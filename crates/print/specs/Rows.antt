@@ -6,7 +6,8 @@ use mathlib.Core.List.{List, [], _++_}
 use Prim.Native.Nat.{ℕ, zero, suc, _+_, _-_, _*_, _≤_, _<_}
 use lib.ListN.{length}
 use lib.Dec.{leb}
-use Rattle.columns.specs.Columns.{textOf, lineBytes}
+use Rattle.columns.specs.Columns.{textOf}
+use Rattle.columns.specs.Format.{lineBytes, parameterColumns, mostLines, mostBytes}
 use Rattle.records.specs.Record.{valuesAt}
 use Rattle.directory.specs.declared.Fields.{Fields}
 use Rattle.directory.specs.declared.EntryRead.{EntryRead}
@@ -22,7 +23,7 @@ unfoldable pub speltBytes : ℕ → List ℕ → ℕ → ℕ → ℕ → ℕ →
 speltBytes list f first n parameters c d i x pointer count =
     cond (leb (lineBytes * (parameters + (pointer - 1)) + count * lineBytes) (length f))
     (entityBytes list (typesAt f first n) (2 * i + 1) x (labelAt f (first + 2 * i))
-    (carriedIn (valuesAt 64 c d (textOf f (lineBytes * (parameters + (pointer - 1))) 64 count) 0)))
+    (carriedIn (valuesAt parameterColumns c d (textOf f (lineBytes * (parameters + (pointer - 1))) parameterColumns count) 0)))
     []
 
 abbrev pub readBytes : ℕ → List ℕ → ℕ → ℕ → ℕ → ℕ → ℕ → ℕ → EntryRead → List ℕ
@@ -43,7 +44,7 @@ rowsBytes list f first n parameters c d i (suc left) = rowBytes list f first n p
 unfoldable pub SpeltReads : List ℕ → ℕ → ℕ → ℕ → ℕ → ℕ → Type 0
 SpeltReads f parameters c d pointer count =
     lineBytes * (parameters + (pointer - 1)) + count * lineBytes ≤ length f
-    → Unrefused (valuesAt 64 c d (textOf f (lineBytes * (parameters + (pointer - 1))) 64 count) 0)
+    → Unrefused (valuesAt parameterColumns c d (textOf f (lineBytes * (parameters + (pointer - 1))) parameterColumns count) 0)
 
 -- a misspelt entry has none
 abbrev pub EntryReads : List ℕ → ℕ → ℕ → ℕ → EntryRead → Type 0
@@ -61,8 +62,8 @@ pub record RowsRead (f : List ℕ) (first n parameters c d : ℕ) : Type 0 where
 -- what printing them needs of a file: it is no longer than a file may be, has all D lines, and P line 1 is no further behind;
 -- c and d are delimiters
 pub record Printable (f : List ℕ) (first n parameters c d : ℕ) : Type 0 where
-  pub file-short : length f ≤ 16200000
+  pub file-short : length f ≤ mostBytes
   pub parameter : 0 < c
   pub closing : 0 < d
-  pub directory-there : 81 * (first + 2 * n) ≤ length f
-  pub parameters-near : parameters ≤ 200000
+  pub directory-there : lineBytes * (first + 2 * n) ≤ length f
+  pub parameters-near : parameters ≤ mostLines

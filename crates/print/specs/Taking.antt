@@ -6,6 +6,7 @@ use Prim.Native.Nat.{ℕ, _+_, _*_, _^_, _≤_, _<_}
 use lib.ListN.{length}
 use Rattle.columns.specs.Columns.{textOf}
 use Rattle.columns.specs.Laid.{Wrote}
+use Rattle.columns.specs.Format.{lineBytes, parameterColumns}
 use Rattle.values.specs.declared.Value.{Value}
 use Rattle.values.specs.declared.Value.the-variants.{Default}
 use Rattle.values.specs.Value.{Item, itemOf}
@@ -35,25 +36,25 @@ metOf (Refused fault s at) = record { value = Default; next = at; last = true }
 
 -- an entity's record stands in the file and is not refused, and n entries from line first on, for what it names
 pub record ValuesStand (f : List ℕ) (base lines c d first n : ℕ) : Type 0 where
-  pub stands : Stands f base 64 lines
+  pub stands : Stands f base parameterColumns lines
   pub parameter : 0 < c
   pub closing : 0 < d
-  pub directory-there : 81 * (first + 2 * n) ≤ length f
-  pub unrefused : Unrefused (valuesAt 64 c d (textOf f base 64 lines) 0)
+  pub directory-there : lineBytes * (first + 2 * n) ≤ length f
+  pub unrefused : Unrefused (valuesAt parameterColumns c d (textOf f base parameterColumns lines) 0)
 
 -- ---- a value that is given, so many defaults owed before it
 
 -- it stands in its record, the record and the entries in the file, and there is room for the lines
 pub record GivenStands (f : List ℕ) (base lines first n owed : ℕ) (v : Value) (at : ℕ) : Type 0 where
-  pub stands : Stands f base 64 lines
-  pub writable : Writable (lines * 64) v
-  pub directory-there : 81 * (first + 2 * n) ≤ length f
+  pub stands : Stands f base parameterColumns lines
+  pub writable : Writable (lines * parameterColumns) v
+  pub directory-there : lineBytes * (first + 2 * n) ≤ length f
   pub room : at + 1100 * owed < 2 ^ 59
 
 -- the lines of the defaults and its own are laid, and the marks stand behind it
 pub record GivenPut (f : List ℕ) (base lines first n : ℕ) (g : Stepped) (owed : ℕ) (v : Value) (o : List ℕ) (at : ℕ)
     (o′ : List ℕ) (r : Behind) : Type 0 where
   pub laid :
-      Wrote o at (valueBytes (markedFrom (typesAt f first n) g (owing owed (itemOf (textOf f base 64 lines) v ∷ [])))) o′ (r .next)
-  pub marks : r .marks ≡ run (typesAt f first n) g (owing owed (itemOf (textOf f base 64 lines) v ∷ []))
+      Wrote o at (valueBytes (markedFrom (typesAt f first n) g (owing owed (itemOf (textOf f base parameterColumns lines) v ∷ [])))) o′ (r .next)
+  pub marks : r .marks ≡ run (typesAt f first n) g (owing owed (itemOf (textOf f base parameterColumns lines) v ∷ []))
   pub near : r .next ≤ at + 1100 * owed + 1100

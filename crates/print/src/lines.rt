@@ -10,6 +10,8 @@ ghost use mathlib.Core.List.{[], _∷_, _++_};
 ghost use Prim.Native.Nat.{_+_, _*_, _^_, _≤_, _<_};
 ghost use Rattle.columns.specs.Columns.{textOf};
 ghost use Rattle.columns.specs.Laid.{Wrote};
+ghost use Rattle.columns.specs.Format.{textColumns, parameterColumns};
+ghost use Rattle.columns.specs.Letters.{newline};
 ghost use Rattle.values.specs.Value.{real, itemOf};
 ghost use Rattle.values.specs.Writing.{chars};
 ghost use Rattle.records.specs.Reading.{Stands, Writable};
@@ -50,8 +52,8 @@ pub fn put_value_line(
     reference: bool,
     v: Value,
 ) -> usize
-    requires { ⌜ Stands (now file) base 64 lines × Writable (lines * 64) v × (at < 2 ^ 59) ⌝ }
-    ensures { λ r. ⌜ Wrote (now (out .entry)) at (lineOf (Line.value reference (itemOf (textOf (now (file .entry)) base 64 lines) v)) ++ (10 ∷ [])) (now (out .exit)) r ⌝ }
+    requires { ⌜ Stands (now file) base parameterColumns lines × Writable (lines * parameterColumns) v × (at < 2 ^ 59) ⌝ }
+    ensures { λ r. ⌜ Wrote (now (out .entry)) at (lineOf (Line.value reference (itemOf (textOf (now (file .entry)) base parameterColumns lines) v)) ++ (newline ∷ [])) (now (out .exit)) r ⌝ }
     ensures { λ r. ⌜ r ≤ at + 1100 ⌝ }
 {
     let a = put_value_head(out, at, reference, v);
@@ -71,7 +73,7 @@ fn put_real_line(
     double: bool,
 ) -> usize
     requires { ⌜ at < 2 ^ 59 ⌝ }
-    ensures { λ r. ⌜ Wrote (now (out .entry)) at (lineOf (Line.value reference (real neg m eneg e double)) ++ (10 ∷ [])) (now (out .exit)) r ⌝ }
+    ensures { λ r. ⌜ Wrote (now (out .entry)) at (lineOf (Line.value reference (real neg m eneg e double)) ++ (newline ∷ [])) (now (out .exit)) r ⌝ }
     ensures { λ r. ⌜ r ≤ at + 1100 ⌝ }
 {
     let a = columns_emit::put(out, at, value_mark(reference));
@@ -90,8 +92,8 @@ pub fn put_mostly_real(
     reference: bool,
     v: Value,
 ) -> usize
-    requires { ⌜ Stands (now file) base 64 lines × Writable (lines * 64) v × (at < 2 ^ 59) ⌝ }
-    ensures { λ r. ⌜ Wrote (now (out .entry)) at (lineOf (Line.value reference (itemOf (textOf (now (file .entry)) base 64 lines) v)) ++ (10 ∷ [])) (now (out .exit)) r ⌝ }
+    requires { ⌜ Stands (now file) base parameterColumns lines × Writable (lines * parameterColumns) v × (at < 2 ^ 59) ⌝ }
+    ensures { λ r. ⌜ Wrote (now (out .entry)) at (lineOf (Line.value reference (itemOf (textOf (now (file .entry)) base parameterColumns lines) v)) ++ (newline ∷ [])) (now (out .exit)) r ⌝ }
     ensures { λ r. ⌜ r ≤ at + 1100 ⌝ }
 {
     match v {
@@ -116,8 +118,8 @@ pub fn put_global_line(
     n: u32,
     v: Value,
 ) -> usize
-    requires { ⌜ Stands (now file) base 72 lines × Writable (lines * 72) v × (at < 2 ^ 59) ⌝ }
-    ensures { λ r. ⌜ Wrote (now (out .entry)) at (lineOf (Line.global n (itemOf (textOf (now (file .entry)) base 72 lines) v)) ++ (10 ∷ [])) (now (out .exit)) r ⌝ }
+    requires { ⌜ Stands (now file) base textColumns lines × Writable (lines * textColumns) v × (at < 2 ^ 59) ⌝ }
+    ensures { λ r. ⌜ Wrote (now (out .entry)) at (lineOf (Line.global n (itemOf (textOf (now (file .entry)) base textColumns lines) v)) ++ (newline ∷ [])) (now (out .exit)) r ⌝ }
     ensures { λ r. ⌜ r ≤ at + 1100 ⌝ }
 {
     let a = put_global_head(out, at, n, v);

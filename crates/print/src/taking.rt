@@ -8,6 +8,7 @@ use values::Value;
 ghost use mathlib.Core.Path.{_≡_};
 ghost use Prim.Native.Nat.{_*_, _≤_, _<_};
 ghost use Rattle.columns.specs.Columns.{textOf};
+ghost use Rattle.columns.specs.Format.{parameterColumns};
 ghost use Rattle.records.specs.Record.{valueAt, valuesAt};
 ghost use Rattle.records.specs.Reading.{Stands, Writable};
 ghost use Rattle.read_entities.specs.Taking.{takenOf};
@@ -57,9 +58,9 @@ fn met_of(g: Got) -> Met
 
 // The value from position q of an entity's record on, which is not refused.
 pub fn met_at(file: &[u8], base: usize, lines: usize, c: u8, d: u8, q: usize) -> Met
-    requires { ⌜ Stands (now file) base 64 lines × (q ≤ lines * 64) × (0 < c) × (0 < d) × Unrefused (valuesAt 64 c d (textOf (now file) base 64 lines) q) ⌝ }
-    ensures { λ r. ⌜ r ≡ metOf (valueAt 64 c d (textOf (now (file .entry)) base 64 lines) q) ⌝ }
-    ensures { λ r. ⌜ (q < r .next) × (r .next ≤ lines * 64) × Writable (lines * 64) (r .value) ⌝ }
+    requires { ⌜ Stands (now file) base parameterColumns lines × (q ≤ lines * parameterColumns) × (0 < c) × (0 < d) × Unrefused (valuesAt parameterColumns c d (textOf (now file) base parameterColumns lines) q) ⌝ }
+    ensures { λ r. ⌜ r ≡ metOf (valueAt parameterColumns c d (textOf (now (file .entry)) base parameterColumns lines) q) ⌝ }
+    ensures { λ r. ⌜ (q < r .next) × (r .next ≤ lines * parameterColumns) × Writable (lines * parameterColumns) (r .value) ⌝ }
 {
     let g = value_at(file, base, COLUMNS, lines, c, d, q);
     met_of(g)

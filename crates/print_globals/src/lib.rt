@@ -9,6 +9,7 @@ ghost use mathlib.Core.Path.{_≡_};
 ghost use Prim.Native.Nat.{_+_, _*_, _^_, _≤_, _<_};
 ghost use Rattle.columns.specs.Columns.{textOf};
 ghost use Rattle.columns.specs.Laid.{Wrote};
+ghost use Rattle.columns.specs.Format.{textColumns};
 ghost use Rattle.values.specs.Value.{itemOf};
 ghost use Rattle.records.specs.Record.{valuesAt};
 ghost use Rattle.records.specs.Reading.{Stands, Writable};
@@ -32,8 +33,8 @@ fn put_given(
     n: u32,
     v: Value,
 ) -> usize
-    requires { ⌜ Stands (now file) base 72 lines × Writable (lines * 72) v × (at < 2 ^ 59) ⌝ }
-    ensures { λ r. ⌜ Wrote (now (out .entry)) at (givenBytes n (itemOf (textOf (now (file .entry)) base 72 lines) v)) (now (out .exit)) r ⌝ }
+    requires { ⌜ Stands (now file) base textColumns lines × Writable (lines * textColumns) v × (at < 2 ^ 59) ⌝ }
+    ensures { λ r. ⌜ Wrote (now (out .entry)) at (givenBytes n (itemOf (textOf (now (file .entry)) base textColumns lines) v)) (now (out .exit)) r ⌝ }
     ensures { λ r. ⌜ r ≤ at + 1100 ⌝ }
 {
     if is_missing(v) {
@@ -44,9 +45,9 @@ fn put_given(
 
 // How many values the record has from position from on; none if it is refused.
 fn count_from(file: &[u8], base: usize, lines: usize, c: u8, d: u8, from: usize) -> usize
-    requires { ⌜ Stands (now file) base 72 lines × (from ≤ lines * 72) × (0 < c) × (0 < d) ⌝ }
-    ensures { λ r. ⌜ itemsFrom 72 c d (textOf (now (file .entry)) base 72 lines) from r ≡ valuesIn (valuesAt 72 c d (textOf (now (file .entry)) base 72 lines) from) ⌝ }
-    ensures { λ r. ⌜ r ≤ lines * 72 ⌝ }
+    requires { ⌜ Stands (now file) base textColumns lines × (from ≤ lines * textColumns) × (0 < c) × (0 < d) ⌝ }
+    ensures { λ r. ⌜ itemsFrom textColumns c d (textOf (now (file .entry)) base textColumns lines) from r ≡ valuesIn (valuesAt textColumns c d (textOf (now (file .entry)) base textColumns lines) from) ⌝ }
+    ensures { λ r. ⌜ r ≤ lines * textColumns ⌝ }
 {
     match check_from(file, base, COLUMNS, lines, c, d, from) {
         Check::Wrong { .. } => 0,
@@ -65,8 +66,8 @@ pub fn put_globals(
     d: u8,
     from: usize,
 ) -> usize
-    requires { ⌜ Stands (now file) base 72 lines × (from ≤ lines * 72) × (0 < c) × (0 < d) × (at < 2 ^ 58) ⌝ }
-    ensures { λ r. ⌜ Wrote (now (out .entry)) at (globalBytes (given firstField (valuesIn (valuesAt 72 c d (textOf (now (file .entry)) base 72 lines) from)))) (now (out .exit)) r ⌝ }
+    requires { ⌜ Stands (now file) base textColumns lines × (from ≤ lines * textColumns) × (0 < c) × (0 < d) × (at < 2 ^ 58) ⌝ }
+    ensures { λ r. ⌜ Wrote (now (out .entry)) at (globalBytes (given firstField (valuesIn (valuesAt textColumns c d (textOf (now (file .entry)) base textColumns lines) from)))) (now (out .exit)) r ⌝ }
     ensures { λ r. ⌜ r ≤ at + 79200 * lines ⌝ }
 {
     let mut left = count_from(file, base, lines, c, d, from);

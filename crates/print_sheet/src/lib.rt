@@ -9,6 +9,7 @@ ghost use Prim.Native.Nat.{_+_, _*_, _^_, _≤_, _<_};
 ghost use lib.ListN.{length};
 ghost use Rattle.columns.specs.Columns.{textOf};
 ghost use Rattle.columns.specs.Laid.{Wrote};
+ghost use Rattle.columns.specs.Format.{textColumns};
 ghost use Rattle.records.specs.Reading.{Stands};
 ghost use Rattle.print.specs.Rows.{RowsRead, Printable};
 ghost use Rattle.print.specs.Whole.{fieldBytes, wholeBytes};
@@ -25,8 +26,8 @@ fn put_fields(
     from: usize,
     last: bool,
 ) -> usize
-    requires { ⌜ Stands (now file) base 72 lines × (from ≤ lines * 72) × (0 < c) × (0 < d) × (at < 2 ^ 58) ⌝ }
-    ensures { λ r. ⌜ Wrote (now (out .entry)) at (fieldBytes c d (textOf (now (file .entry)) base 72 lines) from last) (now (out .exit)) r ⌝ }
+    requires { ⌜ Stands (now file) base textColumns lines × (from ≤ lines * textColumns) × (0 < c) × (0 < d) × (at < 2 ^ 58) ⌝ }
+    ensures { λ r. ⌜ Wrote (now (out .entry)) at (fieldBytes c d (textOf (now (file .entry)) base textColumns lines) from last) (now (out .exit)) r ⌝ }
     ensures { λ r. ⌜ r ≤ at + 79200 * lines ⌝ }
 {
     if last {
@@ -51,7 +52,7 @@ pub fn put_sheet(
     from: usize,
     last: bool,
 ) -> usize
-    requires { ⌜ Printable (now file) (s + g) n parameters c d × (from ≤ g * 72) × (at < 2 ^ 55) ⌝ }
+    requires { ⌜ Printable (now file) (s + g) n parameters c d × (from ≤ g * textColumns) × (at < 2 ^ 55) ⌝ }
     requires { ⌜ RowsRead (now file) (s + g) n parameters c d ⌝ }
     ensures { λ r. ⌜ Wrote (now (out .entry)) at (wholeBytes list (now (file .entry)) s g n parameters c d from last) (now (out .exit)) r ⌝ }
     ensures { λ r. ⌜ r ≤ at + 2 ^ 52 ⌝ }

@@ -18,6 +18,8 @@ ghost use Prim.Native.Nat.{_+_, _-_, _*_, _^_, _≤_, _<_};
 ghost use lib.ListN.{length};
 ghost use Rattle.columns.specs.Columns.{textOf};
 ghost use Rattle.columns.specs.Laid.{Wrote};
+ghost use Rattle.columns.specs.Format.{lineBytes, parameterColumns};
+ghost use Rattle.columns.specs.Letters.{newline};
 ghost use Rattle.records.specs.Record.{valuesAt};
 ghost use Rattle.directory.specs.Lines.{labelAt};
 ghost use Rattle.directory.specs.Naming.{typesAt};
@@ -42,8 +44,8 @@ fn put_entry_line(
     number: DirectoryNumber,
     x: Fields,
 ) -> usize
-    requires { ⌜ (81 * k + 162 ≤ length (now file)) × (at < 2 ^ 59) ⌝ }
-    ensures { λ r. ⌜ Wrote (now (out .entry)) at (lineOf (Line.entry (known list (x .entity .size) (x .form .size)) (sized false (number .0)) x (labelAt (now (file .entry)) k)) ++ (10 ∷ [])) (now (out .exit)) r ⌝ }
+    requires { ⌜ (lineBytes * k + 2 * lineBytes ≤ length (now file)) × (at < 2 ^ 59) ⌝ }
+    ensures { λ r. ⌜ Wrote (now (out .entry)) at (lineOf (Line.entry (known list (x .entity .size) (x .form .size)) (sized false (number .0)) x (labelAt (now (file .entry)) k)) ++ (newline ∷ [])) (now (out .exit)) r ⌝ }
     ensures { λ r. ⌜ r ≤ at + 388 ⌝ }
 {
     let entity = x.entity;
@@ -70,8 +72,8 @@ pub fn put_entity(
     first: usize,
     n: usize,
 ) -> usize
-    requires { ⌜ ValuesStand (now file) base lines c d first n × (81 * k + 162 ≤ length (now file)) × (at < 2 ^ 57) ⌝ }
-    ensures { λ r. ⌜ Wrote (now (out .entry)) at (entityBytes list (typesAt (now (file .entry)) first n) (number .0) x (labelAt (now (file .entry)) k) (carriedIn (valuesAt 64 c d (textOf (now (file .entry)) base 64 lines) 0))) (now (out .exit)) r ⌝ }
+    requires { ⌜ ValuesStand (now file) base lines c d first n × (lineBytes * k + 2 * lineBytes ≤ length (now file)) × (at < 2 ^ 57) ⌝ }
+    ensures { λ r. ⌜ Wrote (now (out .entry)) at (entityBytes list (typesAt (now (file .entry)) first n) (number .0) x (labelAt (now (file .entry)) k) (carriedIn (valuesAt parameterColumns c d (textOf (now (file .entry)) base parameterColumns lines) 0))) (now (out .exit)) r ⌝ }
     ensures { λ r. ⌜ r ≤ at + 388 + 70400 * lines ⌝ }
 {
     let entity = x.entity;
@@ -206,7 +208,7 @@ pub fn put_rows(
 ) -> usize
     requires { ⌜ Printable (now file) first n parameters c d × (at < 2 ^ 56) ⌝ }
     requires { ⌜ RowsRead (now file) first n parameters c d ⌝ }
-    ensures { λ r. ⌜ Wrote (now (out .entry)) at (rowsBytes list (now (file .entry)) first n parameters c d 0 n ++ (lineOf (Line.last n) ++ (10 ∷ []))) (now (out .exit)) r ⌝ }
+    ensures { λ r. ⌜ Wrote (now (out .entry)) at (rowsBytes list (now (file .entry)) first n parameters c d 0 n ++ (lineOf (Line.last n) ++ (newline ∷ []))) (now (out .exit)) r ⌝ }
     ensures { λ r. ⌜ r ≤ at + 15000000000 * n + 23 ⌝ }
 {
     let mut next = at;

@@ -8,6 +8,8 @@ ghost use lib.ListN.{length, take, drop};
 ghost use Rattle.columns.specs.First.{upFrom};
 ghost use Rattle.columns.specs.Trim.{trimEnd};
 ghost use Rattle.columns.specs.Laid.{Wrote};
+ghost use Rattle.columns.specs.Format.{lineBytes, textColumns, mostLines};
+ghost use Rattle.columns.specs.Letters.{newline};
 ghost use Rattle.sheets.specs.Sheet.{Line, lineOf};
 ghost use Rattle.model.specs.Read.{isBlank, startText};
 ghost use Rattle.print.specs.Bytes.{startBytes};
@@ -17,9 +19,9 @@ const TEXT: usize = 72;
 
 // How many bytes of the text from here on are kept.
 fn kept(file: &[u8], from: usize) -> usize
-    requires { ⌜ from + 72 ≤ length (now file) ⌝ }
-    ensures { λ r. ⌜ take r (drop from (now (file .entry))) ≡ trimEnd isBlank (take 72 (drop from (now (file .entry)))) ⌝ }
-    ensures { λ r. ⌜ r ≤ 72 ⌝ }
+    requires { ⌜ from + textColumns ≤ length (now file) ⌝ }
+    ensures { λ r. ⌜ take r (drop from (now (file .entry))) ≡ trimEnd isBlank (take textColumns (drop from (now (file .entry)))) ⌝ }
+    ensures { λ r. ⌜ r ≤ textColumns ⌝ }
 {
     let mut n = TEXT;
     while 0 < n {
@@ -34,8 +36,8 @@ fn kept(file: &[u8], from: usize) -> usize
 
 // The S line of line k of the file.
 fn put_start_line(out: &mut [u8], at: usize, file: &[u8], k: usize) -> usize
-    requires { ⌜ (81 * k + 81 ≤ length (now file)) × (at < 2 ^ 60) ⌝ }
-    ensures { λ r. ⌜ Wrote (now (out .entry)) at (lineOf (Line.start (startText (now (file .entry)) k)) ++ (10 ∷ [])) (now (out .exit)) r ⌝ }
+    requires { ⌜ (lineBytes * k + lineBytes ≤ length (now file)) × (at < 2 ^ 60) ⌝ }
+    ensures { λ r. ⌜ Wrote (now (out .entry)) at (lineOf (Line.start (startText (now (file .entry)) k)) ++ (newline ∷ [])) (now (out .exit)) r ⌝ }
     ensures { λ r. ⌜ r ≤ at + 75 ⌝ }
 {
     let from = LINE_BYTES * k;
@@ -46,7 +48,7 @@ fn put_start_line(out: &mut [u8], at: usize, file: &[u8], k: usize) -> usize
 
 // Those of the first s lines.
 pub fn put_starts(out: &mut [u8], at: usize, file: &[u8], s: usize) -> usize
-    requires { ⌜ (81 * s ≤ length (now file)) × (s ≤ 200000) × (at < 2 ^ 59) ⌝ }
+    requires { ⌜ (lineBytes * s ≤ length (now file)) × (s ≤ mostLines) × (at < 2 ^ 59) ⌝ }
     ensures { λ r. ⌜ Wrote (now (out .entry)) at (startBytes (map (startText (now (file .entry))) (upFrom 0 s))) (now (out .exit)) r ⌝ }
     ensures { λ r. ⌜ r ≤ at + 75 * s ⌝ }
 {

@@ -18,6 +18,7 @@ use values::is_missing;
 ghost use Prim.Native.Nat.{_+_, _*_, _^_, _≤_, _<_};
 ghost use Rattle.columns.specs.Columns.{textOf};
 ghost use Rattle.columns.specs.Laid.{Wrote};
+ghost use Rattle.columns.specs.Format.{parameterColumns};
 ghost use Rattle.records.specs.Record.{valuesAt};
 ghost use Rattle.directory.specs.Naming.{typesAt};
 ghost use Rattle.read_entities.specs.Marks.{carriedIn, marksBegun, markedFrom};
@@ -104,7 +105,7 @@ pub fn put_values(
     n: usize,
 ) -> usize
     requires { ⌜ ValuesStand (now file) base lines c d first n × (at < 2 ^ 58) ⌝ }
-    ensures { λ r. ⌜ Wrote (now (out .entry)) at (valueBytes (markedFrom (typesAt (now (file .entry)) first n) (marksBegun list typ form) (carriedIn (valuesAt 64 c d (textOf (now (file .entry)) base 64 lines) 0)))) (now (out .exit)) r ⌝ }
+    ensures { λ r. ⌜ Wrote (now (out .entry)) at (valueBytes (markedFrom (typesAt (now (file .entry)) first n) (marksBegun list typ form) (carriedIn (valuesAt parameterColumns c d (textOf (now (file .entry)) base parameterColumns lines) 0)))) (now (out .exit)) r ⌝ }
     ensures { λ r. ⌜ r ≤ at + 70400 * lines ⌝ }
 {
     let mut g = marks_begun(list, typ, form);

@@ -8,6 +8,7 @@ use read_passes::Pass;
 ghost use mathlib.Core.Path.{_≡_};
 ghost use Prim.Native.Nat.{_+_, _*_, _≤_};
 ghost use lib.ListN.{length};
+ghost use Rattle.columns.specs.Format.{lineBytes};
 ghost use Rattle.directory.specs.Rules.{allFit, references, referenceRule};
 ghost use Rattle.directory.specs.Asking.{asksOk};
 ghost use Rattle.directory.specs.Naming.{typesAt};
@@ -19,7 +20,7 @@ const REFERENCES: usize = 7;
 
 // Whether what is asked, if it is, names such an entry.
 fn asks_ok(file: &[u8], first: usize, n: usize, w: Wanted) -> bool
-    requires { ⌜ 81 * (first + 2 * n) ≤ length (now file) ⌝ }
+    requires { ⌜ lineBytes * (first + 2 * n) ≤ length (now file) ⌝ }
     ensures { λ r. ⌜ r ≡ asksOk (typesAt (now (file .entry)) first n) w ⌝ }
 {
     if !w.asked {
@@ -31,7 +32,7 @@ fn asks_ok(file: &[u8], first: usize, n: usize, w: Wanted) -> bool
 
 // Whether all references of an entry do.
 fn all_ask_ok(file: &[u8], first: usize, n: usize, e: Entry) -> bool
-    requires { ⌜ 81 * (first + 2 * n) ≤ length (now file) ⌝ }
+    requires { ⌜ lineBytes * (first + 2 * n) ≤ length (now file) ⌝ }
     ensures { λ r. ⌜ r ≡ allFit (typesAt (now (file .entry)) first n) (references e) ⌝ }
 {
     let mut j = 0;
@@ -54,7 +55,7 @@ pub fn reference_check(
     line: FileLine,
     kept: Pass,
 ) -> Pass
-    requires { ⌜ 81 * (first + 2 * n) ≤ length (now file) ⌝ }
+    requires { ⌜ lineBytes * (first + 2 * n) ≤ length (now file) ⌝ }
     ensures { λ r. ⌜ r ≡ orElse kept (passOf (referenceRule (typesAt (now (file .entry)) first n) fields (line .0))) ⌝ }
 {
     let Pass::Good = kept else {

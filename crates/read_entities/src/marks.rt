@@ -9,6 +9,7 @@ use values::Value;
 ghost use mathlib.Core.Path.{_≡_};
 ghost use Prim.Native.Nat.{_+_, _*_, _≤_};
 ghost use lib.ListN.{length};
+ghost use Rattle.columns.specs.Format.{lineBytes};
 ghost use Rattle.directory.specs.Naming.{typesAt};
 ghost use Rattle.layouts.specs.Walk.{stepped, mark};
 ghost use Rattle.read_entities.specs.Marks.{marksBegun};
@@ -35,7 +36,7 @@ pub fn mark_of(g: Stepped) -> bool
 
 // Behind this value.
 pub fn mark_step(file: &[u8], first: usize, n: usize, g: Stepped, v: Value) -> Stepped
-    requires { ⌜ 81 * (first + 2 * n) ≤ length (now file) ⌝ }
+    requires { ⌜ lineBytes * (first + 2 * n) ≤ length (now file) ⌝ }
     ensures { λ r. ⌜ r ≡ stepped (typesAt (now (file .entry)) first n) g v ⌝ }
 {
     match g {

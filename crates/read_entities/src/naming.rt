@@ -6,12 +6,13 @@ use values::Value;
 ghost use mathlib.Core.Path.{_≡_};
 ghost use Prim.Native.Nat.{_+_, _*_, _≤_};
 ghost use lib.ListN.{length};
+ghost use Rattle.columns.specs.Format.{lineBytes};
 ghost use Rattle.directory.specs.Naming.{typesAt};
 ghost use Rattle.layouts.specs.Named.{named};
 
 // The class of what a value names: only a whole number without a sign names an entry.
 pub fn named_at(file: &[u8], first: usize, n: usize, v: Value) -> u8
-    requires { ⌜ 81 * (first + 2 * n) ≤ length (now file) ⌝ }
+    requires { ⌜ lineBytes * (first + 2 * n) ≤ length (now file) ⌝ }
     ensures { λ r. ⌜ r ≡ named (typesAt (now (file .entry)) first n) v ⌝ }
 {
     match v {

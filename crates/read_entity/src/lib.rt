@@ -17,6 +17,7 @@ ghost use mathlib.Core.Path.{_≡_};
 ghost use Prim.Native.Nat.{_+_, _*_, _≤_, _<_};
 ghost use lib.ListN.{length};
 ghost use Rattle.columns.specs.Columns.{textOf};
+ghost use Rattle.columns.specs.Format.{lineBytes, parameterColumns};
 ghost use Rattle.records.specs.Record.{valuesAt};
 ghost use Rattle.records.specs.Reading.{Stands};
 ghost use Rattle.directory.specs.Naming.{typesAt};
@@ -101,9 +102,9 @@ pub fn entity_pass(
     first: usize,
     n: usize,
 ) -> Weighed
-    requires { ⌜ Stands (now file) base 64 lines × (0 < c) × (0 < d) × (81 * (first + 2 * n) ≤ length (now file)) ⌝ }
-    ensures { λ r. ⌜ r .answer ≡ entityPassOf list (typesAt (now (file .entry)) first n) typ form (valuesAt 64 c d (textOf (now (file .entry)) base 64 lines) 0) ⌝ }
-    ensures { λ r. ⌜ r .length ≡ carriedLength (carriedIn (valuesAt 64 c d (textOf (now (file .entry)) base 64 lines) 0)) ⌝ }
+    requires { ⌜ Stands (now file) base parameterColumns lines × (0 < c) × (0 < d) × (lineBytes * (first + 2 * n) ≤ length (now file)) ⌝ }
+    ensures { λ r. ⌜ r .answer ≡ entityPassOf list (typesAt (now (file .entry)) first n) typ form (valuesAt parameterColumns c d (textOf (now (file .entry)) base parameterColumns lines) 0) ⌝ }
+    ensures { λ r. ⌜ r .length ≡ carriedLength (carriedIn (valuesAt parameterColumns c d (textOf (now (file .entry)) base parameterColumns lines) 0)) ⌝ }
     ensures { λ r. ⌜ r .length ≤ 70400 * lines ⌝ }
 {
     let g = value_at(file, base, COLUMNS, lines, c, d, 0);

@@ -9,6 +9,7 @@ ghost use Prim.Native.Nat.{_*_, _^_, _≤_, _<_};
 ghost use lib.ListN.{length};
 ghost use Rattle.columns.specs.Columns.{textOf};
 ghost use Rattle.columns.specs.Laid.{Wrote};
+ghost use Rattle.columns.specs.Format.{textColumns};
 ghost use Rattle.records.specs.Reading.{Stands};
 ghost use Rattle.print.specs.Whole.{fieldBytes};
 ghost use Rattle.read_weights.specs.declared.Checked.the-variants.{Good};
@@ -62,8 +63,8 @@ fn fields_len(
     from: usize,
     last: bool,
 ) -> usize
-    requires { ⌜ Stands (now file) base 72 lines × (from ≤ lines * 72) × (0 < c) × (0 < d) ⌝ }
-    ensures { λ r. ⌜ r ≡ length (fieldBytes c d (textOf (now (file .entry)) base 72 lines) from last) ⌝ }
+    requires { ⌜ Stands (now file) base textColumns lines × (from ≤ lines * textColumns) × (0 < c) × (0 < d) ⌝ }
+    ensures { λ r. ⌜ r ≡ length (fieldBytes c d (textOf (now (file .entry)) base textColumns lines) from last) ⌝ }
     ensures { λ r. ⌜ r ≤ 79200 * lines ⌝ }
 {
     if last {

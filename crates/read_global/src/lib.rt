@@ -12,6 +12,7 @@ use records::Opening;
 use values::Value;
 ghost use mathlib.Core.Path.{_≡_};
 ghost use Prim.Native.Nat.{_*_, _<_, _≤_};
+ghost use Rattle.columns.specs.Format.{textColumns};
 ghost use Rattle.cards.specs.Rules.{Holds};
 ghost use Rattle.cards.specs.Shared.{fileLine};
 ghost use Rattle.records.specs.Record.{startOf, behind};
@@ -47,7 +48,7 @@ fn spelling_line(file: &[u8], c: Counts, start: usize, at: usize) -> FileLine
 
 // Behind the record, which ends at `end`, is nothing but blanks.
 fn no_stray(file: &[u8], c: Counts, end: usize) -> Pass
-    requires { ⌜ Holds (now file) c × (end ≤ c .g * 72) ⌝ }
+    requires { ⌜ Holds (now file) c × (end ≤ c .g * textColumns) ⌝ }
     ensures { λ r. ⌜ r ≡ passOf (noStray c (globalText (now (file .entry)) c) end) ⌝ }
 {
     let lines = wide(c.g);
@@ -91,7 +92,7 @@ fn behind_of(g: Got) -> usize
 
 // Rule 8, field by field: the values from position `from` on, n of them.
 fn fields_fit(file: &[u8], c: Counts, parameter: u8, closing: u8, from: usize, n: usize) -> Pass
-    requires { ⌜ Holds (now file) c × (from ≤ c .g * 72) × (n ≤ 16000000) × (0 < parameter) × (0 < closing) ⌝ }
+    requires { ⌜ Holds (now file) c × (from ≤ c .g * textColumns) × (n ≤ 16000000) × (0 < parameter) × (0 < closing) ⌝ }
     ensures { λ r. ⌜ r ≡ passOf (fieldsFit c parameter closing (globalText (now (file .entry)) c) from n) ⌝ }
 {
     let base = LINE_BYTES * wide(c.s);
@@ -126,7 +127,7 @@ fn done_pass(
     n: usize,
     end: usize,
 ) -> Pass
-    requires { ⌜ Holds (now file) c × (from ≤ c .g * 72) × (n ≤ 16000000) × (end ≤ c .g * 72) × (0 < parameter) × (0 < closing) ⌝ }
+    requires { ⌜ Holds (now file) c × (from ≤ c .g * textColumns) × (n ≤ 16000000) × (end ≤ c .g * textColumns) × (0 < parameter) × (0 < closing) ⌝ }
     ensures { λ r. ⌜ r ≡ orElse (passOf (noStray c (globalText (now (file .entry)) c) end)) (passOf (fieldsFit c parameter closing (globalText (now (file .entry)) c) from n)) ⌝ }
 {
     let found = no_stray(file, c, end);
@@ -138,7 +139,7 @@ fn done_pass(
 
 // The record from `from` on.
 fn values_pass(file: &[u8], c: Counts, parameter: u8, closing: u8, from: usize) -> Pass
-    requires { ⌜ Holds (now file) c × (from ≤ c .g * 72) × (0 < parameter) × (0 < closing) ⌝ }
+    requires { ⌜ Holds (now file) c × (from ≤ c .g * textColumns) × (0 < parameter) × (0 < closing) ⌝ }
     ensures { λ r. ⌜ r ≡ passOf (valuesOutcome c (globalText (now (file .entry)) c) parameter closing from) ⌝ }
 {
     let lines = wide(c.g);

@@ -6,6 +6,7 @@ use lib.Dec.{eqb}
 use Rattle.columns.specs.declared.Fault.the-variants.{Global}
 use Rattle.columns.specs.First.{firstNot}
 use Rattle.columns.specs.Refusal.{Outcome, accepted, demand, _then_}
+use Rattle.columns.specs.Format.{textColumns}
 use Rattle.cards.specs.declared.Counts.{Counts}
 use Rattle.cards.specs.Cards.{firstD, entries, entryLine}
 use Rattle.directory.specs.Rules.{referenceRule}
@@ -57,15 +58,15 @@ gotValue (GotRefused n s at) = Default
 
 -- whether value k of Global's text, read from a position on, may stand in its field
 unfoldable pub valueFits : ℕ → ℕ → List ℕ → ℕ → ℕ → Bool
-valueFits p d t from k = globalFits (firstField + k) (seen (gotItem t (valueAt 72 p d t (positionOf 72 p d t from k))))
+valueFits p d t from k = globalFits (firstField + k) (seen (gotItem t (valueAt textColumns p d t (positionOf textColumns p d t from k))))
 
 -- rule 8 of the first n values
 unfoldable pub fieldsFit : Counts → ℕ → ℕ → List ℕ → ℕ → ℕ → Outcome (Unit {0})
-fieldsFit c p d t from n = let k = firstNot (valueFits p d t from) 0 n in demand (eqb k n) Global (globalLine c (startAt 72 p d t from k))
+fieldsFit c p d t from n = let k = firstNot (valueFits p d t from) 0 n in demand (eqb k n) Global (globalLine c (startAt textColumns p d t from k))
 
 -- the record behind the opening
 unfoldable pub valuesOutcome : Counts → List ℕ → ℕ → ℕ → ℕ → Outcome GlobalRead
-valuesOutcome c t p d from = byValues c t p d from (valuesAt 72 p d t from)
+valuesOutcome c t p d from = byValues c t p d from (valuesAt textColumns p d t from)
 
 -- each entry 9, 13; all 10
 unfoldable pub entriesOutcome : List ℕ → Counts → Outcome (List (Unit {0}))

@@ -17,6 +17,7 @@ ghost use mathlib.Core.Path.{_≡_};
 ghost use Prim.Native.Nat.{_+_, _*_, _^_, _≤_, _<_};
 ghost use lib.ListN.{length, replicate};
 ghost use Rattle.columns.specs.Columns.{textOf};
+ghost use Rattle.columns.specs.Format.{lineBytes, parameterColumns};
 ghost use Rattle.values.specs.Value.{default};
 ghost use Rattle.records.specs.Record.{valuesAt};
 ghost use Rattle.records.specs.Reading.{Stands};
@@ -30,7 +31,7 @@ const AROUND: usize = 3;
 
 // The layout behind so many defaults.
 fn behind_defaults(file: &[u8], first: usize, n: usize, g: Stepped, owed: usize) -> Stepped
-    requires { ⌜ 81 * (first + 2 * n) ≤ length (now file) ⌝ }
+    requires { ⌜ lineBytes * (first + 2 * n) ≤ length (now file) ⌝ }
     ensures { λ r. ⌜ r ≡ run (typesAt (now (file .entry)) first n) g (replicate owed default) ⌝ }
 {
     let mut state = g;
@@ -45,7 +46,7 @@ fn behind_defaults(file: &[u8], first: usize, n: usize, g: Stepped, owed: usize)
 // The layout behind this value and the defaults owed before it; a default is owed. Most values are reals where more of their kind follow:
 // they are answered here, for a state or a value that is passed on is copied through memory.
 fn state_after(file: &[u8], first: usize, n: usize, g: Stepped, owed: usize, v: Value) -> Stepped
-    requires { ⌜ 81 * (first + 2 * n) ≤ length (now file) ⌝ }
+    requires { ⌜ lineBytes * (first + 2 * n) ≤ length (now file) ⌝ }
     ensures { λ r. ⌜ r ≡ stateAfter (typesAt (now (file .entry)) first n) g owed v ⌝ }
 {
     if is_missing(v) {
@@ -108,8 +109,8 @@ pub fn walk(
     first: usize,
     n: usize,
 ) -> Walked
-    requires { ⌜ Stands (now file) base 64 lines × (from ≤ lines * 64) × (0 < c) × (0 < d) × (81 * (first + 2 * n) ≤ length (now file)) ⌝ }
-    ensures { λ r. ⌜ r ≡ walkedFrom (typesAt (now (file .entry)) first n) begun 0 0 (valuesAt 64 c d (textOf (now (file .entry)) base 64 lines) from) ⌝ }
+    requires { ⌜ Stands (now file) base parameterColumns lines × (from ≤ lines * parameterColumns) × (0 < c) × (0 < d) × (lineBytes * (first + 2 * n) ≤ length (now file)) ⌝ }
+    ensures { λ r. ⌜ r ≡ walkedFrom (typesAt (now (file .entry)) first n) begun 0 0 (valuesAt parameterColumns c d (textOf (now (file .entry)) base parameterColumns lines) from) ⌝ }
     ensures { λ r. ⌜ Light (70400 * lines) r ⌝ }
 {
     let mut q = from;

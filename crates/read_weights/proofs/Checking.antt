@@ -9,9 +9,9 @@ use Rattle.columns.specs.declared.Fault.{Fault}
 use Rattle.columns.specs.declared.Fault.the-variants.{ListOrLength}
 use Rattle.columns.specs.declared.FileLine.{FileLine}
 use Rattle.columns.specs.Refusal.{Outcome, accepted, refused, _then_}
+use Rattle.columns.specs.Format.{mostList}
 use Rattle.cards.specs.declared.Counts.{Counts}
 use Rattle.cards.specs.Shared.{fileLine}
-use Rattle.layouts.specs.Known.{mostList}
 use Rattle.model.specs.Model.{Carried, Model}
 use Rattle.model.specs.Read.{Before, before, lastPass, modelWith, readModel}
 use Rattle.read_passes.specs.declared.Pass.{Pass}

@@ -6,9 +6,9 @@ use native.Mathlib.Omega.{arith}
 use Rattle.columns.specs.declared.Fault.{Fault}
 use Rattle.columns.specs.declared.FileLine.{FileLine}
 use Rattle.columns.specs.Refusal.{Outcome, accepted, refused, _then_}
+use Rattle.columns.specs.Format.{mostList}
 use Rattle.cards.specs.declared.Counts.{Counts}
 use Rattle.cards.specs.Shared.{fileLine}
-use Rattle.layouts.specs.Known.{mostList}
 use Rattle.sheets.specs.Sheet.{sheetText}
 use Rattle.model.specs.Model.{Carried, Model, sheetOf}
 use Rattle.model.specs.Read.{lastPass, modelWith, before, readModel, reads}

@@ -11,10 +11,10 @@ use Rattle.columns.specs.declared.Fault.{Fault}
 use Rattle.columns.specs.declared.Fault.the-variants.{ListOrLength}
 use Rattle.columns.specs.declared.FileLine.{FileLine}
 use Rattle.columns.specs.Laid.{Wrote}
+use Rattle.columns.specs.Format.{mostList}
 use Rattle.cards.specs.declared.Counts.{Counts}
 use Rattle.cards.specs.Cards.{entries}
 use Rattle.cards.specs.Shared.{fileLine}
-use Rattle.layouts.specs.Known.{mostList}
 use Rattle.sheets.specs.Sheet.{last, lineOf}
 use Rattle.model.specs.Read.{lastPass, before}
 use Rattle.read_passes.specs.declared.Pass.{Pass}

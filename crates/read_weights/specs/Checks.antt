@@ -1,8 +1,9 @@
 -- The code's form: the answers of the last pass over one entity and of all checks of a file.
 use mathlib.Core.List.{List, []}
 use Prim.Native.Nat.{ℕ, _+_, _*_}
-use Rattle.columns.specs.Columns.{lineBytes, textOf}
+use Rattle.columns.specs.Columns.{textOf}
 use Rattle.columns.specs.Refusal.{Outcome, accepted, refused, _then_}
+use Rattle.columns.specs.Format.{lineBytes, parameterColumns}
 use Rattle.cards.specs.declared.Counts.{Counts}
 use Rattle.cards.specs.Cards.{parameterLine}
 use Rattle.cards.specs.Shared.{fileLine}
@@ -24,7 +25,7 @@ delimited p d = globalRead p d []
 
 -- what is said of the entity of this type and form whose record stands in so many P lines from P line `from` on
 unfoldable pub recordAnswer : ℕ → List ℕ → Counts → ℕ → ℕ → ℕ → ℕ → ℕ → ℕ → EntityAnswer
-recordAnswer list f c p d typ form from lines = entityPassOf list (allTypes f c) typ form (valuesAt 64 p d (textOf f (lineBytes * parameterLine c from) 64 lines) 0)
+recordAnswer list f c p d typ form from lines = entityPassOf list (allTypes f c) typ form (valuesAt parameterColumns p d (textOf f (lineBytes * parameterLine c from) parameterColumns lines) 0)
 
 -- the last pass at entity i
 unfoldable pub entityAt : ℕ → List ℕ → Counts → ℕ → ℕ → ℕ → Pass
@@ -32,7 +33,7 @@ entityAt list f c p d i = passOf (entityIn list f c (delimited p d) (allTypes f 
 
 -- what an entry carries: the values that stand in its record
 abbrev pub carriedOf : List ℕ → Counts → ℕ → ℕ → Listed → Carried
-carriedOf f c p d e = carried e (carriedIn (valuesAt 64 p d (parametersOf f c e) 0))
+carriedOf f c p d e = carried e (carriedIn (valuesAt parameterColumns p d (parametersOf f c e) 0))
 
 -- counts and delimiters, or the first refusal
 abbrev pub checkedOf : Outcome Before → Checked

@@ -14,8 +14,8 @@ use read_entities::Weighed;
 use sheets_lay::entry_len;
 ghost use mathlib.Core.Path.{_≡_};
 ghost use Prim.Native.Nat.{_+_, _*_, _^_, _<_, _≤_};
+ghost use Rattle.columns.specs.Format.{fieldColumns};
 ghost use Rattle.cards.specs.Cards.{entries, entryLine};
-ghost use Rattle.directory.specs.Lines.{slotColumns};
 ghost use Rattle.sheets.specs.Writing.{entryLength};
 ghost use Rattle.read_entities.specs.Walking.{carriedLength};
 ghost use Rattle.read_passes.specs.Ready.{Ready};
@@ -93,7 +93,7 @@ fn record_answer(
 // The bytes of the entry line of entry i: its label fills a slot of the directory.
 fn head_len(i: usize, x: Fields) -> usize
     requires { ⌜ i < 2 ^ 30 ⌝ }
-    ensures { λ r. ⌜ r ≡ entryLength (2 * i + 1) x slotColumns ⌝ }
+    ensures { λ r. ⌜ r ≡ entryLength (2 * i + 1) x fieldColumns ⌝ }
     ensures { λ r. ⌜ r ≤ 388 ⌝ }
 {
     let number = cards::entry_number(i);

@@ -5,6 +5,7 @@ use Prim.Native.Nat.{ℕ, zero, suc, _+_, _-_, _/_, _%_}
 use lib.ListN.{length, replicate, take, drop}
 use lib.Dec.{leb}
 use Rattle.columns.specs.Decimal.{toLeft}
+use Rattle.columns.specs.Letters.{space, comma, semicolon}
 use Rattle.values.specs.Value.{Item, default, whole, real, text, head, spelled, Fine, Printed}
 
 -- how much of a value stands on one line: a number or default with its delimiter; of a string the count, H and the first character
@@ -20,11 +21,11 @@ gap w p n = cond (leb (p % w + n) w) 0 (w - p % w)
 
 -- ',' parts the values, ';' ends the record
 abbrev pub delimiter : Bool → ℕ
-delimiter last = cond last 59 44
+delimiter last = cond last semicolon comma
 
 -- a value at position p, with its delimiter
 unfoldable pub piece : ℕ → ℕ → Item → Bool → List ℕ
-piece w p v last = replicate (gap w p (firm v)) 32 ++ (spelled v ++ (delimiter last ∷ []))
+piece w p v last = replicate (gap w p (firm v)) space ++ (spelled v ++ (delimiter last ∷ []))
 
 -- whether no value is left: then the delimiter ends the record
 abbrev pub none : List Item → Bool

@@ -8,6 +8,7 @@ use Rattle.values.specs.declared.Value.{Value}
 use Rattle.values.specs.declared.Value.the-variants.{Default, Whole, Real, Text}
 use Rattle.values.specs.Number.{joins}
 use Rattle.columns.specs.Quoted.{codes}
+use Rattle.columns.specs.Letters.{comma, semicolon, digit1, letterH}
 use Rattle.records.specs.Flow.{delimiter}
 use Rattle.records.specs.declared.Opening.{Opening}
 use Rattle.records.specs.declared.Opening.the-variants.{Opened, Wrong}
@@ -26,7 +27,7 @@ opened c d next last = cond (mayDelimit c && (mayDelimit d && not (eqb c d))) (O
 
 -- `1H` stands at p
 abbrev pub oneH : List ℕ → ℕ → Bool
-oneH t p = eqb (getD t p 0) 49 && eqb (getD t (p + 1) 0) 72
+oneH t p = eqb (getD t p 0) digit1 && eqb (getD t (p + 1) 0) letterH
 
 -- from p on: c or ; (record delimiter semicolon), or 1H, d, and c or d
 unfoldable pub recordDelimiter : ℕ → List ℕ → ℕ → Opening
@@ -34,15 +35,15 @@ recordDelimiter c t p =
     let x = getD t p 0 in
     let d = getD t (p + 2) 0 in
     let y = getD t (p + 3) 0 in
-    cond (eqb x c) (opened c 59 (p + 1) false)
-    (cond (eqb x 59) (opened c 59 (p + 1) true)
+    cond (eqb x c) (opened c semicolon (p + 1) false)
+    (cond (eqb x semicolon) (opened c semicolon (p + 1) true)
     (cond (oneH t p) (cond (eqb y c) (opened c d (p + 4) false) (cond (eqb y d) (opened c d (p + 4) true) Wrong)) Wrong))
 
 -- `,` (delimiter comma) or `1H`, c, c; then the record delimiter
 unfoldable pub openingOf : List ℕ → Opening
 openingOf t =
     let c = getD t 2 0 in
-    cond (eqb (getD t 0 0) 44) (recordDelimiter 44 t 1)
+    cond (eqb (getD t 0 0) comma) (recordDelimiter comma t 1)
     (cond (oneH t 0 && eqb (getD t 3 0) c) (recordDelimiter c t 4) Wrong)
 
 -- the opening as it is written: `1H,,1H;,`, or `1H,,1H;;` if all else is default

@@ -6,7 +6,8 @@ use mathlib.Core.List.{List, [], _∷_}
 use Prim.Native.Nat.{ℕ, _+_, _*_, _^_, _≤_, _<_}
 use lib.ListN.{length}
 use lib.Dec.{leb}
-use Rattle.columns.specs.Columns.{lineBytes}
+use Rattle.columns.specs.Format.{lineColumns, lineBytes, mostBytes, mostInteger}
+use Rattle.columns.specs.Letters.{space}
 use Rattle.values.specs.declared.Value.{Value}
 use Rattle.values.specs.declared.Value.the-variants.{Default, Whole, Real, Text}
 use Rattle.values.specs.Number.{isDigit}
@@ -24,8 +25,8 @@ use Rattle.records.specs.Record.{Values, values, wrong, trimmed, kept}
 -- the first w columns of so many lines stand in the file from base on
 pub record Stands (file : List ℕ) (base w lines : ℕ) : Type 0 where
   pub wide : 1 ≤ w
-  pub narrow : w ≤ 80
-  pub size : length file ≤ 16200000
+  pub narrow : w ≤ lineColumns
+  pub size : length file ≤ mostBytes
   pub inside : base + lines * lineBytes ≤ length file
 
 -- where what stands behind the blanks is
@@ -38,7 +39,7 @@ place (Other at) = at
 -- a value keeps its limits; a string's characters are among the first m of a text
 abbrev pub Writable : ℕ → Value → Type 0
 Writable m Default = Unit {0}
-Writable m (Whole neg size) = size ≤ 2147483647
+Writable m (Whole neg size) = size ≤ mostInteger
 Writable m (Real neg k eneg e double) = (k < 10 ^ 17) × (e ≤ 400)
 Writable m (Text start count) = (start + count ≤ m) × (1 ≤ count) × (count ≤ 999)
 
@@ -54,7 +55,7 @@ SaneCheck p m (Wrong fault s at) = (p ≤ s) × (s ≤ at) × (at ≤ m)
 
 -- the delimiters that an opening names are no blanks and differ; it is m characters long at most
 abbrev pub Delimits : ℕ → Opening → Type 0
-Delimits m (Opened c d next last) = (32 < c) × (32 < d) × (c ≡ d → ⊥) × (next ≤ m)
+Delimits m (Opened c d next last) = (space < c) × (space < d) × (c ≡ d → ⊥) × (next ≤ m)
 Delimits m WrongOpening = Unit {0}
 
 -- no blank (a line's bytes are 32 to 126) and no digit

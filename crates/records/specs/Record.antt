@@ -8,6 +8,7 @@ use lib.Dec.{leb, eqb}
 use Rattle.columns.specs.declared.Fault.{Fault}
 use Rattle.columns.specs.declared.Fault.the-variants.{Spelling, Limit}
 use Rattle.columns.specs.Trim.{trimOnto, trimEnd}
+use Rattle.columns.specs.Letters.{space}
 use Rattle.values.specs.declared.Value.{Value}
 use Rattle.values.specs.declared.Value.the-variants.{Default, Whole, Real, Text}
 use Rattle.values.specs.declared.Number.{Number}
@@ -26,7 +27,7 @@ use Rattle.records.specs.declared.Got.the-variants.{Found, Refused}
 -- how many blanks a text begins with
 abbrev pub blanks : List ℕ → ℕ
 blanks [] = 0
-blanks (x ∷ xs) = cond (eqb x 32) (suc (blanks xs)) 0
+blanks (x ∷ xs) = cond (eqb x space) (suc (blanks xs)) 0
 
 -- what stands at q: a delimiter, or anything else
 abbrev pub mark : ℕ → ℕ → ℕ → ℕ → Next

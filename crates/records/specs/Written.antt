@@ -4,7 +4,7 @@ use mathlib.Core.Path.{_≡_}
 use mathlib.Core.List.{List, [], _∷_}
 use Prim.Native.Nat.{ℕ, suc, _+_, _*_, _/_, _%_, _^_, _≤_}
 use lib.ListN.{length, set}
-use Rattle.columns.specs.Columns.{lineBytes}
+use Rattle.columns.specs.Format.{lineColumns, lineBytes}
 use Rattle.values.specs.declared.Value.{Value}
 use Rattle.values.specs.declared.Value.the-variants.{Default, Whole, Real, Text}
 use Rattle.values.specs.Writing.{front}
@@ -29,7 +29,7 @@ pub record Room (base w p : ℕ) : Type 0 where
   pub low : base ≤ 2 ^ 40
   pub here : p ≤ 2 ^ 40
   pub wide : 1 ≤ w
-  pub narrow : w ≤ 80
+  pub narrow : w ≤ lineColumns
 
 -- how many characters of a string are copied
 abbrev pub copied : Value → ℕ

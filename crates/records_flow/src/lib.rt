@@ -6,6 +6,7 @@ ghost use mathlib.Core.Path.{_≡_};
 ghost use mathlib.Core.List.{[], _∷_, _++_};
 ghost use Prim.Native.Nat.{_+_, _*_, _^_, _≤_, _<_};
 ghost use lib.ListN.{length, replicate};
+ghost use Rattle.columns.specs.Format.{lineColumns, lineBytes};
 ghost use Rattle.values.specs.Value.{itemOf};
 ghost use Rattle.values.specs.Writing.{front, chars};
 ghost use Rattle.records.specs.Flow.{gap, delimiter, piece, lineCount};
@@ -14,7 +15,7 @@ ghost use Rattle.records.specs.Written.{Put, Room, copied, pieceEnd};
 
 // Writes b at position p of the text, if that stands in the file, and returns the next position.
 pub fn put_char(out: &mut [u8], base: usize, w: usize, p: usize, b: u8) -> usize
-    requires { ⌜ (base ≤ 2 ^ 40) × (p ≤ 2 ^ 41) × (1 ≤ w) × (w ≤ 80) ⌝ }
+    requires { ⌜ (base ≤ 2 ^ 40) × (p ≤ 2 ^ 41) × (1 ≤ w) × (w ≤ lineColumns) ⌝ }
     ensures { λ r. ⌜ Put base w (now (out .entry)) p (b ∷ []) (now (out .exit)) r ⌝ }
     ensures { λ r. ⌜ r ≡ p + 1 ⌝ }
 {
@@ -28,7 +29,7 @@ pub fn put_char(out: &mut [u8], base: usize, w: usize, p: usize, b: u8) -> usize
 
 // Writes all of s from position p on, character by character.
 fn put_each(out: &mut [u8], base: usize, w: usize, p: usize, s: &[u8]) -> usize
-    requires { ⌜ (base ≤ 2 ^ 40) × (p + length (now s) ≤ 2 ^ 41) × (1 ≤ w) × (w ≤ 80) ⌝ }
+    requires { ⌜ (base ≤ 2 ^ 40) × (p + length (now s) ≤ 2 ^ 41) × (1 ≤ w) × (w ≤ lineColumns) ⌝ }
     ensures { λ r. ⌜ Put base w (now (out .entry)) p (now (s .entry)) (now (out .exit)) r ⌝ }
     ensures { λ r. ⌜ r ≡ p + length (now (s .entry)) ⌝ }
 {
@@ -43,7 +44,7 @@ fn put_each(out: &mut [u8], base: usize, w: usize, p: usize, s: &[u8]) -> usize
 
 // Writes all of s from position p on: on one line its characters stand side by side.
 pub fn put_all(out: &mut [u8], base: usize, w: usize, p: usize, s: &[u8]) -> usize
-    requires { ⌜ (base ≤ 2 ^ 40) × (p + length (now s) ≤ 2 ^ 41) × (1 ≤ w) × (w ≤ 80) ⌝ }
+    requires { ⌜ (base ≤ 2 ^ 40) × (p + length (now s) ≤ 2 ^ 41) × (1 ≤ w) × (w ≤ lineColumns) ⌝ }
     ensures { λ r. ⌜ Put base w (now (out .entry)) p (now (s .entry)) (now (out .exit)) r ⌝ }
     ensures { λ r. ⌜ r ≡ p + length (now (s .entry)) ⌝ }
 {
@@ -60,7 +61,7 @@ pub fn put_all(out: &mut [u8], base: usize, w: usize, p: usize, s: &[u8]) -> usi
 
 // Writes b count times, one by one.
 fn put_times(out: &mut [u8], base: usize, w: usize, p: usize, b: u8, count: usize) -> usize
-    requires { ⌜ (base ≤ 2 ^ 40) × (p + count ≤ 2 ^ 41) × (1 ≤ w) × (w ≤ 80) ⌝ }
+    requires { ⌜ (base ≤ 2 ^ 40) × (p + count ≤ 2 ^ 41) × (1 ≤ w) × (w ≤ lineColumns) ⌝ }
     ensures { λ r. ⌜ Put base w (now (out .entry)) p (replicate count b) (now (out .exit)) r ⌝ }
     ensures { λ r. ⌜ r ≡ p + count ⌝ }
 {
@@ -75,7 +76,7 @@ fn put_times(out: &mut [u8], base: usize, w: usize, p: usize, b: u8, count: usiz
 
 // Writes b count times: on one line side by side.
 pub fn put_run(out: &mut [u8], base: usize, w: usize, p: usize, b: u8, count: usize) -> usize
-    requires { ⌜ (base ≤ 2 ^ 40) × (p + count ≤ 2 ^ 41) × (1 ≤ w) × (w ≤ 80) ⌝ }
+    requires { ⌜ (base ≤ 2 ^ 40) × (p + count ≤ 2 ^ 41) × (1 ≤ w) × (w ≤ lineColumns) ⌝ }
     ensures { λ r. ⌜ Put base w (now (out .entry)) p (replicate count b) (now (out .exit)) r ⌝ }
     ensures { λ r. ⌜ r ≡ p + count ⌝ }
 {
@@ -94,8 +95,8 @@ pub fn put_run(out: &mut [u8], base: usize, w: usize, p: usize, b: u8, count: us
 
 // The blanks before n characters that have to stand on one line.
 pub fn gap_of(w: usize, p: usize, n: usize) -> usize
-    requires { ⌜ (1 ≤ w) × (w ≤ 80) × (n ≤ 2 ^ 40) ⌝ }
-    ensures { λ r. ⌜ (r ≡ gap w p n) × (r ≤ 80) ⌝ }
+    requires { ⌜ (1 ≤ w) × (w ≤ lineColumns) × (n ≤ 2 ^ 40) ⌝ }
+    ensures { λ r. ⌜ (r ≡ gap w p n) × (r ≤ lineColumns) ⌝ }
 {
     let j = column_of(w, p);
     if j + n <= w { 0 } else { w - j }
@@ -117,7 +118,7 @@ fn put_tail(
     v: Value,
     last: bool,
 ) -> usize
-    requires { ⌜ (base ≤ 2 ^ 40) × (p ≤ 2 ^ 40 + 200) × (1 ≤ w) × (w ≤ 80) × Writable (length (now src)) v ⌝ }
+    requires { ⌜ (base ≤ 2 ^ 40) × (p ≤ 2 ^ 40 + 200) × (1 ≤ w) × (w ≤ lineColumns) × Writable (length (now src)) v ⌝ }
     ensures { λ r. ⌜ Put base w (now (out .entry)) p (chars (now (src .entry)) v ++ (delimiter last ∷ [])) (now (out .exit)) r ⌝ }
     ensures { λ r. ⌜ (p < r) × (r ≤ p + 1000) ⌝ }
 {
@@ -169,7 +170,7 @@ fn copied_of(v: Value) -> usize
 
 // The position behind that piece.
 pub fn piece_end(w: usize, p: usize, v: Value) -> usize
-    requires { ⌜ (p ≤ 2 ^ 40) × (1 ≤ w) × (w ≤ 80) × (copied v ≤ 999) ⌝ }
+    requires { ⌜ (p ≤ 2 ^ 40) × (1 ≤ w) × (w ≤ lineColumns) × (copied v ≤ 999) ⌝ }
     ensures { λ r. ⌜ r ≡ pieceEnd w p v ⌝ }
     ensures { λ r. ⌜ (p < r) × (r ≤ p + 1200) ⌝ }
 {
@@ -181,9 +182,9 @@ pub fn piece_end(w: usize, p: usize, v: Value) -> usize
 
 // The same of a value that is spelled in n characters.
 pub fn spelled_end(w: usize, p: usize, n: usize, v: Value) -> usize
-    requires { ⌜ (p ≤ 2 ^ 40) × (1 ≤ w) × (w ≤ 80) × (n < 2 ^ 40) × (n ≡ length (front v) + copied v) ⌝ }
+    requires { ⌜ (p ≤ 2 ^ 40) × (1 ≤ w) × (w ≤ lineColumns) × (n < 2 ^ 40) × (n ≡ length (front v) + copied v) ⌝ }
     ensures { λ r. ⌜ r ≡ pieceEnd w p v ⌝ }
-    ensures { λ r. ⌜ r ≤ p + n + 81 ⌝ }
+    ensures { λ r. ⌜ r ≤ p + n + lineBytes ⌝ }
 {
     let k = copied_of(v);
     let g = gap_of(w, p, n - k + 1);
@@ -192,7 +193,7 @@ pub fn spelled_end(w: usize, p: usize, n: usize, v: Value) -> usize
 
 // How many lines of w columns p characters take.
 pub fn line_count(w: usize, p: usize) -> usize
-    requires { ⌜ (1 ≤ w) × (w ≤ 80) × (p ≤ 2 ^ 40) ⌝ }
+    requires { ⌜ (1 ≤ w) × (w ≤ lineColumns) × (p ≤ 2 ^ 40) ⌝ }
     ensures { λ r. ⌜ r ≡ lineCount w p ⌝ }
     ensures { λ r. ⌜ (p ≤ r * w) × (r * w < p + w) ⌝ }
 {

@@ -6,6 +6,7 @@ ghost use mathlib.Core.Path.{_≡_};
 ghost use Prim.Native.Nat.{_+_, _*_, _≤_};
 ghost use lib.ListN.{drop};
 ghost use Rattle.columns.specs.Columns.{textOf};
+ghost use Rattle.columns.specs.Format.{textColumns};
 ghost use Rattle.records.specs.Record.{blanks};
 ghost use Rattle.records.specs.Global.{mayDelimit, opened, recordDelimiter, openingOf, kindOf, upTo, inRange, isKind, globalFits};
 ghost use Rattle.records.specs.Reading.{Stands, Delimits, setsApart};
@@ -62,8 +63,8 @@ fn opened_of(c: u8, d: u8, next: usize, last: bool) -> Opening
 
 // The record delimiter and what stands behind it, from position p on.
 fn record_delimiter(file: &[u8], base: usize, lines: usize, c: u8, p: usize) -> Opening
-    requires { ⌜ Stands (now file) base 72 lines × (p ≤ 4) ⌝ }
-    ensures { λ r. ⌜ r ≡ recordDelimiter c (textOf (now (file .entry)) base 72 lines) p ⌝ }
+    requires { ⌜ Stands (now file) base textColumns lines × (p ≤ 4) ⌝ }
+    ensures { λ r. ⌜ r ≡ recordDelimiter c (textOf (now (file .entry)) base textColumns lines) p ⌝ }
 {
     let x = records_read::char_at(file, base, WIDE, lines, p);
     if x == c {
@@ -92,8 +93,8 @@ fn record_delimiter(file: &[u8], base: usize, lines: usize, c: u8, p: usize) -> 
 
 // The opening of the Global text, which stands from base on.
 pub fn opening_of(file: &[u8], base: usize, lines: usize) -> Opening
-    requires { ⌜ Stands (now file) base 72 lines ⌝ }
-    ensures { λ r. ⌜ r ≡ openingOf (textOf (now (file .entry)) base 72 lines) ⌝ }
+    requires { ⌜ Stands (now file) base textColumns lines ⌝ }
+    ensures { λ r. ⌜ r ≡ openingOf (textOf (now (file .entry)) base textColumns lines) ⌝ }
     ensures { λ r. ⌜ Delimits 8 r ⌝ }
 {
     let x = records_read::char_at(file, base, WIDE, lines, 0);

@@ -11,24 +11,25 @@ use lib.Dec.{ltb, leb, eqb}
 use borrow.Author.Tests.{le-leb, lt-ltb, eq-eqb, ne-eqb, eqb-true, leb-true, ltb-true}
 use Rattle.columns.specs.Columns.{sameBytes}
 use Rattle.columns.specs.Decimal.{dec, minus, signedDec, toRight, zeroFilled}
+use Rattle.columns.specs.Format.{mostInteger}
 use Rattle.columns.proofs.Tests.{both, both-true}
 use Rattle.columns.proofs.Looks.{same-eq, same-self}
 use Rattle.columns.proofs.Decimals.{dec-some, dec-byte, length-dec-below, length-right, count-is}
 use Rattle.values.specs.Number.{isDigit, value}
 use Rattle.values.proofs.Laws.{value-append}
 use Rattle.values.proofs.Digits.{Ds, none, one, ds-append, dec-ds, dec-value, plain-dec, value-below}
-use Rattle.sheets.specs.Plain.{most, sized, plainOf, isPlain, isSigned, signedNumber, allDigits, isStatus}
+use Rattle.sheets.specs.Plain.{sized, plainOf, isPlain, isSigned, signedNumber, allDigits, isStatus}
 use Rattle.sheets.specs.WellFormed.{Proper}
 
 -- ---- a plain number
-pub plain-round : (n : ℕ) → n ≤ most → isPlain (dec n) ≡ true
+pub plain-round : (n : ℕ) → n ≤ mostInteger → isPlain (dec n) ≡ true
 unfolding isPlain
-plain-round n h = simp (dec-value n, same-self (dec n), le-leb n most h)
+plain-round n h = simp (dec-value n, same-self (dec n), le-leb n mostInteger h)
 
-pub plain-back : (f : List ℕ) → isPlain f ≡ true → (dec (plainOf f) ≡ f) × (plainOf f ≤ most)
+pub plain-back : (f : List ℕ) → isPlain f ≡ true → (dec (plainOf f) ≡ f) × (plainOf f ≤ mostInteger)
 unfolding isPlain
 plain-back f e =
-    let p = both (sameBytes f (dec (plainOf f))) (leb (plainOf f) most) e in
+    let p = both (sameBytes f (dec (plainOf f))) (leb (plainOf f) mostInteger) e in
     (sym (same-eq f (dec (plainOf f)) (p .0)), leb-true _ _ (p .1))
 
 -- ---- with a sign
@@ -46,7 +47,7 @@ unfolding signedDec
 spell-signed true n = refl
 spell-signed false n = refl
 
-pub signed-round : (b : Bool) (n : ℕ) → n ≤ most → (b ≡ true → n ≡ 0 → ⊥) → (isSigned (signedDec (sized b n)) ≡ true) × (signedNumber (signedDec (sized b n)) ≡ sized b n)
+pub signed-round : (b : Bool) (n : ℕ) → n ≤ mostInteger → (b ≡ true → n ≡ 0 → ⊥) → (isSigned (signedDec (sized b n)) ≡ true) × (signedNumber (signedDec (sized b n)) ≡ sized b n)
 signed-round true n h k =
     let z : n ≡ 0 → ⊥ = k refl in
     let e = is-minus (45 ∷ dec n) refl in
@@ -72,7 +73,7 @@ signed-back f h = elim (ℕ-discrete (getD f 0 0) 45) [
         let z : plainOf (drop 1 f) ≡ 0 → ⊥ = omega (arith, ltb-true 0 (plainOf (drop 1 f)) (p .1)) in
         rw (is-minus f e .1) (spell-signed true (plainOf (drop 1 f)) ∙ rw (b .0) (cut f e), record { small = b .1; minus = λ _. z })
 
-    plain : (dec (plainOf f) ≡ f) × (plainOf f ≤ most) → (getD f 0 0 ≡ 45 → ⊥) → (signedDec (signedNumber f) ≡ f) × Proper (signedNumber f)
+    plain : (dec (plainOf f) ≡ f) × (plainOf f ≤ mostInteger) → (getD f 0 0 ≡ 45 → ⊥) → (signedDec (signedNumber f) ≡ f) × Proper (signedNumber f)
     plain b e = rw (is-unsigned f e .1) (spell-signed false (plainOf f) ∙ b .0, record { small = b .1; minus = λ k. let z : _≡_ {A = ℕ} 0 1 = cc in absurd (omega arith) })
 
 -- ---- eight digits

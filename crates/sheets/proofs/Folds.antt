@@ -9,11 +9,12 @@ use lib.ListN.{length, getD, drop}
 use lib.Dec.{ltb, leb, eqb}
 use borrow.Author.Tests.{le-leb, lt-leb, ne-eqb, leb-true, leb-false, ltb-true, lt-ltb}
 use Rattle.columns.specs.Decimal.{dec}
+use Rattle.columns.specs.Format.{mostInteger}
 use Rattle.columns.proofs.Tests.{both, both-true}
 use Rattle.columns.proofs.Decimals.{dec-small, dec-big, by-digits, count-is}
 use Rattle.values.specs.Number.{value}
 use Rattle.values.proofs.Digits.{Ds, one, dec-ds, dec-value}
-use Rattle.sheets.specs.Plain.{most, sized, plainOf, isPlain, isSigned, signedNumber, isStatus, statusNumber}
+use Rattle.sheets.specs.Plain.{sized, plainOf, isPlain, isSigned, signedNumber, isStatus, statusNumber}
 use Rattle.sheets.specs.Line.{isEntryNumber, entryNumber}
 use Rattle.sheets.specs.Folds.{misspelt, unread, digitAfter, sizeFrom, plainFold, minusOf, signedFold, statusFrom, statusFold, entryFold}
 use Rattle.sheets.proofs.Plains.{step-low, step-high, step-first, step-nought, step-big, step-more, minus-some, minus-nought, status-low, status-some, status-high}
@@ -27,14 +28,14 @@ dec-more n d h k =
     dec-big (n * 10 + d) (omega arith) ∙ rw (a, b)
 
 -- what was spelt is read
-size-dec : (v : ℕ) → v ≤ most → (rest : List ℕ) → plainFold (dec v ++ rest) ≡ sizeFrom v rest
+size-dec : (v : ℕ) → v ≤ mostInteger → (rest : List ℕ) → plainFold (dec v ++ rest) ≡ sizeFrom v rest
 unfolding sizeFrom
-size-dec = by-digits (λ (v : ℕ). v ≤ most → (rest : List ℕ) → plainFold (dec v ++ rest) ≡ sizeFrom v rest)
+size-dec = by-digits (λ (v : ℕ). v ≤ mostInteger → (rest : List ℕ) → plainFold (dec v ++ rest) ≡ sizeFrom v rest)
     (λ v h l rest. rw (dec-small v h) (ap (λ (k : ℕ). sizeFrom k rest) (sym (step-first unread (48 + v) (omega arith) (omega arith) v (omega arith) refl))))
     (λ v h p l rest. rw (dec-big v h, append-assoc) (p (omega arith) _ ∙ ap (λ (k : ℕ). sizeFrom k rest)
     (sym (step-more (v / 10) (48 + v % 10) (omega arith) (omega arith) (v % 10) (omega arith) (omega arith) (omega arith) (omega arith)) ∙ omega arith)))
 
-size-own : (v : ℕ) → v ≤ most → plainFold (dec v) ≡ v
+size-own : (v : ℕ) → v ≤ mostInteger → plainFold (dec v) ≡ v
 unfolding sizeFrom
 size-own v h = rw append-nil at (size-dec v h [])
 
@@ -56,16 +57,16 @@ stays (b ∷ bs) = ap (λ (k : ℕ). sizeFrom k bs) (wrong b) ∙ stays bs
 -- what one more byte makes of a number
 data Stepped (n b : ℕ) : Type 0 where
   wrong : digitAfter n b ≡ misspelt → Stepped n b
-  more : 48 ≤ b → b ≤ 57 → 0 < n → n * 10 + (b - 48) ≤ most → digitAfter n b ≡ n * 10 + (b - 48) → Stepped n b
+  more : 48 ≤ b → b ≤ 57 → 0 < n → n * 10 + (b - 48) ≤ mostInteger → digitAfter n b ≡ n * 10 + (b - 48) → Stepped n b
 
-stepped : (n b : ℕ) → n ≤ most → Stepped n b
+stepped : (n b : ℕ) → n ≤ mostInteger → Stepped n b
 stepped n b h = elim (decLt b 48) [
   | yes l ↦ wrong (sym (step-low n b l))
   | no l ↦ elim (decLt 57 b) [
     | yes k ↦ wrong (sym (step-high n b (omega arith) k))
     | no k ↦ elim (ℕ-discrete n 0) [
       | yes z ↦ wrong (sym (step-nought n b (omega arith) (omega arith) z))
-      | no z ↦ elim (decLt most (n * 10 + (b - 48))) [
+      | no z ↦ elim (decLt mostInteger (n * 10 + (b - 48))) [
         | yes g ↦ wrong (sym (step-big n b (omega arith) (omega arith) (b - 48) refl (omega arith) z g))
         | no g ↦ more (omega arith) (omega arith) (omega arith) (omega arith) (sym (step-more n b (omega arith) (omega arith) (b - 48) refl (omega arith) z (omega arith)))
       ]
@@ -73,19 +74,19 @@ stepped n b h = elim (decLt b 48) [
   ]
 ]
 
-size-back : (bs : List ℕ) (n : ℕ) → n ≤ most → sizeFrom n bs ≤ most → dec (sizeFrom n bs) ≡ dec n ++ bs
+size-back : (bs : List ℕ) (n : ℕ) → n ≤ mostInteger → sizeFrom n bs ≤ mostInteger → dec (sizeFrom n bs) ≡ dec n ++ bs
 unfolding sizeFrom
 size-back [] n h k = sym (append-nil (dec n))
 size-back (b ∷ bs) n h k = pick (stepped n b h) (size-back bs (n * 10 + (b - 48)))
   where
-    pick : Stepped n b → (n * 10 + (b - 48) ≤ most → sizeFrom (n * 10 + (b - 48)) bs ≤ most → dec (sizeFrom (n * 10 + (b - 48)) bs) ≡ dec (n * 10 + (b - 48)) ++ bs)
+    pick : Stepped n b → (n * 10 + (b - 48) ≤ mostInteger → sizeFrom (n * 10 + (b - 48)) bs ≤ mostInteger → dec (sizeFrom (n * 10 + (b - 48)) bs) ≡ dec (n * 10 + (b - 48)) ++ bs)
         → dec (sizeFrom (digitAfter n b) bs) ≡ dec n ++ (b ∷ bs)
     pick (wrong e) ih = absurd (omega (arith, stays bs, rw e at k))
     pick (more lo hi p g e) ih =
         let d : 48 + (b - 48) ≡ b = omega arith in
         rw (e, ih g (rw e at k), dec-more n (b - 48) p (omega arith), append-assoc, d)
 
-size-all : (f : List ℕ) → plainFold f ≤ most → dec (plainFold f) ≡ f
+size-all : (f : List ℕ) → plainFold f ≤ mostInteger → dec (plainFold f) ≡ f
 unfolding sizeFrom
 size-all [] h = absurd (omega arith)
 size-all (b ∷ bs) h = elim (decLt b 48) [
@@ -105,39 +106,39 @@ size-all (b ∷ bs) h = elim (decLt b 48) [
 
 -- a form of this size gives x; the text is such a number exactly if the size is within the largest, and then x is that number, y
 pub record Tells {A : Type 0} (size : ℕ) (is : Bool) (x y : A) : Type 0 where
-  pub within : leb size most ≡ is
+  pub within : leb size mostInteger ≡ is
   pub same : is ≡ true → x ≡ y
 
 module _ {A : Type 0} {size : ℕ} {is : Bool} {x y : A} where
-  tells : (size ≤ most → (is ≡ true) × (x ≡ y)) → (is ≡ true → size ≤ most) → Tells size is x y
-  tells f g = record { within = pick (leb size most) refl is refl; same = λ e. f (g e) .1 }
+  tells : (size ≤ mostInteger → (is ≡ true) × (x ≡ y)) → (is ≡ true → size ≤ mostInteger) → Tells size is x y
+  tells f g = record { within = pick (leb size mostInteger) refl is refl; same = λ e. f (g e) .1 }
     where
-      pick : (a : Bool) → leb size most ≡ a → (b : Bool) → is ≡ b → a ≡ b
+      pick : (a : Bool) → leb size mostInteger ≡ a → (b : Bool) → is ≡ b → a ≡ b
       pick true e b h = sym (f (leb-true _ _ e) .0) ∙ h
       pick false e false h = refl
-      pick false e true h = absurd (omega (arith, leb-false size most e, g h))
+      pick false e true h = absurd (omega (arith, leb-false size mostInteger e, g h))
 
-  pub tells-good : Tells size is x y → size ≤ most → (is ≡ true) × (x ≡ y)
+  pub tells-good : Tells size is x y → size ≤ mostInteger → (is ≡ true) × (x ≡ y)
   tells-good t h =
       let e : is ≡ true = sym (t .within) ∙ le-leb _ _ h in
       (e, t .same e)
 
-  pub tells-bad : Tells size is x y → most < size → is ≡ false
+  pub tells-bad : Tells size is x y → mostInteger < size → is ≡ false
   tells-bad t h = sym (t .within) ∙ lt-leb _ _ h
 
-past : misspelt ≤ most → ⊥
+past : misspelt ≤ mostInteger → ⊥
 past h = omega arith
 
 -- a number without a sign
 pub plain-fold : (f : List ℕ) → Tells (plainFold f) (isPlain f) (plainFold f) (plainOf f)
 plain-fold f = tells good back
   where
-    good : plainFold f ≤ most → (isPlain f ≡ true) × (plainFold f ≡ plainOf f)
+    good : plainFold f ≤ mostInteger → (isPlain f ≡ true) × (plainFold f ≡ plainOf f)
     good h =
         let e : dec (plainFold f) ≡ f = size-all f h in
         (ap isPlain (sym e) ∙ plain-round (plainFold f) h, sym (dec-value (plainFold f)) ∙ ap (value 0) e)
 
-    back : isPlain f ≡ true → plainFold f ≤ most
+    back : isPlain f ≡ true → plainFold f ≤ mostInteger
     back e =
         let b = plain-back f e in
         rw (← b .0, size-own (plainOf f) (b .1)) (b .1)
@@ -149,7 +150,7 @@ minus-fold f = tells good back
     n : ℕ
     n = plainFold f
 
-    good : minusOf n .size ≤ most → (isPlain f && ltb 0 (plainOf f) ≡ true) × (minusOf n ≡ sized true (plainOf f))
+    good : minusOf n .size ≤ mostInteger → (isPlain f && ltb 0 (plainOf f) ≡ true) × (minusOf n ≡ sized true (plainOf f))
     good h = elim (ℕ-discrete n 0) [
       | yes z ↦ absurd (past (rw (← minus-nought n z) at h))
       | no z ↦ some z (tells-good (plain-fold f) (rw (← minus-some n z) at h))
@@ -158,7 +159,7 @@ minus-fold f = tells good back
         some : (n ≡ 0 → ⊥) → (isPlain f ≡ true) × (n ≡ plainOf f) → (isPlain f && ltb 0 (plainOf f) ≡ true) × (minusOf n ≡ sized true (plainOf f))
         some z g = (both-true (g .0) (lt-ltb 0 (plainOf f) (omega (arith, g .1))), sym (minus-some n z) ∙ ap (sized true) (g .1))
 
-    back : isPlain f && ltb 0 (plainOf f) ≡ true → minusOf n .size ≤ most
+    back : isPlain f && ltb 0 (plainOf f) ≡ true → minusOf n .size ≤ mostInteger
     back e =
         let p = both (isPlain f) (ltb 0 (plainOf f)) e in
         let g = plain-fold f .same (p .0) in
@@ -202,13 +203,13 @@ status-fold f = tells good back
         let v : s ≡ value 0 (49 ∷ f) = sym (dec-value s) ∙ ap (value 0) d in
         (status-is g n, sym (status-some s l k) ∙ ap (sized false) (omega (arith, v, one-front g n)))
 
-    good : statusFrom s .size ≤ most → (isStatus f ≡ true) × (statusFrom s ≡ sized false (plainOf f))
+    good : statusFrom s .size ≤ mostInteger → (isStatus f ≡ true) × (statusFrom s ≡ sized false (plainOf f))
     good h = elim (decLt s 100000000) [
       | yes l ↦ absurd (past (rw (← status-low s l) at h))
       | no l ↦ elim (decLt s 200000000) [ yes k ↦ eight (omega arith) k | no k ↦ absurd (past (rw (← status-high s (omega arith) (omega arith)) at h)) ]
     ]
 
-    back : isStatus f ≡ true → statusFrom s .size ≤ most
+    back : isStatus f ≡ true → statusFrom s .size ≤ mostInteger
     back e =
         let b = behind-one f e in
         let v : s ≡ 100000000 + plainOf f = front-of f ∙ ap plainFold (sym (b .0)) ∙ size-own (100000000 + plainOf f) (omega (arith, b .1)) in

@@ -10,6 +10,7 @@ use borrow.Author.Tests.{le-leb, lt-leb, lt-ltb, le-ltb, eq-eqb, ne-eqb, ltb-tru
 use Rattle.columns.specs.declared.Signed.{Signed}
 use Rattle.columns.specs.Columns.{columns, printable}
 use Rattle.columns.specs.Decimal.{dec}
+use Rattle.columns.specs.Format.{mostInteger}
 use Rattle.columns.proofs.Tests.{both}
 use Rattle.columns.proofs.Columns.{columns-none, columns-rest, length-columns, byte-of}
 use Rattle.values.specs.declared.Value.{Value}
@@ -22,7 +23,7 @@ use Rattle.sheets.specs.declared.EntryLine.{EntryLine}
 use Rattle.sheets.specs.declared.EntryLine.the-variants.{Got, Wrong}
 use Rattle.sheets.specs.declared.Said.{Said}
 use Rattle.sheets.specs.declared.Said.the-variants.{Start, Global, Entry, Value as Given, Last, Nothing}
-use Rattle.sheets.specs.Plain.{most, plainOf, isPlain}
+use Rattle.sheets.specs.Plain.{plainOf, isPlain}
 use Rattle.sheets.specs.Line.{run, entryOf}
 use Rattle.sheets.specs.Folds.{plainFold}
 use Rattle.sheets.specs.Sheet.{isMark, isStart, startLine, globalOf, isFieldNumber, isNumbered, globalLine, entryLineOf, valueOf, lastLine, byMark, saysOf}
@@ -176,13 +177,13 @@ pub ruleset globals = (global-not, global-default, global-given, global-short, g
 
 -- ---- the others
 module _ (t : List ℕ) (n : ℕ) (m : n ≡ plainFold t) where
-  pub last-yes : n ≤ most → Last n ≡ lastLine t
+  pub last-yes : n ≤ mostInteger → Last n ≡ lastLine t
   unfolding lastLine
   last-yes h =
       let g = tells-good (plain-fold t) (omega arith) in
       rw (g .0, ← g .1, m)
 
-  pub last-no : most < n → Nothing false ≡ lastLine t
+  pub last-no : mostInteger < n → Nothing false ≡ lastLine t
   unfolding lastLine
   last-no h = rw (tells-bad (plain-fold t) (omega arith))
 

@@ -9,8 +9,9 @@ use lib.Seq.{drop-drop, take-take}
 use borrow.Author.Tests.{le-leb, lt-leb, lt-ltb, le-ltb, eq-eqb, ne-eqb}
 use Rattle.columns.specs.declared.Signed.{Signed}
 use Rattle.columns.specs.Columns.{columns}
+use Rattle.columns.specs.Format.{mostInteger}
 use Rattle.columns.proofs.Columns.{column, columns-none, length-columns, drop-take}
-use Rattle.sheets.specs.Plain.{most, sized}
+use Rattle.sheets.specs.Plain.{sized}
 use Rattle.sheets.specs.Line.{run}
 use Rattle.sheets.specs.Folds.{misspelt, unread, digitAfter, sizeFrom, plainFold, minusOf, signedFold, statusFrom, statusFold, entryFold}
 
@@ -46,11 +47,11 @@ module _ (n b : ℕ) where
       step-nought h = rw h (simp (le-leb _ _ lo, le-leb _ _ hi))
 
       module _ (d : ℕ) (e : d ≡ b - 48) (some : n ≡ unread → ⊥) (pos : n ≡ 0 → ⊥) where
-        pub step-big : most < n * 10 + d → misspelt ≡ digitAfter n b
+        pub step-big : mostInteger < n * 10 + d → misspelt ≡ digitAfter n b
         unfolding digitAfter
         step-big h = simp (le-leb _ _ lo, le-leb _ _ hi, ne-eqb _ _ some, lt-ltb 0 n (omega arith), ← e, lt-leb _ _ h)
 
-        pub step-more : n * 10 + d ≤ most → n * 10 + d ≡ digitAfter n b
+        pub step-more : n * 10 + d ≤ mostInteger → n * 10 + d ≡ digitAfter n b
         unfolding digitAfter
         step-more h = simp (le-leb _ _ lo, le-leb _ _ hi, ne-eqb _ _ some, lt-ltb 0 n (omega arith), ← e, le-leb _ _ h)
 

@@ -6,8 +6,10 @@ use Prim.Native.Nat.{ℕ, _+_, _-_, _*_}
 use lib.ListN.{drop}
 use lib.Dec.{ltb, leb, eqb}
 use Rattle.columns.specs.declared.Signed.{Signed}
+use Rattle.columns.specs.Format.{mostInteger}
+use Rattle.columns.specs.Letters.{digit0}
 use Rattle.values.specs.Number.{isDigit}
-use Rattle.sheets.specs.Plain.{most, sized, isMinus}
+use Rattle.sheets.specs.Plain.{sized, isMinus}
 use Rattle.sheets.specs.Line.{behindStatus}
 
 -- past the largest one number says "misspelt" and one "nothing was read yet"
@@ -20,7 +22,7 @@ unread = 2147483649
 -- a digit may come first; after that it may come if there is no 0 in front and the number stays within the limit. What is misspelt stays so
 unfoldable pub digitAfter : ℕ → ℕ → ℕ
 digitAfter n b =
-    cond (isDigit b) (cond (eqb n unread) (b - 48) (cond (ltb 0 n && leb (n * 10 + (b - 48)) most) (n * 10 + (b - 48)) misspelt)) misspelt
+    cond (isDigit b) (cond (eqb n unread) (b - digit0) (cond (ltb 0 n && leb (n * 10 + (b - digit0)) mostInteger) (n * 10 + (b - digit0)) misspelt)) misspelt
 
 unfoldable pub sizeFrom : ℕ → List ℕ → ℕ
 sizeFrom n [] = n

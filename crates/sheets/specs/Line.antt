@@ -7,6 +7,8 @@ use lib.Dec.{ltb, eqb}
 use Rattle.columns.specs.declared.Signed.{Signed}
 use Rattle.columns.specs.Columns.{printable}
 use Rattle.columns.specs.Decimal.{signedDec, zeroFilled}
+use Rattle.columns.specs.Format.{fieldColumns}
+use Rattle.columns.specs.Letters.{tab, letterE, letterU}
 use Rattle.directory.specs.declared.Fields.{Fields}
 use Rattle.directory.specs.Fields.{fieldCount, statusAt, inOrder, fieldsOf, nought}
 use Rattle.sheets.specs.declared.EntryLine.{EntryLine}
@@ -20,7 +22,7 @@ run c (b ∷ bs) = elim (eqb b c) [ true ↦ 0 | false ↦ suc (run c bs) ]
 
 -- a label is eight bytes from 32 to 126
 unfoldable pub isLabel : List ℕ → Bool
-isLabel t = eqb (length t) 8 && printable t
+isLabel t = eqb (length t) fieldColumns && printable t
 
 -- the numbers of an entry line: the directory number, and the entry's
 abbrev pub numberCount : ℕ
@@ -43,34 +45,34 @@ entryFrom known ns = Got known (getD ns 0 nought) (fieldsOf (drop 1 ns))
 -- so many numbers, a tab behind each, then the label; ns are the numbers read already
 unfoldable pub numbersOf : Bool → ℕ → List Signed → List ℕ → EntryLine
 numbersOf known zero ns t = elim (isLabel t) [ true ↦ entryFrom known ns | false ↦ Wrong ]
-numbersOf known (suc left) ns t = elim (ltb (run 9 t) (length t) && isEntryNumber left (take (run 9 t) t)) [
-  | true ↦ numbersOf known left (ns ++ (entryNumber left (take (run 9 t) t) ∷ [])) (drop (suc (run 9 t)) t)
+numbersOf known (suc left) ns t = elim (ltb (run tab t) (length t) && isEntryNumber left (take (run tab t) t)) [
+  | true ↦ numbersOf known left (ns ++ (entryNumber left (take (run tab t) t) ∷ [])) (drop (suc (run tab t)) t)
   | false ↦ Wrong
 ]
 
 -- what is read of an entry line: E (69) or U (85), a tab, the numbers and the label
 unfoldable pub entryOf : List ℕ → EntryLine
-entryOf l = cond (eqb (getD l 1 0) 9)
-    (cond (eqb (getD l 0 0) 69) (numbersOf true numberCount [] (drop 2 l))
-    (cond (eqb (getD l 0 0) 85) (numbersOf false numberCount [] (drop 2 l)) Wrong))
+entryOf l = cond (eqb (getD l 1 0) tab)
+    (cond (eqb (getD l 0 0) letterE) (numbersOf true numberCount [] (drop 2 l))
+    (cond (eqb (getD l 0 0) letterU) (numbersOf false numberCount [] (drop 2 l)) Wrong))
     Wrong
 
 -- a line ends with its label
 unfoldable pub labelOf : List ℕ → List ℕ
-labelOf l = drop (length l - 8) l
+labelOf l = drop (length l - fieldColumns) l
 
 -- ---- spelling
 
 -- status 8 digits, other numbers in plain decimal
 unfoldable pub spell : ℕ → Signed → List ℕ
-spell left x = cond (eqb left behindStatus) (zeroFilled 8 (x .size)) (signedDec x)
+spell left x = cond (eqb left behindStatus) (zeroFilled fieldColumns (x .size)) (signedDec x)
 
 -- as many numbers as are left, a tab behind each
 unfoldable pub spells : ℕ → List Signed → List ℕ
 spells zero ns = []
 spells (suc left) [] = []
-spells (suc left) (x ∷ xs) = spell left x ++ (9 ∷ spells left xs)
+spells (suc left) (x ∷ xs) = spell left x ++ (tab ∷ spells left xs)
 
 -- `E` (known) or `U` (not), directory number, the entry's numbers, label
 unfoldable pub entryLine : Bool → ℕ → Fields → List ℕ → List ℕ
-entryLine known n x label = cond known 69 85 ∷ (9 ∷ (spells numberCount (sized false n ∷ inOrder x) ++ label))
+entryLine known n x label = cond known letterE letterU ∷ (tab ∷ (spells numberCount (sized false n ∷ inOrder x) ++ label))

@@ -7,11 +7,9 @@ use lib.Dec.{ltb, leb, eqb}
 use Rattle.columns.specs.declared.Signed.{Signed}
 use Rattle.columns.specs.Columns.{sameBytes}
 use Rattle.columns.specs.Decimal.{dec}
+use Rattle.columns.specs.Format.{fieldColumns, mostInteger}
+use Rattle.columns.specs.Letters.{minusSign}
 use Rattle.values.specs.Number.{isDigit, value}
-
--- the largest number
-abbrev pub most : ℕ
-most = 2147483647
 
 abbrev pub sized : Bool → ℕ → Signed
 sized neg size = record { neg = neg; size = size }
@@ -22,11 +20,11 @@ plainOf t = value 0 t
 
 -- a plain number: the decimal spelling of a number up to the largest
 unfoldable pub isPlain : List ℕ → Bool
-isPlain t = sameBytes t (dec (plainOf t)) && leb (plainOf t) most
+isPlain t = sameBytes t (dec (plainOf t)) && leb (plainOf t) mostInteger
 
 -- a minus (45) stands in front
 abbrev pub isMinus : List ℕ → Bool
-isMinus t = eqb (getD t 0 0) 45
+isMinus t = eqb (getD t 0 0) minusSign
 
 -- a plain number with a minus in front or without; nought has none
 unfoldable pub isSigned : List ℕ → Bool
@@ -42,7 +40,7 @@ allDigits (b ∷ bs) = isDigit b && allDigits bs
 
 -- a status: eight digits
 unfoldable pub isStatus : List ℕ → Bool
-isStatus t = eqb (length t) 8 && allDigits t
+isStatus t = eqb (length t) fieldColumns && allDigits t
 
 unfoldable pub statusNumber : List ℕ → Signed
 statusNumber t = sized false (plainOf t)

@@ -7,6 +7,8 @@ use lib.Dec.{ltb, leb, eqb}
 use Rattle.columns.specs.declared.Signed.{Signed}
 use Rattle.columns.specs.Columns.{printable}
 use Rattle.columns.specs.Decimal.{dec}
+use Rattle.columns.specs.Format.{textColumns}
+use Rattle.columns.specs.Letters.{tab, newline, space, letterE, letterG, letterR, letterS, letterU, letterV, letterZ}
 use Rattle.values.specs.declared.Strict.{Strict}
 use Rattle.values.specs.declared.Strict.the-variants.{Is, Not}
 use Rattle.values.specs.Value.{Item, itemOf, spelled, isMissing}
@@ -70,16 +72,16 @@ linesOf s = startLines (s .starts) (globalLines (s .globals) (rowLines 0 (s .row
 -- ---- their spelling
 
 unfoldable pub lineOf : Line → List ℕ
-lineOf (start t) = 83 ∷ (9 ∷ t)
-lineOf (global n v) = 71 ∷ (9 ∷ (dec n ++ (9 ∷ spelled v)))
+lineOf (start t) = letterS ∷ (tab ∷ t)
+lineOf (global n v) = letterG ∷ (tab ∷ (dec n ++ (tab ∷ spelled v)))
 lineOf (entry known n x label) = entryLine known (n .size) x label
-lineOf (value reference v) = cond reference 82 86 ∷ (9 ∷ spelled v)
-lineOf (last n) = 90 ∷ (9 ∷ dec n)
+lineOf (value reference v) = cond reference letterR letterV ∷ (tab ∷ spelled v)
+lineOf (last n) = letterZ ∷ (tab ∷ dec n)
 lineOf (none b) = []
 
 unfoldable pub textOf : List Line → List ℕ
 textOf [] = []
-textOf (l ∷ ls) = lineOf l ++ (10 ∷ textOf ls)
+textOf (l ∷ ls) = lineOf l ++ (newline ∷ textOf ls)
 
 -- the sheet's bytes
 unfoldable pub sheetText : Sheet → List ℕ
@@ -89,11 +91,11 @@ sheetText s = textOf (linesOf s)
 
 -- a byte is R (82) or V (86)
 unfoldable pub isMark : ℕ → Bool
-isMark b = eqb b 82 || eqb b 86
+isMark b = eqb b letterR || eqb b letterV
 
 -- a line begins with one of them and a tab (9)
 unfoldable pub isValue : List ℕ → Bool
-isValue l = eqb (getD l 1 0) 9 && isMark (getD l 0 0)
+isValue l = eqb (getD l 1 0) tab && isMark (getD l 0 0)
 
 -- the line that is read of l: its text, its value or its label stand there
 abbrev pub lineFrom : List ℕ → Said → Line
@@ -106,7 +108,7 @@ lineFrom l (Nothing b) = none b
 
 -- a start text: plain, at most 72 bytes, no blank at its end
 unfoldable pub isStart : List ℕ → Bool
-isStart t = leb (length t) 72 && (not (eqb (getD t (length t - 1) 0) 32) && printable t)
+isStart t = leb (length t) textColumns && (not (eqb (getD t (length t - 1) 0) space) && printable t)
 
 -- S, tab, a start text
 unfoldable pub startLine : List ℕ → Said
@@ -123,11 +125,11 @@ isFieldNumber t = isPlain t && (leb firstField (plainOf t) && leb (plainOf t) la
 
 -- with a tab behind it
 unfoldable pub isNumbered : List ℕ → Bool
-isNumbered t = ltb (run 9 t) (length t) && isFieldNumber (take (run 9 t) t)
+isNumbered t = ltb (run tab t) (length t) && isFieldNumber (take (run tab t) t)
 
 -- G, tab, a field's number, tab, its value
 unfoldable pub globalLine : List ℕ → Said
-globalLine t = globalOf (isNumbered t) (plainOf (take (run 9 t) t)) (2 + suc (run 9 t)) (strictOf (drop (suc (run 9 t)) t))
+globalLine t = globalOf (isNumbered t) (plainOf (take (run tab t) t)) (2 + suc (run tab t)) (strictOf (drop (suc (run tab t)) t))
 
 -- E or U, tab, the numbers and the label
 abbrev pub entryLineOf : EntryLine → Said
@@ -146,16 +148,16 @@ lastLine t = cond (isPlain t) (Last (plainOf t)) (Nothing false)
 -- by the line's first byte, S G E U R V Z; the second is a tab, and t is what follows
 unfoldable pub byMark : ℕ → List ℕ → List ℕ → Said
 byMark b l t =
-    cond (eqb b 83) (startLine t)
-    (cond (eqb b 71) (globalLine t)
-    (cond (eqb b 69 || eqb b 85) (entryLineOf (entryOf l))
-    (cond (eqb b 82) (valueOf true (strictOf t))
-    (cond (eqb b 86) (valueOf false (strictOf t))
-    (cond (eqb b 90) (lastLine t) (Nothing false))))))
+    cond (eqb b letterS) (startLine t)
+    (cond (eqb b letterG) (globalLine t)
+    (cond (eqb b letterE || eqb b letterU) (entryLineOf (entryOf l))
+    (cond (eqb b letterR) (valueOf true (strictOf t))
+    (cond (eqb b letterV) (valueOf false (strictOf t))
+    (cond (eqb b letterZ) (lastLine t) (Nothing false))))))
 
 -- what is read of a line, with where its value stands
 unfoldable pub saysOf : List ℕ → Said
-saysOf l = cond (eqb (getD l 1 0) 9) (byMark (getD l 0 0) l (drop 2 l)) (Nothing (isMark (getD l 0 0)))
+saysOf l = cond (eqb (getD l 1 0) tab) (byMark (getD l 0 0) l (drop 2 l)) (Nothing (isMark (getD l 0 0)))
 
 -- what a line says
 unfoldable pub saidBy : List ℕ → Line
@@ -171,7 +173,7 @@ into b (l ∷ ls) = (b ∷ l) ∷ ls
 -- the pieces between LFs (10): one more than there are LFs, the last one empty where the text ends in LF
 unfoldable pub piecesOf : List ℕ → List (List ℕ)
 piecesOf [] = [] ∷ []
-piecesOf (b ∷ bs) = elim (eqb b 10) [ true ↦ [] ∷ piecesOf bs | false ↦ into b (piecesOf bs) ]
+piecesOf (b ∷ bs) = elim (eqb b newline) [ true ↦ [] ∷ piecesOf bs | false ↦ into b (piecesOf bs) ]
 
 -- behind the last LF nothing stands; a piece there says nothing
 unfoldable pub lastPiece : List ℕ → List Line

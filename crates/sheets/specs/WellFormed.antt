@@ -5,11 +5,11 @@ use mathlib.Core.List.{List, [], _∷_}
 use Prim.Native.Nat.{ℕ, suc, _*_, _≤_, _<_}
 use lib.ListN.{length}
 use Rattle.columns.specs.declared.Signed.{Signed}
+use Rattle.columns.specs.Format.{mostInteger}
 use Rattle.values.specs.Value.{Item, isDefault, Fine, Printed}
 use Rattle.records.specs.Global.{firstField, lastField}
 use Rattle.directory.specs.declared.Fields.{Fields}
 use Rattle.directory.specs.Fields.{inOrder}
-use Rattle.sheets.specs.Plain.{most}
 use Rattle.sheets.specs.Line.{isLabel}
 use Rattle.sheets.specs.Sheet.{isStart, Row, Sheet}
 use Rattle.sheets.specs.Order.{noField}
@@ -46,7 +46,7 @@ pub data Each {A : Type 0} (P : A → Type 0) : List A → Type 0 where
 
 -- within the limit, and no minus nought
 pub record Proper (x : Signed) : Type 0 where
-  pub small : x .size ≤ most
+  pub small : x .size ≤ mostInteger
   pub minus : x .neg ≡ true → x .size ≡ 0 → ⊥
 
 -- the numbers of an entry; its status has eight digits and no sign
@@ -77,7 +77,7 @@ pub record Spelt (s : Sheet) : Type 0 where
   pub starts : Each (λ (t : List ℕ). isStart t ≡ true) (s .starts)
   pub globals : Each Filled (s .globals)
   pub rows : Each RowSpelt (s .rows)
-  pub few : 2 * length (s .rows) ≤ suc most
+  pub few : 2 * length (s .rows) ≤ suc mostInteger
 
 -- a sheet that has a text
 pub record WellFormed (s : Sheet) : Type 0 where

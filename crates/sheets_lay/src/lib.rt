@@ -10,6 +10,7 @@ ghost use mathlib.Core.List.{[], _∷_, _++_};
 ghost use Prim.Native.Nat.{_+_, _^_, _≤_, _<_};
 ghost use lib.ListN.{length};
 ghost use Rattle.columns.specs.Laid.{Wrote};
+ghost use Rattle.columns.specs.Letters.{tab, newline, letterE, letterR, letterU, letterV};
 ghost use Rattle.directory.specs.Fields.{inOrder};
 ghost use Rattle.sheets.specs.Plain.{sized};
 ghost use Rattle.sheets.specs.Line.{numberCount, spell, spells};
@@ -19,7 +20,7 @@ ghost use Rattle.sheets.specs.Writing.{globalHead, valueHead, entryLength};
 // Writes a mark and a tab.
 fn put_mark(out: &mut [u8], at: usize, m: u8) -> usize
     requires { ⌜ at < 2 ^ 61 ⌝ }
-    ensures { λ r. ⌜ Wrote (now (out .entry)) at (m ∷ 9 ∷ []) (now (out .exit)) r ⌝ }
+    ensures { λ r. ⌜ Wrote (now (out .entry)) at (m ∷ tab ∷ []) (now (out .exit)) r ⌝ }
     ensures { λ r. ⌜ r ≡ at + 2 ⌝ }
 {
     let next = columns_emit::put(out, at, m);
@@ -29,7 +30,7 @@ fn put_mark(out: &mut [u8], at: usize, m: u8) -> usize
 // Writes a text and LF.
 fn put_tail(out: &mut [u8], at: usize, t: &[u8]) -> usize
     requires { ⌜ at < 2 ^ 61 ⌝ }
-    ensures { λ r. ⌜ Wrote (now (out .entry)) at (now (t .entry) ++ (10 ∷ [])) (now (out .exit)) r ⌝ }
+    ensures { λ r. ⌜ Wrote (now (out .entry)) at (now (t .entry) ++ (newline ∷ [])) (now (out .exit)) r ⌝ }
     ensures { λ r. ⌜ r ≡ at + length (now (t .entry)) + 1 ⌝ }
 {
     let next = columns_emit::put_all(out, at, t);
@@ -39,7 +40,7 @@ fn put_tail(out: &mut [u8], at: usize, t: &[u8]) -> usize
 // An S line.
 pub fn put_start(out: &mut [u8], at: usize, text: &[u8]) -> usize
     requires { ⌜ at < 2 ^ 60 ⌝ }
-    ensures { λ r. ⌜ Wrote (now (out .entry)) at (lineOf (Line.start (now (text .entry))) ++ (10 ∷ [])) (now (out .exit)) r ⌝ }
+    ensures { λ r. ⌜ Wrote (now (out .entry)) at (lineOf (Line.start (now (text .entry))) ++ (newline ∷ [])) (now (out .exit)) r ⌝ }
     ensures { λ r. ⌜ r ≡ at + length (now (text .entry)) + 3 ⌝ }
 {
     let next = put_mark(out, at, b'S');
@@ -60,7 +61,7 @@ pub fn put_global_head(out: &mut [u8], at: usize, n: u32, v: Value) -> usize
 
 // R of a reference, V of any other value.
 pub fn value_mark(reference: bool) -> u8
-    ensures { λ r. ⌜ r ≡ cond reference 82 86 ⌝ }
+    ensures { λ r. ⌜ r ≡ cond reference letterR letterV ⌝ }
 {
     if reference { b'R' } else { b'V' }
 }
@@ -127,7 +128,7 @@ fn put_numbers(out: &mut [u8], at: usize, xs: [Signed; 13]) -> usize
 }
 
 fn mark_of(known: bool) -> u8
-    ensures { λ r. ⌜ r ≡ cond known 69 85 ⌝ }
+    ensures { λ r. ⌜ r ≡ cond known letterE letterU ⌝ }
 {
     if known { b'E' } else { b'U' }
 }
@@ -142,7 +143,7 @@ pub fn put_entry(
     label: &[u8],
 ) -> usize
     requires { ⌜ at < 2 ^ 59 ⌝ }
-    ensures { λ r. ⌜ Wrote (now (out .entry)) at (lineOf (Line.entry known (sized false (number .0)) fields (now (label .entry))) ++ (10 ∷ [])) (now (out .exit)) r ⌝ }
+    ensures { λ r. ⌜ Wrote (now (out .entry)) at (lineOf (Line.entry known (sized false (number .0)) fields (now (label .entry))) ++ (newline ∷ [])) (now (out .exit)) r ⌝ }
     ensures { λ r. ⌜ r ≤ at + length (now (label .entry)) + 380 ⌝ }
 {
     let m = mark_of(known);
@@ -196,7 +197,7 @@ pub fn entry_len(number: DirectoryNumber, fields: Fields, label: usize) -> usize
 // The Z line.
 pub fn put_last(out: &mut [u8], at: usize, n: usize) -> usize
     requires { ⌜ at < 2 ^ 60 ⌝ }
-    ensures { λ r. ⌜ Wrote (now (out .entry)) at (lineOf (Line.last n) ++ (10 ∷ [])) (now (out .exit)) r ⌝ }
+    ensures { λ r. ⌜ Wrote (now (out .entry)) at (lineOf (Line.last n) ++ (newline ∷ [])) (now (out .exit)) r ⌝ }
     ensures { λ r. ⌜ r ≤ at + 23 ⌝ }
 {
     let a = put_mark(out, at, b'Z');

@@ -7,6 +7,7 @@ ghost use mathlib.Core.Bool.{true, false};
 ghost use Prim.Native.Nat.{_+_, _-_, _≤_, _<_};
 ghost use lib.ListN.{length};
 ghost use Rattle.columns.specs.Columns.{columns};
+ghost use Rattle.columns.specs.Letters.{tab};
 ghost use Rattle.sheets.specs.Line.{run};
 ghost use Rattle.sheets.specs.Folds.{unread, digitAfter, sizeFrom, minusOf, signedFold, statusFrom, entryFold};
 
@@ -180,7 +181,7 @@ pub fn find(s: &[u8], c: u8, at: usize, end: usize) -> usize
 // The number of an entry line from `at` on, that `left` others follow, and its tab: found first.
 fn tabbed_by(s: &[u8], left: usize, at: usize, end: usize) -> Tabbed
     requires { ⌜ (at ≤ end) × (end ≤ length (now s)) ⌝ }
-    ensures { λ r. ⌜ r .end ≡ at + run 9 (columns (now (s .entry)) at end) ⌝ }
+    ensures { λ r. ⌜ r .end ≡ at + run tab (columns (now (s .entry)) at end) ⌝ }
     ensures { λ r. ⌜ r .number ≡ entryFold left (columns (now (s .entry)) at (r .end)) ⌝ }
     ensures { λ r. ⌜ (at ≤ r .end) × (r .end ≤ end) ⌝ }
 {
@@ -192,7 +193,7 @@ fn tabbed_by(s: &[u8], left: usize, at: usize, end: usize) -> Tabbed
 // The number of an entry line from `at` on, that `left` others follow, and its tab. Most are one digit, and no status.
 pub fn tabbed_at(s: &[u8], left: usize, at: usize, end: usize) -> Tabbed
     requires { ⌜ (at ≤ end) × (end ≤ length (now s)) ⌝ }
-    ensures { λ r. ⌜ r .end ≡ at + run 9 (columns (now (s .entry)) at end) ⌝ }
+    ensures { λ r. ⌜ r .end ≡ at + run tab (columns (now (s .entry)) at end) ⌝ }
     ensures { λ r. ⌜ r .number ≡ entryFold left (columns (now (s .entry)) at (r .end)) ⌝ }
     ensures { λ r. ⌜ (at ≤ r .end) × (r .end ≤ end) ⌝ }
 {

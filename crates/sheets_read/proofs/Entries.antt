@@ -10,12 +10,12 @@ use lib.Seq.{take-suc, take-suc-set, take-all, getD-drop}
 use borrow.Author.Tests.{lt-ltb, le-ltb, ne-eqb}
 use Rattle.columns.specs.declared.Signed.{Signed}
 use Rattle.columns.specs.Columns.{columns, printable}
+use Rattle.columns.specs.Format.{mostInteger}
 use Rattle.columns.proofs.Columns.{byte-of, length-columns}
 use Rattle.directory.specs.declared.Fields.{Fields}
 use Rattle.directory.specs.Fields.{nought, fieldsOf}
 use Rattle.sheets.specs.declared.EntryLine.{EntryLine}
 use Rattle.sheets.specs.declared.EntryLine.the-variants.{Got, Wrong}
-use Rattle.sheets.specs.Plain.{most}
 use Rattle.sheets.specs.Line.{run, isLabel, entryNumber, entryFrom, numbersOf, entryOf}
 use Rattle.sheets.specs.Folds.{entryFold}
 use Rattle.sheets.proofs.Plains.{first-byte, no-second, columns-take, columns-drop}
@@ -51,13 +51,13 @@ module _ (f : EntryLine) (s : List ℕ) (known : Bool) (xs : List Signed) (left 
     numbers-short h = simp (numbersOf, at-run, length-columns s i end (omega arith) le, le-ltb (e - i) (end - i) (omega arith)) at (rw more at inv)
 
     -- the number is told by the code's form of it
-    pub numbers-bad : (x : Signed) → (e ≡ end → ⊥) → x ≡ entryFold (left - 1) (columns s i e) → most < x .size → Wrong ≡ f
+    pub numbers-bad : (x : Signed) → (e ≡ end → ⊥) → x ≡ entryFold (left - 1) (columns s i e) → mostInteger < x .size → Wrong ≡ f
     unfolding numbersOf
     numbers-bad x h p q =
         let g = tells-bad (entry-fold (left - 1) (columns s i e)) (rw p at q) in
         simp (numbersOf, at-run, length-columns s i end (omega arith) le, lt-ltb (e - i) (end - i) (omega arith), columns-take s i e end lo hi, g) at (rw more at inv)
 
-    pub numbers-more : (x : Signed) → (e ≡ end → ⊥) → x ≡ entryFold (left - 1) (columns s i e) → x .size ≤ most → k + left ≡ 13 → length xs ≡ 13
+    pub numbers-more : (x : Signed) → (e ≡ end → ⊥) → x ≡ entryFold (left - 1) (columns s i e) → x .size ≤ mostInteger → k + left ≡ 13 → length xs ≡ 13
         → numbersOf known (left - 1) (take (k + 1) (set xs k x)) (columns s (e + 1) end) ≡ f
     unfolding numbersOf
     numbers-more x h p q c l =

@@ -13,6 +13,7 @@ ghost use mathlib.Core.List.{[]};
 ghost use Prim.Native.Nat.{_+_, _-_, _≤_, _<_};
 ghost use lib.ListN.{length, drop};
 ghost use Rattle.columns.specs.Columns.{columns};
+ghost use Rattle.columns.specs.Letters.{newline};
 ghost use Rattle.values.specs.Strict.{strictOf};
 ghost use Rattle.values.specs.Writing.{Placed};
 ghost use Rattle.sheets.specs.Line.{run, entryFrom, numbersOf, numberCount, entryOf};
@@ -22,7 +23,7 @@ ghost use Rattle.sheets.specs.Reading.{Within};
 // Where the line that starts at `at` ends: its LF, or the text's end.
 pub fn end_of(t: &[u8], at: usize) -> usize
     requires { ⌜ at ≤ length (now t) ⌝ }
-    ensures { λ r. ⌜ r ≡ at + run 10 (drop at (now (t .entry))) ⌝ }
+    ensures { λ r. ⌜ r ≡ at + run newline (drop at (now (t .entry))) ⌝ }
     ensures { λ r. ⌜ (at ≤ r) × (r ≤ length (now (t .entry))) ⌝ }
 {
     sheets_numbers::find(t, b'\n', at, t.len())

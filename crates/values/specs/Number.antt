@@ -5,6 +5,8 @@ use mathlib.Core.List.{List, [], _∷_, _++_}
 use Prim.Native.Nat.{ℕ, zero, suc, _+_, _-_, _*_, _/_, _%_, _^_, min}
 use lib.ListN.{length, getD, drop}
 use lib.Dec.{ltb, leb, eqb}
+use Rattle.columns.specs.Format.{mostInteger}
+use Rattle.columns.specs.Letters.{plusSign, minusSign, point, digit0, digit9, letterD, letterE, letterH}
 use Rattle.values.specs.declared.Number.{Number}
 use Rattle.values.specs.declared.Number.the-variants.{Whole, Real, Beyond, Bad}
 use Rattle.values.specs.declared.Token.{Token}
@@ -13,19 +15,19 @@ use Rattle.values.specs.declared.Power.the-variants.{None, Wrong, Of}
 
 -- '+' (43) or '-' (45)
 abbrev pub signLen : ℕ → ℕ
-signLen c = cond (eqb c 43 || eqb c 45) 1 0
+signLen c = cond (eqb c plusSign || eqb c minusSign) 1 0
 
 -- '.' (46)
 abbrev pub pointLen : ℕ → ℕ
-pointLen c = cond (eqb c 46) 1 0
+pointLen c = cond (eqb c point) 1 0
 
 -- '0' to '9'
 abbrev pub isDigit : ℕ → Bool
-isDigit c = leb 48 c && leb c 57
+isDigit c = leb digit0 c && leb c digit9
 
 -- what can go on a number or a string's count: a digit, `+ - . D E H`. No delimiter is one of them
 abbrev pub joins : ℕ → Bool
-joins c = isDigit c || (eqb c 43 || (eqb c 45 || (eqb c 46 || (eqb c 68 || (eqb c 69 || eqb c 72)))))
+joins c = isDigit c || (eqb c plusSign || (eqb c minusSign || (eqb c point || (eqb c letterD || (eqb c letterE || eqb c letterH)))))
 
 -- the digits that a text begins with
 abbrev pub digits : List ℕ → List ℕ
@@ -35,7 +37,7 @@ digits (c ∷ cs) = cond (isDigit c) (c ∷ digits cs) []
 -- the number that v, followed by these digits, spells
 abbrev pub value : ℕ → List ℕ → ℕ
 value v [] = v
-value v (c ∷ cs) = value (v * 10 + (c - 48)) cs
+value v (c ∷ cs) = value (v * 10 + (c - digit0)) cs
 
 -- how often ten divides v, up to n times
 abbrev pub tens : ℕ → ℕ → ℕ
@@ -51,11 +53,11 @@ unfoldable pub power : List ℕ → ℕ → Bool → Power
 power t i double =
     let k = signLen (getD t i 0) in
     let ds = digits (drop (i + k) t) in
-    powerOf (eqb (getD t i 0) 45) (length ds) (value 0 ds) double (i + k) (i + k + length ds)
+    powerOf (eqb (getD t i 0) minusSign) (length ds) (value 0 ds) double (i + k) (i + k + length ds)
 
 -- the exponent at i, if its letter is there: E (69), or D (68), which makes it double
 unfoldable pub powerAt : List ℕ → ℕ → Power
-powerAt t i = cond (eqb (getD t i 0) 69) (power t (i + 1) false) (cond (eqb (getD t i 0) 68) (power t (i + 1) true) None)
+powerAt t i = cond (eqb (getD t i 0) letterE) (power t (i + 1) false) (cond (eqb (getD t i 0) letterD) (power t (i + 1) true) None)
 
 -- a number, and how many characters spell it
 abbrev pub token : Number → ℕ → Token
@@ -63,7 +65,7 @@ token x len = record { number = x; len = len }
 
 -- an integer: its size is at most 2,147,483,647; 0 has no sign
 abbrev pub wholeOf : Bool → ℕ → ℕ → Token
-wholeOf neg v len = token (cond (leb v 2147483647) (Whole (cond (eqb v 0) false neg) v) Beyond) len
+wholeOf neg v len = token (cond (leb v mostInteger) (Whole (cond (eqb v 0) false neg) v) Beyond) len
 
 -- m times ten to up less down: m has at most 17 digits, the exponent lies in -400..400; zero has e = 0 and no sign
 abbrev pub normal : Bool → ℕ → ℕ → ℕ → Bool → ℕ → Token
@@ -94,4 +96,4 @@ numberOf t =
     let p = pointLen (getD t (a + length before) 0) in
     let behind = digits (drop (a + length before + p) t) in
     let end = a + (length before + length behind) + p in
-    finish (powerAt t end) (eqb (getD t 0 0) 45) (value 0 (before ++ behind)) (length before + length behind) (length behind) p end
+    finish (powerAt t end) (eqb (getD t 0 0) minusSign) (value 0 (before ++ behind)) (length before + length behind) (length behind) p end

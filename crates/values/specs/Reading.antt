@@ -3,6 +3,7 @@ use mathlib.Core.Bool.{Bool, false, cond}
 use mathlib.Core.List.{List, [], _∷_}
 use Prim.Native.Nat.{ℕ, _+_, _-_, _*_, _^_, _≤_, min}
 use lib.Dec.{eqb}
+use Rattle.columns.specs.Letters.{digit0}
 use Rattle.values.specs.declared.Token.{Token}
 use Rattle.values.specs.declared.Number.the-variants.{Bad}
 use Rattle.values.specs.declared.Run.{Run}
@@ -19,9 +20,9 @@ start = record { value = 0; mant = 0; zeros = 0; count = 0 }
 -- one more digit, c
 abbrev pub more : Run → ℕ → Run
 more r c = record {
-  value = r .value * 10 + (c - 48);
-  mant = cond (eqb c 48) (r .mant) (r .value * 10 + (c - 48));
-  zeros = cond (eqb c 48) (r .zeros + 1) 0;
+  value = r .value * 10 + (c - digit0);
+  mant = cond (eqb c digit0) (r .mant) (r .value * 10 + (c - digit0));
+  zeros = cond (eqb c digit0) (r .zeros + 1) 0;
   count = r .count + 1;
 }
 

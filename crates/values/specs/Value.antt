@@ -7,6 +7,8 @@ use lib.ListN.{length, take, drop}
 use lib.Dec.{ltb}
 use Rattle.columns.specs.Columns.{printable}
 use Rattle.columns.specs.Decimal.{dec, minus}
+use Rattle.columns.specs.Format.{mostInteger}
+use Rattle.columns.specs.Letters.{point, letterD, letterE, letterH}
 use Rattle.values.specs.declared.Value.{Value}
 use Rattle.values.specs.declared.Value.the-variants.{Default, Whole, Real, Text}
 
@@ -46,7 +48,7 @@ isMissing v = isDefault (itemOf [] v)
 
 -- D (68) for a double, E (69) for a single
 abbrev pub letter : Bool → ℕ
-letter double = cond double 68 69
+letter double = cond double letterD letterE
 
 -- the letter and e
 abbrev pub tenTo : Bool → ℕ → Bool → List ℕ
@@ -58,13 +60,13 @@ exponent eneg e double = cond (double || ltb 0 e) (tenTo eneg e double) []
 
 -- the count and H (72)
 abbrev pub head : ℕ → List ℕ
-head count = dec count ++ (72 ∷ [])
+head count = dec count ++ (letterH ∷ [])
 
 -- integers and counts in plain decimal; a real is m, point (46), exponent; a string with its count
 unfoldable pub spelled : Item → List ℕ
 spelled default = []
 spelled (whole neg size) = minus neg ++ dec size
-spelled (real neg m eneg e double) = minus neg ++ (dec m ++ (46 ∷ exponent eneg e double))
+spelled (real neg m eneg e double) = minus neg ++ (dec m ++ (point ∷ exponent eneg e double))
 spelled (text bs) = head (length bs) ++ bs
 
 -- ---- its limits
@@ -78,7 +80,7 @@ pub data Normal : Bool → ℕ → Bool → ℕ → Type 0 where
 -- the values that a record can hold
 pub data Fine : Item → Type 0 where
   fine-default : Fine default
-  fine-whole : (neg : Bool) (size : ℕ) → size ≤ 2147483647 → (size ≡ 0 → neg ≡ false) → Fine (whole neg size)
+  fine-whole : (neg : Bool) (size : ℕ) → size ≤ mostInteger → (size ≡ 0 → neg ≡ false) → Fine (whole neg size)
   fine-real : {neg : Bool} {m : ℕ} {eneg : Bool} {e : ℕ} → Normal neg m eneg e → (double : Bool) → Fine (real neg m eneg e double)
   fine-text : (bs : List ℕ) → 1 ≤ length bs → length bs ≤ 999 → Fine (text bs)
 

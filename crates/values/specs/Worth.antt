@@ -6,6 +6,7 @@ use mathlib.Core.List.{List, _++_}
 use Prim.Native.Nat.{ℕ, _+_, _*_, _^_}
 use lib.ListN.{length, getD, drop}
 use lib.Dec.{eqb}
+use Rattle.columns.specs.Letters.{minusSign}
 use Rattle.values.specs.declared.Number.{Number}
 use Rattle.values.specs.declared.Number.the-variants.{Whole, Real, Beyond, Bad}
 use Rattle.values.specs.declared.Power.{Power}
@@ -16,7 +17,7 @@ use Rattle.values.specs.Number.{digits, value, signLen, pointLen, powerA
 
 -- a minus (45) stands first
 abbrev pub minusIn : List ℕ → Bool
-minusIn t = eqb (getD t 0 0) 45
+minusIn t = eqb (getD t 0 0) minusSign
 
 -- the digits before the point, and those behind it
 abbrev pub before : List ℕ → List ℕ

@@ -4,6 +4,7 @@ use values::Run;
 ghost use mathlib.Core.Path.{_≡_};
 ghost use Prim.Native.Nat.{_+_, _-_, _*_, _^_, _≤_, _<_, min};
 ghost use lib.ListN.{length, drop};
+ghost use Rattle.columns.specs.Letters.{digit0, digit9};
 ghost use Rattle.values.specs.Reading.{more, scan, capRun, Small};
 
 // Numbers past seventeen digits are all alike.
@@ -19,7 +20,7 @@ fn cap(x: u64) -> u64
 
 // The run r with one more digit, c, by which its digits spell v.
 fn run_of(r: Run, c: u8, v: u64) -> Run
-    requires { ⌜ (r .count + 1 < 2 ^ 64) × (Small r × (v ≡ min (r .value * 10 + (c - 48)) (10 ^ 17))) ⌝ }
+    requires { ⌜ (r .count + 1 < 2 ^ 64) × (Small r × (v ≡ min (r .value * 10 + (c - digit0)) (10 ^ 17))) ⌝ }
     ensures { λ q. ⌜ q ≡ capRun (more r c) ⌝ }
 {
     if c == b'0' {
@@ -41,7 +42,7 @@ fn run_of(r: Run, c: u8, v: u64) -> Run
 
 // One more digit.
 fn more_of(r: Run, c: u8) -> Run
-    requires { ⌜ (48 ≤ c) × ((c ≤ 57) × ((r .count + 1 < 2 ^ 64) × Small r)) ⌝ }
+    requires { ⌜ (digit0 ≤ c) × ((c ≤ digit9) × ((r .count + 1 < 2 ^ 64) × Small r)) ⌝ }
     ensures { λ q. ⌜ q ≡ capRun (more r c) ⌝ }
 {
     run_of(r, c, cap(r.value * 10 + (byte_u64(c) - 48)))
@@ -49,7 +50,7 @@ fn more_of(r: Run, c: u8) -> Run
 
 // One more digit, where there is no need of the cap.
 fn few_of(r: Run, c: u8) -> Run
-    requires { ⌜ (48 ≤ c) × ((c ≤ 57) × ((r .count + 1 < 2 ^ 64) × (Small r × (r .value < 10 ^ 16)))) ⌝ }
+    requires { ⌜ (digit0 ≤ c) × ((c ≤ digit9) × ((r .count + 1 < 2 ^ 64) × (Small r × (r .value < 10 ^ 16)))) ⌝ }
     ensures { λ q. ⌜ q ≡ capRun (more r c) ⌝ }
 {
     run_of(r, c, r.value * 10 + (byte_u64(c) - 48))

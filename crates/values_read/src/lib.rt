@@ -12,6 +12,7 @@ ghost use mathlib.Core.Bool.{true, false, _&&_};
 ghost use Prim.Native.Nat.{_+_, _-_, _^_, _≤_, _<_};
 ghost use lib.ListN.{length, drop};
 ghost use lib.Dec.{leb, eqb};
+ghost use Rattle.columns.specs.Letters.{letterH};
 ghost use Rattle.values.specs.Number.{signLen, pointLen, powerOf, power, powerAt, numberOf};
 ghost use Rattle.values.specs.Reading.{start, scan, capRun, Small, Within};
 ghost use Rattle.values.specs.Head.{headOf};
@@ -147,7 +148,7 @@ pub fn read(t: &[u8]) -> Token
 
 // Whether n digits that spell v, and x behind them, are a string's count.
 fn is_count(x: u8, n: usize, v: u64) -> bool
-    ensures { λ r. ⌜ r ≡ (eqb x 72 && (leb n 3 && leb 1 v)) ⌝ }
+    ensures { λ r. ⌜ r ≡ (eqb x letterH && (leb n 3 && leb 1 v)) ⌝ }
 {
     if x != b'H' {
         return false;

@@ -10,6 +10,7 @@ ghost use Prim.Native.Nat.{_+_, _≤_, _<_, min};
 ghost use lib.ListN.{length, drop};
 ghost use lib.Dec.{ltb, eqb};
 ghost use Rattle.columns.specs.Decimal.{minus};
+ghost use Rattle.columns.specs.Letters.{letterD, letterE};
 ghost use Rattle.values.specs.declared.Strict.the-variants.{Is};
 ghost use Rattle.values.specs.Strict.{strictOf, meant};
 ghost use Rattle.values.specs.Writing.{front, Placed};
@@ -169,7 +170,7 @@ fn behind_letter(l: &[u8], neg: bool, m: u64, double: bool, i: usize) -> Strict
 
 // E or D.
 fn is_letter(c: u8) -> bool
-    ensures { λ r. ⌜ r ≡ (eqb c 69 || eqb c 68) ⌝ }
+    ensures { λ r. ⌜ r ≡ (eqb c letterE || eqb c letterD) ⌝ }
 {
     if c == b'E' {
         return true;

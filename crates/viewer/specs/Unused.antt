@@ -1,9 +1,10 @@
 -- The code's form: the slot that is lent. No entry has it, so it is seen where a slot stays.
 use mathlib.Core.Bool.{false}
 use lib.ListN.{replicate}
+use Rattle.columns.specs.Format.{fieldColumns}
 use Rattle.directory.specs.declared.Attribute.the-variants.{Number}
 use Rattle.directory.specs.Fields.{named}
-use Rattle.directory.specs.Lines.{parameterLine, slotColumns}
+use Rattle.directory.specs.Lines.{parameterLine}
 use Rattle.desk.specs.declared.Record.{Record}
 
 -- nines in all its fields, and a label of nines (57)
@@ -25,7 +26,7 @@ nines = record {
     colour = Number 9;
     subscript = 9;
   };
-  label = replicate slotColumns 57;
+  label = replicate fieldColumns 57;
   pointer = parameterLine 9;
   lines = 9;
 }

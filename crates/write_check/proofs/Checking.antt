@@ -10,7 +10,7 @@ use Rattle.columns.specs.declared.Fault.{Fault}
 use Rattle.columns.specs.declared.Fault.the-variants.{ListOrLength, SheetLine as WrongSheet}
 use Rattle.columns.specs.declared.SheetLine.{SheetLine}
 use Rattle.columns.specs.Refusal.{Outcome, accepted, refused, _then_}
-use Rattle.layouts.specs.Known.{mostList}
+use Rattle.columns.specs.Format.{mostList}
 use Rattle.sheets.specs.declared.Verdict.{Verdict}
 use Rattle.sheets.specs.declared.Verdict.the-variants.{Good as GoodSheet, Wrong}
 use Rattle.sheets.specs.Sheet.{Sheet, linesIn, sheetOf}

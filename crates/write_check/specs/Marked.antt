@@ -5,11 +5,12 @@ use mathlib.Core.List.{List}
 use Prim.Native.Nat.{ℕ, _≤_}
 use lib.Dec.{eqb}
 use lib.ListN.{length}
+use Rattle.columns.specs.Letters.{letterE, letterU}
 use Rattle.write_lines.specs.Classes.{tableSize}
 
 -- what a line that begins with this byte adds to the next entry's number: E (69) and U (85) begin an entry
 unfoldable pub addedBy : ℕ → ℕ
-addedBy b = cond (eqb b 69 || eqb b 85) 2 0
+addedBy b = cond (eqb b letterE || eqb b letterU) 2 0
 
 -- a table that tells the same of n entries
 pub record Marked (n : ℕ) (table table′ : List ℕ) : Type 0 where

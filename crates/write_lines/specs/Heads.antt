@@ -6,6 +6,7 @@ use lib.ListN.{getD}
 use lib.Dec.{eqb}
 use Rattle.columns.specs.declared.Fault.the-variants.{Global as GlobalFault}
 use Rattle.columns.specs.Refusal.{demand}
+use Rattle.columns.specs.Letters.{letterE, letterG, letterU}
 use Rattle.values.specs.Value.{Item}
 use Rattle.records.specs.Global.{globalFits}
 use Rattle.directory.specs.Rules.{entryRules, referenceRule}
@@ -19,7 +20,7 @@ use Rattle.write_lines.specs.Lines.{passOf}
 
 -- E (69), U (85) or G (71)
 unfoldable pub isHead : ℕ → Bool
-isHead b = eqb b 69 || (eqb b 85 || eqb b 71)
+isHead b = eqb b letterE || (eqb b letterU || eqb b letterG)
 
 -- what a line says that begins so; another says nothing that is asked
 unfoldable pub headOf : List ℕ → Said

@@ -7,6 +7,7 @@ use lib.ListN.{length, getD}
 use lib.Dec.{eqb}
 use Rattle.columns.specs.declared.Signed.{Signed}
 use Rattle.columns.specs.Columns.{columns}
+use Rattle.columns.specs.Letters.{tab, newline, letterE, letterU}
 use Rattle.sheets.specs.Line.{run}
 use Rattle.sheets.specs.Folds.{entryFold}
 use Rattle.sheets.specs.declared.Verdict.the-variants.{Good}
@@ -16,7 +17,7 @@ use Rattle.write_lines.specs.Classes.{sheetTypes}
 
 -- b begins an entry's line: E (69) or U (85), behind an LF (10)
 unfoldable pub beginsEntry : ℕ → ℕ → Bool
-beginsEntry before b = (eqb b 69 || eqb b 85) && eqb before 10
+beginsEntry before b = (eqb b letterE || eqb b letterU) && eqb before newline
 
 -- such a line begins at a place of a good sheet
 pub record EntryAt (t : List ℕ) (at : ℕ) : Type 0 where
@@ -28,7 +29,7 @@ pub record EntryAt (t : List ℕ) (at : ℕ) : Type 0 where
 
 -- the number of an entry line from `at` on, up to the next tab (9); so many others follow it
 unfoldable pub tabbedNumber : ℕ → List ℕ → ℕ → Signed
-tabbedNumber left t at = entryFold left (columns t at (at + run 9 (columns t at (length t))))
+tabbedNumber left t at = entryFold left (columns t at (at + run tab (columns t at (length t))))
 
 -- if any class was found, it is that of the entry with this number
 pub record Shown (t : List ℕ) (number r : ℕ) : Type 0 where

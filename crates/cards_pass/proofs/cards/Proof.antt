@@ -1,7 +1,8 @@
 -- `cards_pass::cards`: the pass from the counts so far over the lines left is the pass over all lines; the total of the counts is the line reached.
 use mathlib.Core.Path.{_≡_}
 use Prim.Native.Nat.{_+_, _-_, _≤_}
-use Rattle.cards.specs.Cards.{mostLines, linesFrom, linesOf, pass, start, total}
+use Rattle.columns.specs.Format.{mostLines}
+use Rattle.cards.specs.Cards.{linesFrom, linesOf, pass, start, total}
 use borrow.Author.Needs.{needs}
 use Rattle.cards.proofs.Growth.{answer-known}
 use Rattle.cards.proofs.Laws.{files}
