@@ -5,15 +5,12 @@ use columns::DirectoryNumber;
 use columns::Fault;
 use columns::FileLine;
 use columns::ParameterLine;
+use columns::format::LINE_BYTES;
+use columns::format::MOST_LINES;
 use columns::wide;
 ghost use mathlib.Core.Path.{_≡_};
 ghost use Prim.Native.Nat.{_+_, _*_, _^_, _<_, _≤_};
 ghost use Rattle.cards.specs.Cards.{lengthOk, entryLine, parameterLine};
-
-// A line's bytes with its LF, and the most lines that a file may have.
-pub const LINE_BYTES: usize = 81;
-
-pub const MOST_LINES: usize = 200000;
 
 // How many lines of each section there are.
 pub struct Counts {

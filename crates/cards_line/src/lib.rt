@@ -1,9 +1,11 @@
 // One line: its bytes, where it stands, its number.
 use cards::Counts;
-use cards::LINE_BYTES;
 use cards::Placed;
 use cards::Step;
 use columns::Fault;
+use columns::format::LINE_BYTES;
+use columns::format::LINE_COLUMNS;
+use columns::format::TEXT_COLUMNS;
 ghost use mathlib.Core.Path.{_≡_};
 ghost use Prim.Native.Nat.{_+_, _*_, _<_, _≤_};
 ghost use lib.ListN.{length};
@@ -11,12 +13,15 @@ ghost use Rattle.columns.specs.Columns.{columns, lineAt};
 ghost use Rattle.columns.specs.Format.{lineBytes, mostLines};
 ghost use Rattle.cards.specs.Cards.{lineOk, counts, here, placeOf, stepOf, total};
 
+// Where the sequence number starts, behind the section letter.
+const NUMBER: usize = TEXT_COLUMNS + 1;
+
 // Whether the line from `at` on has 80 bytes from 32 to 126, then LF.
 fn line_ok(file: &[u8], at: usize) -> bool
     requires { ⌜ at + lineBytes ≤ length (now file) ⌝ }
     ensures { λ r. ⌜ r ≡ lineOk (columns (now (file .entry)) at (at + lineBytes)) ⌝ }
 {
-    file[at + 80] == b'\n' && columns::look::is_printable(file, at, at + 80)
+    file[at + LINE_COLUMNS] == b'\n' && columns::look::is_printable(file, at, at + LINE_COLUMNS)
 }
 
 // A line that needs the section before it, and nothing of a later section.
@@ -78,10 +83,10 @@ pub fn step_line(file: &[u8], k: usize, left: usize, c: Counts) -> Step
     if !line_ok(file, at) {
         return Step::Wrong(Fault::Byte);
     }
-    let Placed::Here { counts, number } = place(c, left, file[at + 72]) else {
+    let Placed::Here { counts, number } = place(c, left, file[at + TEXT_COLUMNS]) else {
         return Step::Wrong(Fault::Section);
     };
-    if columns_fixed::holds(file, at + 73, at + 80, number) {
+    if columns_fixed::holds(file, at + NUMBER, at + LINE_COLUMNS, number) {
         return Step::Next(counts);
     }
     Step::Wrong(Fault::Sequence)

@@ -3,11 +3,11 @@ mod terminate;
 
 use cards::CardsRead;
 use cards::Counts;
-use cards::LINE_BYTES;
 use cards::Step;
 use cards::length_ok;
 use columns::Fault;
 use columns::FileLine;
+use columns::format::LINE_BYTES;
 ghost use mathlib.Core.Path.{_≡_};
 ghost use Prim.Native.Nat.{_+_, _<_};
 ghost use Rattle.cards.specs.Cards.{cardsOf};

@@ -4,6 +4,7 @@ pub mod answers;
 
 use columns::DirectoryNumber;
 use columns::ParameterLine;
+use columns::format::FIELD_COLUMNS;
 use directory::Entry;
 
 // Accepted: number 0 and the length. Refused: the paper's number and the place; of 16 the length that is needed, else 0.
@@ -19,7 +20,7 @@ pub struct Record {
     pub known: bool,
     pub number: DirectoryNumber,
     pub entry: Entry,
-    pub label: [u8; 8],
+    pub label: [u8; FIELD_COLUMNS],
     pub pointer: ParameterLine,
     pub lines: u32,
 }

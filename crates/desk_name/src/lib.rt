@@ -1,9 +1,9 @@
 // The name that a viewer shows for an entry: its label columns where they stand in the file, or the stand-in where those are blank.
 use cards::Counts;
 use columns::DirectoryNumber;
+use columns::format::FIELD_COLUMNS;
 use columns::look;
 use columns::wide;
-use directory::SLOT_COLUMNS;
 use read_weights::Checked;
 ghost use mathlib.Core.Path.{_≡_};
 ghost use Prim.Native.Nat.{_<_};
@@ -36,7 +36,7 @@ fn in_directory(file: &[u8], c: Counts, number: DirectoryNumber) -> Found
     }
     let k = cards::entry_line(c, i);
     let at = directory_read::label_at(k);
-    if look::is_blank(file, at, at + SLOT_COLUMNS) {
+    if look::is_blank(file, at, at + FIELD_COLUMNS) {
         return Found::Blank;
     }
     Found::Label(at)
@@ -77,6 +77,6 @@ pub fn name<'f, 's: 'f>(
             shorter(file, none)
         }
         Found::Blank => shorter(file, stand_in),
-        Found::Label(at) => &file[at..at + SLOT_COLUMNS],
+        Found::Label(at) => &file[at..at + FIELD_COLUMNS],
     }
 }

@@ -1,4 +1,5 @@
 // What igsheet prints of a file: its sheet, or the line that says why there is none.
+use columns::format::MOST_LIST;
 ghost use mathlib.Core.Path.{_≡_};
 ghost use mathlib.Core.List.{[], _∷_, _++_};
 ghost use Prim.Native.Nat.{_+_, _^_, _≤_, _<_};
@@ -7,9 +8,6 @@ ghost use Rattle.columns.specs.Decimal.{dec};
 ghost use Rattle.columns.specs.Laid.{Wrote};
 ghost use Rattle.desk.specs.Answers.{igsheet, mostOutput};
 ghost use Rattle.desk_show.specs.Refusal.{refusalLine};
-
-// The list of all types.
-const LIST: u64 = 16383;
 
 // 808 lines.
 const MOST_INPUT: usize = 65448;
@@ -45,7 +43,7 @@ pub fn show(file: &[u8], out: &mut [u8]) -> usize
     if MOST_INPUT < file.len() {
         return put_refusal(out, 1, 0);
     }
-    let told = read_file::read(LIST, file, out);
+    let told = read_file::read(MOST_LIST, file, out);
     let number = told.number;
     let place = told.place;
     let length = told.length as usize;

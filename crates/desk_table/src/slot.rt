@@ -2,6 +2,7 @@
 use columns::DirectoryNumber;
 use columns::ParameterLine;
 use columns::Signed;
+use columns::format::FIELD_COLUMNS;
 use desk::Record;
 use directory::EntryRead;
 use directory::Fields;
@@ -14,7 +15,7 @@ ghost use Rattle.directory.specs.Fields.{fieldsOf};
 ghost use Rattle.desk_table.specs.Tables.{recordSpelt, recordAt};
 
 // The eight bytes from a place on.
-fn eight(file: &[u8], at: usize) -> [u8; 8]
+fn eight(file: &[u8], at: usize) -> [u8; FIELD_COLUMNS]
     requires { ⌜ at + fieldColumns ≤ length (now file) ⌝ }
     ensures { λ r. ⌜ r ≡ take fieldColumns (drop at (now (file .entry))) ⌝ }
 {
@@ -59,7 +60,7 @@ fn record_with(
     list: u64,
     number: DirectoryNumber,
     fields: Fields,
-    label: [u8; 8],
+    label: [u8; FIELD_COLUMNS],
     pointer: ParameterLine,
     lines: u32,
 ) -> Record

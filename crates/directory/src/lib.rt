@@ -10,9 +10,6 @@ use columns::Fault;
 use columns::ParameterLine;
 use columns::Signed;
 
-// Columns of a slot on a D line.
-pub const SLOT_COLUMNS: usize = 8;
-
 // The numbers of an entry as they are spelt, in a file or in a sheet; `entity` is its type, `display` its label display.
 pub struct Fields {
     pub entity: Signed,

@@ -1,7 +1,8 @@
 // The eighteen slots of an entry's two D lines, from 0, nine to a line: said once, for its numbers and for its parameter pointer and
 // line count.
-use crate::SLOT_COLUMNS;
 use crate::order::NUMBERS;
+use columns::format::FIELD_COLUMNS;
+use columns::format::LINE_BYTES;
 ghost use mathlib.Core.Path.{_≡_};
 ghost use Prim.Native.Nat.{_+_, _*_, _^_, _<_};
 ghost use Rattle.columns.specs.Format.{lineBytes};
@@ -56,9 +57,6 @@ const PLACES: [usize; NUMBERS] = [
     SUBSCRIPT,
 ];
 
-// Bytes of a line, its LF with it, and slots of a line.
-const LINE_BYTES: usize = 81;
-
 const SLOTS_A_LINE: usize = 9;
 
 // The slot of number n.
@@ -75,5 +73,5 @@ pub fn start_of(k: usize, j: usize) -> usize
     requires { ⌜ (lineBytes * k + 2 * lineBytes < 2 ^ 64) × (j < 18) ⌝ }
     ensures { λ r. ⌜ r ≡ startOf k j ⌝ }
 {
-    LINE_BYTES * (k + j / SLOTS_A_LINE) + SLOT_COLUMNS * (j % SLOTS_A_LINE)
+    LINE_BYTES * (k + j / SLOTS_A_LINE) + FIELD_COLUMNS * (j % SLOTS_A_LINE)
 }

@@ -1,8 +1,9 @@
 // The two D lines of an entry, laid over a lent buffer: columns 1 to 72 of each.
 use columns::ParameterLine;
 use columns::Signed;
+use columns::format::FIELD_COLUMNS;
+use columns::format::RESERVED_COLUMNS;
 use directory::Fields;
-use directory::SLOT_COLUMNS;
 ghost use Prim.Native.Nat.{_+_, _^_, _≤_, _<_};
 ghost use lib.ListN.{length};
 ghost use Rattle.columns.specs.Decimal.{signedDec, padded};
@@ -10,16 +11,13 @@ ghost use Rattle.columns.specs.Laid.{Wrote};
 ghost use Rattle.columns.specs.Format.{fieldColumns};
 ghost use Rattle.directory.specs.Reading.{three, firstLine, secondLine};
 
-// The two reserved fields.
-const RESERVED: usize = 16;
-
 // Writes a number.
 fn put_number(out: &mut [u8], at: usize, x: Signed) -> usize
     requires { ⌜ at < 2 ^ 60 ⌝ }
     ensures { λ r. ⌜ Wrote (now (out .entry)) at (padded fieldColumns (signedDec x)) (now (out .exit)) r ⌝ }
     ensures { λ r. ⌜ r ≤ at + 19 ⌝ }
 {
-    columns_decimals::put_signed_right(out, at, SLOT_COLUMNS, x)
+    columns_decimals::put_signed_right(out, at, FIELD_COLUMNS, x)
 }
 
 // Writes three numbers.
@@ -41,10 +39,10 @@ pub fn put_first(out: &mut [u8], at: usize, x: Fields, from: ParameterLine) -> u
 {
     let status = x.status;
     let a = put_number(out, at, x.entity);
-    let b = columns_decimals::put_right(out, a, b' ', SLOT_COLUMNS, from.0 as u64);
+    let b = columns_decimals::put_right(out, a, b' ', FIELD_COLUMNS, from.0 as u64);
     let c = put_three(out, b, x.structure, x.font, x.level);
     let d = put_three(out, c, x.view, x.matrix, x.display);
-    columns_decimals::put_right(out, d, b'0', SLOT_COLUMNS, status.size as u64)
+    columns_decimals::put_right(out, d, b'0', FIELD_COLUMNS, status.size as u64)
 }
 
 // Writes its second D line; `count` is its parameter line count.
@@ -54,9 +52,9 @@ pub fn put_second(out: &mut [u8], at: usize, x: Fields, count: u32, label: &[u8]
     ensures { λ r. ⌜ r ≤ at + 252 ⌝ }
 {
     let a = put_three(out, at, x.entity, x.weight, x.colour);
-    let b = columns_decimals::put_right(out, a, b' ', SLOT_COLUMNS, count as u64);
+    let b = columns_decimals::put_right(out, a, b' ', FIELD_COLUMNS, count as u64);
     let c = put_number(out, b, x.form);
-    let d = columns_emit::put_run(out, c, b' ', RESERVED);
+    let d = columns_emit::put_run(out, c, b' ', RESERVED_COLUMNS);
     let e = columns_emit::put_all(out, d, label);
     put_number(out, e, x.subscript)
 }

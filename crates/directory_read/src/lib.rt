@@ -4,9 +4,9 @@ use columns::Field;
 use columns::ParameterLine;
 use columns::Signed;
 use columns::SignedField;
+use columns::format::FIELD_COLUMNS;
 use directory::EntryRead;
 use directory::Fields;
-use directory::SLOT_COLUMNS;
 use directory::lines;
 use directory::order;
 ghost use mathlib.Core.Bool.{false};
@@ -28,7 +28,7 @@ fn signed_at(file: &[u8], at: usize) -> SignedField
     ensures { λ r. ⌜ r ≡ signedOf (columns (now (file .entry)) at (at + fieldColumns)) ⌝ }
     ensures { λ r. ⌜ SizeBelow 100000000 r ⌝ }
 {
-    columns_fixed::read_signed(file, at, at + SLOT_COLUMNS)
+    columns_fixed::read_signed(file, at, at + FIELD_COLUMNS)
 }
 
 // What slot j holds, a sign allowed.
@@ -60,7 +60,7 @@ fn plain_in(file: &[u8], k: usize, j: usize) -> SignedField
     ensures { λ r. ⌜ r ≡ withSign false (fieldOf (slotAt (now (file .entry)) k j)) ⌝ }
 {
     let at = lines::start_of(k, j);
-    plain(columns_fixed::read_field(file, at, at + SLOT_COLUMNS))
+    plain(columns_fixed::read_field(file, at, at + FIELD_COLUMNS))
 }
 
 // Whether number n has no sign: status and subscript.

@@ -7,6 +7,9 @@ use crate::TERMINATE;
 use cards::Counts;
 use columns::DirectoryNumber;
 use columns::ParameterLine;
+use columns::format::FIELD_COLUMNS;
+use columns::format::NUMBER_COLUMNS;
+use columns::format::TEXT_COLUMNS;
 use columns::wide;
 use directory::Fields;
 ghost use mathlib.Core.Path.{_≡_};
@@ -22,13 +25,8 @@ ghost use Rattle.directory.specs.Lines.{entryLines};
 ghost use Rattle.cards.specs.Written.{zeros, lineOf, section, totalsOf};
 ghost use Rattle.file_blocks.specs.Blocks.{tailOf};
 
-// The columns of a line's text, and those of its number.
-const TEXT: usize = 72;
-
-const DIGITS: usize = 7;
-
 // The blank columns of the T line.
-const REST: usize = 40;
+const REST: usize = TEXT_COLUMNS - 4 * FIELD_COLUMNS;
 
 // A section's letter and a number in seven columns with leading zeros.
 fn put_count(out: &mut [u8], at: usize, letter: u8, n: usize) -> usize
@@ -37,7 +35,7 @@ fn put_count(out: &mut [u8], at: usize, letter: u8, n: usize) -> usize
     ensures { λ r. ⌜ r ≡ at + 8 ⌝ }
 {
     let a = columns_emit::put(out, at, letter);
-    columns_decimals::put_right(out, a, b'0', DIGITS, n as u64)
+    columns_decimals::put_right(out, a, b'0', NUMBER_COLUMNS, n as u64)
 }
 
 // The columns 73 to 80 and LF: a line's letter and its number in its section.
@@ -56,7 +54,7 @@ pub fn put_start_line(out: &mut [u8], at: usize, text: &[u8], n: usize) -> usize
     ensures { λ r. ⌜ Wrote (now (out .entry)) at (lineOf (toLeft textColumns (now (text .entry))) letterS n) (now (out .exit)) r ⌝ }
     ensures { λ r. ⌜ r ≡ at + lineBytes ⌝ }
 {
-    let a = columns_decimals::put_left(out, at, TEXT, text);
+    let a = columns_decimals::put_left(out, at, TEXT_COLUMNS, text);
     put_tail(out, a, START, n)
 }
 

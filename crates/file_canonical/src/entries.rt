@@ -1,7 +1,8 @@
 // The D and P lines, entry by entry: D lines in their section, P lines in theirs.
 use crate::Place;
-use cards::LINE_BYTES;
 use columns::ParameterLine;
+use columns::format::FIELD_COLUMNS;
+use columns::format::LINE_BYTES;
 use directory::Fields;
 use file_blocks::lines::put_entry_lines;
 use file_parameters::put_block;
@@ -13,9 +14,6 @@ ghost use Prim.Native.Nat.{_<_};
 ghost use lib.ListN.{length};
 ghost use Rattle.file_canonical.specs.Laying.{entriesAt, bothLaid, Turn, Turned, EntryHasRoom, EntryLaid};
 
-// The columns of a label.
-const LABEL: usize = 8;
-
 // Lays the lines of entry k, whose line ends at `end` and has these numbers: the values behind it tell how many P lines it has.
 fn put_entry(out: &mut [u8], t: &[u8], x: Place, k: usize, end: usize, fields: Fields) -> Place
     requires { ⌜ EntryHasRoom (now t) x k end (fields .entity .size) ⌝ }
@@ -26,7 +24,7 @@ fn put_entry(out: &mut [u8], t: &[u8], x: Place, k: usize, end: usize, fields: F
     let from = x.from;
     let b = put_block(out, x.p, t, end + 1, entity.size, number, from);
     let lines = b.lines as u32;
-    let label = end - LABEL;
+    let label = end - FIELD_COLUMNS;
     let d = put_entry_lines(out, x.d, fields, from, lines, &t[label..end], number);
     Place {
         at: b.next,

@@ -1,5 +1,6 @@
 // The G lines, from those of a sheet.
-use cards::LINE_BYTES;
+use columns::format::LINE_BYTES;
+use columns::format::TEXT_COLUMNS;
 use file_blocks::Block;
 use file_blocks::Flowed;
 use file_blocks::GLOBAL;
@@ -24,9 +25,6 @@ ghost use Rattle.model.specs.Canonical.{filled, globalText};
 ghost use Rattle.sheets_rows.specs.Rows.{linesAt};
 ghost use Rattle.file_blocks.specs.Blocks.{fieldsAt, behindGlobals, globalBytes};
 ghost use Rattle.file_blocks.specs.Writing.{parted, tailed, FieldAt};
-
-// The columns of a G line that hold values.
-const COLUMNS: usize = 72;
 
 const COMMA: u8 = b',';
 
@@ -84,8 +82,8 @@ fn put_field(
     ensures { λ r. ⌜ Put base textColumns (now (out .entry)) p
         (parted textColumns p (filled n ((number, itemOf (now (src .entry)) v) ∷ []))) (now (out .exit)) r ⌝ }
 {
-    let a = records_flow::put_run(out, base, COLUMNS, p, COMMA, missing(n, number));
-    records_flow::put_piece(out, base, COLUMNS, a, src, v, false)
+    let a = records_flow::put_run(out, base, TEXT_COLUMNS, p, COMMA, missing(n, number));
+    records_flow::put_piece(out, base, TEXT_COLUMNS, a, src, v, false)
 }
 
 // The fields of the G lines from `at` on, the first of them number 3, from position p of the record on.
@@ -145,10 +143,10 @@ pub fn put_globals(out: &mut [u8], base: usize, t: &[u8], at: usize) -> Block
     ensures { λ r. ⌜ linesAt (now (t .entry)) (r .next) ≡ behindGlobals (linesAt (now (t .entry)) at) ⌝ }
     ensures { λ r. ⌜ (at ≤ r .next) × (r .next ≤ length (now (t .entry))) ⌝ }
 {
-    let p = records_flow::put_all(out, base, COLUMNS, 0, b"1H,,1H;,");
+    let p = records_flow::put_all(out, base, TEXT_COLUMNS, 0, b"1H,,1H;,");
     let f = put_fields(out, base, t, at, p);
-    let lines = text::close(out, base, COLUMNS, f.end);
-    put_tails(out, base + COLUMNS, lines);
+    let lines = text::close(out, base, TEXT_COLUMNS, f.end);
+    put_tails(out, base + TEXT_COLUMNS, lines);
     Block {
         next: f.next,
         lines,

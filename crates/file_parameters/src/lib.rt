@@ -1,7 +1,9 @@
 // The P lines of an entity, from the value lines of a sheet.
-use cards::LINE_BYTES;
 use columns::DirectoryNumber;
 use columns::ParameterLine;
+use columns::format::LINE_BYTES;
+use columns::format::NUMBER_COLUMNS;
+use columns::format::PARAMETER_COLUMNS;
 use file_blocks::Block;
 use file_blocks::Flowed;
 use file_blocks::PARAMETER;
@@ -27,11 +29,6 @@ ghost use Rattle.sheets_rows.specs.Rows.{linesAt};
 ghost use Rattle.file_blocks.specs.Blocks.{behindValues, Unbroken, itemsAt, recordText, blockLines, tailOf};
 ghost use Rattle.file_blocks.specs.Writing.{parted, ownerOf, tailed};
 
-// The columns of a P line that hold values, and those of its directory number.
-const COLUMNS: usize = 64;
-
-const NUMBER: usize = 7;
-
 const COMMA: u8 = b',';
 
 // Writes the value that l spells at position p with ',' behind it: its spelling is its canonical form.
@@ -41,10 +38,10 @@ fn put_spelled(out: &mut [u8], base: usize, p: usize, l: &[u8]) -> usize
         (piece parameterColumns p (itemOf (now (l .entry)) (meant (now (l .entry)))) false) (now (out .exit)) r ⌝ }
 {
     let n = values_strict::front_of(l);
-    let g = records_flow::gap_of(COLUMNS, p, n + 1);
-    let q = records_flow::put_run(out, base, COLUMNS, p, b' ', g);
-    let e = records_flow::put_all(out, base, COLUMNS, q, l);
-    records_flow::put_char(out, base, COLUMNS, e, COMMA)
+    let g = records_flow::gap_of(PARAMETER_COLUMNS, p, n + 1);
+    let q = records_flow::put_run(out, base, PARAMETER_COLUMNS, p, b' ', g);
+    let e = records_flow::put_all(out, base, PARAMETER_COLUMNS, q, l);
+    records_flow::put_char(out, base, PARAMETER_COLUMNS, e, COMMA)
 }
 
 // The values of the value lines from `at` on, from position p of the record on. The sheet is good: what begins as a value line is one, and
@@ -78,7 +75,7 @@ fn put_owned(out: &mut [u8], at: usize, number: DirectoryNumber, n: ParameterLin
     ensures { λ r. ⌜ r ≡ at + 17 ⌝ }
 {
     let a = columns_emit::put(out, at, b' ');
-    let b = columns_decimals::put_right(out, a, b' ', NUMBER, number.0 as u64);
+    let b = columns_decimals::put_right(out, a, b' ', NUMBER_COLUMNS, number.0 as u64);
     lines::put_tail(out, b, PARAMETER, n.0 as usize)
 }
 
@@ -123,10 +120,10 @@ pub fn put_block(
         neg: false,
         size: typ,
     };
-    let p = records_flow::put_piece(out, base, COLUMNS, 0, b"", v, false);
+    let p = records_flow::put_piece(out, base, PARAMETER_COLUMNS, 0, b"", v, false);
     let f = put_values(out, base, t, at, p);
-    let lines = text::close(out, base, COLUMNS, f.end);
-    put_tails(out, base + COLUMNS, number, from, lines);
+    let lines = text::close(out, base, PARAMETER_COLUMNS, f.end);
+    put_tails(out, base + PARAMETER_COLUMNS, number, from, lines);
     Block {
         next: f.next,
         lines,

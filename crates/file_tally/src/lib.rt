@@ -1,6 +1,8 @@
 // How many lines the canonical file of a sheet has, line by line, for a walk over the sheet. Nothing is counted further than a file goes.
 use cards::Counts;
-use cards::MOST_LINES;
+use columns::format::MOST_LINES;
+use columns::format::PARAMETER_COLUMNS;
+use columns::format::TEXT_COLUMNS;
 use file_canonical::Lines;
 use file_canonical::Tally;
 use records_flow::line_count;
@@ -21,13 +23,8 @@ ghost use Rattle.records.specs.Written.{copied, pieceEnd};
 ghost use Rattle.file_canonical.specs.Counting.{skipped, withStart, withGlobal, withEntry, withValue};
 ghost use Rattle.file_canonical.specs.Counting.{tallySaid, countsIn, totalIn, within, behindValue, capped, Under, Few, Short};
 
-// The columns of a G line and of a P line that hold values.
-const GLOBAL_COLUMNS: usize = 72;
-
-const COLUMNS: usize = 64;
-
 // Those of the P lines that a file may have.
-const MOST_COLUMNS: usize = MOST_LINES * COLUMNS;
+const MOST_COLUMNS: usize = MOST_LINES * PARAMETER_COLUMNS;
 
 // How many fields are default between two that are given.
 fn skipped(field: u32, n: u32) -> usize
@@ -62,7 +59,7 @@ fn with_global(x: Tally, n: u32, v: Value) -> Tally
     ensures { λ r. ⌜ Under (2 ^ 38) r ⌝ }
 {
     let k = skipped(x.field, n);
-    let e = piece_end(GLOBAL_COLUMNS, x.global + k, v);
+    let e = piece_end(TEXT_COLUMNS, x.global + k, v);
     Tally {
         s: x.s,
         global: e,
@@ -79,12 +76,12 @@ fn with_entry(x: Tally, typ: u32) -> Tally
     ensures { λ r. ⌜ r ≡ withEntry x (lineCount parameterColumns (x .at)) (pieceEnd parameterColumns 0 (Whole false typ)) ⌝ }
     ensures { λ r. ⌜ Under (2 ^ 38) r ⌝ }
 {
-    let k = line_count(COLUMNS, x.at);
+    let k = line_count(PARAMETER_COLUMNS, x.at);
     let v = Value::Whole {
         neg: false,
         size: typ,
     };
-    let e = piece_end(COLUMNS, 0, v);
+    let e = piece_end(PARAMETER_COLUMNS, 0, v);
     Tally {
         s: x.s,
         global: x.global,
@@ -101,7 +98,7 @@ fn with_value(x: Tally, v: Value) -> Tally
     ensures { λ r. ⌜ r ≡ withValue x (pieceEnd parameterColumns (x .at) v) ⌝ }
     ensures { λ r. ⌜ Under (2 ^ 38) r ⌝ }
 {
-    let e = piece_end(COLUMNS, x.at, v);
+    let e = piece_end(PARAMETER_COLUMNS, x.at, v);
     Tally {
         s: x.s,
         global: x.global,
@@ -140,15 +137,15 @@ pub fn behind_value(p: usize, l: &[u8], v: Value) -> usize
     if MOST_COLUMNS < p {
         return p;
     }
-    spelled_end(COLUMNS, p, l.len(), v)
+    spelled_end(PARAMETER_COLUMNS, p, l.len(), v)
 }
 
 fn total_of(x: Tally) -> usize
     requires { ⌜ Under (2 ^ 38) x ⌝ }
     ensures { λ r. ⌜ r ≡ totalIn x ⌝ }
 {
-    let g = line_count(GLOBAL_COLUMNS, x.global);
-    let p = line_count(COLUMNS, x.at);
+    let g = line_count(TEXT_COLUMNS, x.global);
+    let p = line_count(PARAMETER_COLUMNS, x.at);
     x.s + g + x.d + (x.p + p) + 1
 }
 
@@ -185,8 +182,8 @@ fn counts_in(x: Tally) -> Counts
     requires { ⌜ Under (2 ^ 36) x × Few x ⌝ }
     ensures { λ r. ⌜ r ≡ countsIn x ⌝ }
 {
-    let g = line_count(GLOBAL_COLUMNS, x.global);
-    let p = line_count(COLUMNS, x.at);
+    let g = line_count(TEXT_COLUMNS, x.global);
+    let p = line_count(PARAMETER_COLUMNS, x.at);
     Counts {
         s: x.s as u32,
         g: g as u32,

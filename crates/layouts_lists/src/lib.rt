@@ -1,4 +1,5 @@
 // What a type list knows.
+use columns::format::MOST_LIST;
 ghost use mathlib.Core.Path.{_≡_};
 ghost use lib.Dec.{leb};
 ghost use Rattle.columns.specs.Format.{mostList};
@@ -7,8 +8,6 @@ ghost use Rattle.layouts.specs.Known.{known};
 
 // How many rows the table of types has: a bit for each.
 pub const ROWS: usize = 14;
-
-const MOST_LIST: u64 = 16383;
 
 // The bit for a type and form; as many as there are bits where there is none.
 pub fn bit_of(typ: u32, form: u32) -> usize

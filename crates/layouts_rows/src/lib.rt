@@ -6,6 +6,7 @@ ghost use Rattle.layouts.specs.Layout.{_of_};
 ghost use Rattle.layouts.specs.Table.{placeAt};
 ghost use Rattle.layouts.specs.Coded.{shapeOf, letterAt};
 ghost use Rattle.layouts.specs.Machine.{rests};
+use columns::format::MOST_INTEGER;
 use layouts::Kind;
 use layouts::Place;
 use layouts::Then;
@@ -42,7 +43,7 @@ fn shape(k: u8) -> Place
         b'd' => of(
             Kind::I {
                 low: 0,
-                high: 2147483647,
+                high: MOST_INTEGER,
             },
             Times::Fixed(1),
         ),

@@ -4,6 +4,7 @@ ghost use mathlib.Core.Bool.{true, _||_, _&&_};
 ghost use Prim.Native.Nat.{_^_, _<_};
 ghost use lib.Dec.{eqb};
 ghost use Rattle.layouts.specs.Machine.{need, withK1, withK2, withM1, withM2, withBad, refer, takes};
+use columns::format::MOST_INTEGER;
 use layouts::Kind;
 use layouts::State;
 use layouts::Stepped;
@@ -14,9 +15,6 @@ use layouts_rows::told::text_in;
 use layouts_rows::told::within_in;
 use values::Value;
 use values::is_missing;
-
-// The largest integer, and the largest K.
-const MOST_INTEGER: u32 = 2147483647;
 
 const MOST_UPPER: u32 = 10000;
 

@@ -1,11 +1,13 @@
 // Names, pointers and line counts, where they stand in a file. A line is told by its index, as `cards` counts them.
 use cards::Counts;
-use cards::LINE_BYTES;
 use columns::DirectoryNumber;
 use columns::Field;
 use columns::ParameterLine;
 use columns::SignedField;
-use directory::SLOT_COLUMNS;
+use columns::format::FIELD_COLUMNS;
+use columns::format::LINE_BYTES;
+use columns::format::PARAMETER_COLUMNS;
+use columns::format::TEXT_COLUMNS;
 use directory::lines;
 ghost use mathlib.Core.Path.{_≡_};
 ghost use Prim.Native.Nat.{_+_, _*_, _<_, _≤_};
@@ -17,6 +19,9 @@ ghost use Rattle.cards.specs.Cards.{entries};
 ghost use Rattle.cards.specs.Rules.{Holds};
 ghost use Rattle.directory.specs.Reading.{slotAt};
 ghost use Rattle.owners.specs.InFile.{numberOr0, sizeOr0, nameOf, ownerIn, fromIn, countIn};
+
+// Where a P line has its directory number: behind a blank column.
+const NAME: usize = PARAMETER_COLUMNS + 1;
 
 fn number_or_0(f: Field) -> u32
     ensures { λ r. ⌜ r ≡ numberOr0 f ⌝ }
@@ -45,7 +50,7 @@ fn size_at(file: &[u8], k: usize, j: usize) -> u32
     ensures { λ r. ⌜ r ≡ sizeOr0 (signedOf (slotAt (now (file .entry)) k j)) ⌝ }
 {
     let at = lines::start_of(k, j);
-    let f = columns_fixed::read_signed(file, at, at + SLOT_COLUMNS);
+    let f = columns_fixed::read_signed(file, at, at + FIELD_COLUMNS);
     size_or_0(f)
 }
 
@@ -55,10 +60,10 @@ fn name_at(file: &[u8], line: usize) -> DirectoryNumber
     ensures { λ r. ⌜ r .0 ≡ nameOf (lineAt (now (file .entry)) line) ⌝ }
 {
     let at = LINE_BYTES * line;
-    if file[at + 64] != b' ' {
+    if file[at + PARAMETER_COLUMNS] != b' ' {
         return DirectoryNumber(0);
     }
-    let f = columns_fixed::read_field(file, at + 65, at + 72);
+    let f = columns_fixed::read_field(file, at + NAME, at + TEXT_COLUMNS);
     DirectoryNumber(number_or_0(f))
 }
 

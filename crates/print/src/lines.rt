@@ -1,6 +1,7 @@
 // A line with a value that was read in a record's text.
 use crate::characters::put_text;
-use read_entities::COLUMNS;
+use columns::format::PARAMETER_COLUMNS;
+use columns::format::TEXT_COLUMNS;
 use sheets_lay::put_global_head;
 use sheets_lay::put_value_head;
 use sheets_lay::value_mark;
@@ -16,9 +17,6 @@ ghost use Rattle.values.specs.Value.{real, itemOf};
 ghost use Rattle.values.specs.Writing.{chars};
 ghost use Rattle.records.specs.Reading.{Stands, Writable};
 ghost use Rattle.sheets.specs.Sheet.{Line, lineOf};
-
-// The columns of a G line that hold values.
-const GLOBAL_COLUMNS: usize = 72;
 
 // A string's characters; nothing of any other value.
 fn put_chars(
@@ -57,7 +55,7 @@ pub fn put_value_line(
     ensures { λ r. ⌜ r ≤ at + 1100 ⌝ }
 {
     let a = put_value_head(out, at, reference, v);
-    let b = put_chars(out, a, file, base, COLUMNS, lines, v);
+    let b = put_chars(out, a, file, base, PARAMETER_COLUMNS, lines, v);
     columns_emit::put(out, b, b'\n')
 }
 
@@ -123,6 +121,6 @@ pub fn put_global_line(
     ensures { λ r. ⌜ r ≤ at + 1100 ⌝ }
 {
     let a = put_global_head(out, at, n, v);
-    let b = put_chars(out, a, file, base, GLOBAL_COLUMNS, lines, v);
+    let b = put_chars(out, a, file, base, TEXT_COLUMNS, lines, v);
     columns_emit::put(out, b, b'\n')
 }

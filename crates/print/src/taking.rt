@@ -1,6 +1,6 @@
 // The values of a record, one after the other, within their limits.
 use crate::Met;
-use read_entities::COLUMNS;
+use columns::format::PARAMETER_COLUMNS;
 use read_entities::Taken;
 use records::Got;
 use records_read::value_at;
@@ -62,6 +62,6 @@ pub fn met_at(file: &[u8], base: usize, lines: usize, c: u8, d: u8, q: usize) ->
     ensures { λ r. ⌜ r ≡ metOf (valueAt parameterColumns c d (textOf (now (file .entry)) base parameterColumns lines) q) ⌝ }
     ensures { λ r. ⌜ (q < r .next) × (r .next ≤ lines * parameterColumns) × Writable (lines * parameterColumns) (r .value) ⌝ }
 {
-    let g = value_at(file, base, COLUMNS, lines, c, d, q);
+    let g = value_at(file, base, PARAMETER_COLUMNS, lines, c, d, q);
     met_of(g)
 }

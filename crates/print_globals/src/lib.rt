@@ -1,4 +1,5 @@
 // The G lines: a line for each Global field that is no default.
+use columns::format::TEXT_COLUMNS;
 use print::lines::put_global_line;
 use print::taking::value_from;
 use records::Check;
@@ -17,9 +18,6 @@ ghost use Rattle.records.specs.Items.{itemsFrom};
 ghost use Rattle.records.specs.Global.{firstField};
 ghost use Rattle.model.specs.Read.{given};
 ghost use Rattle.print.specs.Bytes.{valuesIn, givenBytes, globalBytes};
-
-// The columns of a G line that hold values, and the number of the first field behind the delimiters.
-const COLUMNS: usize = 72;
 
 const FIRST: u32 = 3;
 
@@ -49,7 +47,7 @@ fn count_from(file: &[u8], base: usize, lines: usize, c: u8, d: u8, from: usize)
     ensures { λ r. ⌜ itemsFrom textColumns c d (textOf (now (file .entry)) base textColumns lines) from r ≡ valuesIn (valuesAt textColumns c d (textOf (now (file .entry)) base textColumns lines) from) ⌝ }
     ensures { λ r. ⌜ r ≤ lines * textColumns ⌝ }
 {
-    match check_from(file, base, COLUMNS, lines, c, d, from) {
+    match check_from(file, base, TEXT_COLUMNS, lines, c, d, from) {
         Check::Wrong { .. } => 0,
         Check::Done { count, .. } => count,
     }
@@ -75,7 +73,7 @@ pub fn put_globals(
     let mut q = from;
     let mut next = at;
     while 0 < left {
-        let x = value_from(file, base, COLUMNS, lines, c, d, q);
+        let x = value_from(file, base, TEXT_COLUMNS, lines, c, d, q);
         let v = x.value;
         next = put_given(out, next, file, base, lines, n, v);
         n += 1;

@@ -2,7 +2,7 @@
 pub mod rows;
 
 use crate::rows::put_rows;
-use cards::LINE_BYTES;
+use columns::format::LINE_BYTES;
 use print_globals::put_globals;
 use print_starts::put_starts;
 ghost use Prim.Native.Nat.{_+_, _*_, _^_, _≤_, _<_};

@@ -1,7 +1,8 @@
 // The lines of the entries: for each the entry line and its values, then the Z line.
-use cards::LINE_BYTES;
 use columns::DirectoryNumber;
 use columns::ParameterLine;
+use columns::format::FIELD_COLUMNS;
+use columns::format::LINE_BYTES;
 use columns::wide;
 use directory::EntryRead;
 use directory::Fields;
@@ -31,9 +32,6 @@ ghost use Rattle.print.specs.Bytes.{entityBytes};
 ghost use Rattle.print.specs.Taking.{ValuesStand};
 ghost use Rattle.print.specs.Rows.{speltBytes, rowBytes, rowsBytes, SpeltReads, RowReads, RowsRead, Printable};
 
-// The columns of a label.
-const LABEL: usize = 8;
-
 // The entry line of the entry whose first D line is line k: its label stands in the file.
 fn put_entry_line(
     out: &mut [u8],
@@ -52,7 +50,7 @@ fn put_entry_line(
     let form = x.form;
     let e = known(list, entity.size, form.size);
     let from = label_at(k);
-    let end = from + LABEL;
+    let end = from + FIELD_COLUMNS;
     put_entry(out, at, e, number, x, &file[from..end])
 }
 

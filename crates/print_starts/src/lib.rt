@@ -1,5 +1,6 @@
 // The S lines: the text of columns 1 to 72 without trailing blanks.
-use cards::LINE_BYTES;
+use columns::format::LINE_BYTES;
+use columns::format::TEXT_COLUMNS;
 use sheets_lay::put_start;
 ghost use mathlib.Core.Path.{_≡_};
 ghost use mathlib.Core.List.{[], _∷_, _++_, map};
@@ -14,16 +15,13 @@ ghost use Rattle.sheets.specs.Sheet.{Line, lineOf};
 ghost use Rattle.model.specs.Read.{isBlank, startText};
 ghost use Rattle.print.specs.Bytes.{startBytes};
 
-// The columns of an S line that hold text.
-const TEXT: usize = 72;
-
 // How many bytes of the text from here on are kept.
 fn kept(file: &[u8], from: usize) -> usize
     requires { ⌜ from + textColumns ≤ length (now file) ⌝ }
     ensures { λ r. ⌜ take r (drop from (now (file .entry))) ≡ trimEnd isBlank (take textColumns (drop from (now (file .entry)))) ⌝ }
     ensures { λ r. ⌜ r ≤ textColumns ⌝ }
 {
-    let mut n = TEXT;
+    let mut n = TEXT_COLUMNS;
     while 0 < n {
         let i = n - 1;
         if file[from + i] != b' ' {

@@ -1,4 +1,5 @@
 // The value lines of an entity.
+use columns::format::PARAMETER_COLUMNS;
 use layouts::Stepped;
 use layouts_machine::is_reference;
 use layouts_machine::runs_on;
@@ -7,7 +8,6 @@ use print::Behind;
 use print::lines::put_mostly_real;
 use print::lines::put_value_line;
 use print::taking::met_at;
-use read_entities::COLUMNS;
 use read_entities::marks::mark_of;
 use read_entities::marks::mark_step;
 use read_entities::marks::marks_begun;
@@ -115,7 +115,7 @@ pub fn put_values(
     let mut owed = 0;
     let mut next = at;
     while !last {
-        let got = value_at(file, base, COLUMNS, lines, c, d, q);
+        let got = value_at(file, base, PARAMETER_COLUMNS, lines, c, d, q);
         match got {
             Got::Refused { .. } => {
                 return next;

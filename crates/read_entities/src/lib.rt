@@ -8,9 +8,6 @@ use columns::Fault;
 use layouts::Stepped;
 use values::Value;
 
-// The columns of a P line that hold values.
-pub const COLUMNS: usize = 64;
-
 // A value of a record, and the position behind its delimiter.
 pub struct Taken {
     pub value: Value,

@@ -1,10 +1,10 @@
 // The pass over one entity: its record's values, the type that stands first, its layout.
 use columns::Fault;
+use columns::format::PARAMETER_COLUMNS;
 use layouts::Stepped;
 use layouts::Verdict;
 use layouts_lists::known;
 use layouts_machine::end;
-use read_entities::COLUMNS;
 use read_entities::EntityAnswer;
 use read_entities::Walked;
 use read_entities::Weighed;
@@ -107,7 +107,7 @@ pub fn entity_pass(
     ensures { λ r. ⌜ r .length ≡ carriedLength (carriedIn (valuesAt parameterColumns c d (textOf (now (file .entry)) base parameterColumns lines) 0)) ⌝ }
     ensures { λ r. ⌜ r .length ≤ 70400 * lines ⌝ }
 {
-    let g = value_at(file, base, COLUMNS, lines, c, d, 0);
+    let g = value_at(file, base, PARAMETER_COLUMNS, lines, c, d, 0);
     match g {
         Got::Refused { fault, .. } => Weighed {
             answer: EntityAnswer::Refused(fault),

@@ -1,7 +1,7 @@
 // The sheet of a file that passes all checks, and how long it is.
 use cards::Counts;
-use cards::LINE_BYTES;
 use columns::ParameterLine;
+use columns::format::LINE_BYTES;
 use columns::wide;
 use records::Opening;
 ghost use mathlib.Core.Path.{_≡_};

@@ -1,8 +1,9 @@
 // G: 6 and 7 in text order, stray text, then 8.
 use cards::Counts;
-use cards::LINE_BYTES;
 use columns::Fault;
 use columns::FileLine;
+use columns::format::LINE_BYTES;
+use columns::format::TEXT_COLUMNS;
 use columns::wide;
 use read_passes::GlobalAnswer;
 use read_passes::Pass;
@@ -20,9 +21,6 @@ ghost use Rattle.model.specs.Read.{globalText, globalLine, spellingLine, noStra
 ghost use Rattle.read_passes.specs.Passes.{passOf, answerOf, globalAnswer};
 ghost use Rattle.read_passes.specs.Walks.{orElse, gotValue, fieldsFit, valuesOutcome};
 
-// The columns of a G line that are text, and the first field behind the delimiters.
-const WIDE: usize = 72;
-
 const FIRST_FIELD: u32 = 3;
 
 // The file line of position p of G's text.
@@ -30,7 +28,7 @@ fn global_line(c: Counts, p: usize) -> FileLine
     requires { ⌜ p ≤ 16000000 ⌝ }
     ensures { λ r. ⌜ r ≡ fileLine (globalLine c p) ⌝ }
 {
-    FileLine(wide(c.s) + p / WIDE + 1)
+    FileLine(wide(c.s) + p / TEXT_COLUMNS + 1)
 }
 
 // Where a value is wrong that starts at `start`: `at` cannot continue it.
@@ -40,7 +38,7 @@ fn spelling_line(file: &[u8], c: Counts, start: usize, at: usize) -> FileLine
 {
     let s = wide(c.s);
     let g = wide(c.g);
-    if at == g * WIDE {
+    if at == g * TEXT_COLUMNS {
         return FileLine(s + g);
     }
     global_line(c, start)
@@ -52,8 +50,8 @@ fn no_stray(file: &[u8], c: Counts, end: usize) -> Pass
     ensures { λ r. ⌜ r ≡ passOf (noStray c (globalText (now (file .entry)) c) end) ⌝ }
 {
     let lines = wide(c.g);
-    let q = records_global::stray(file, LINE_BYTES * wide(c.s), WIDE, lines, end);
-    if q == lines * WIDE {
+    let q = records_global::stray(file, LINE_BYTES * wide(c.s), TEXT_COLUMNS, lines, end);
+    if q == lines * TEXT_COLUMNS {
         return Pass::Good;
     }
     let line = global_line(c, q);
@@ -100,7 +98,7 @@ fn fields_fit(file: &[u8], c: Counts, parameter: u8, closing: u8, from: usize, n
     let mut k = 0;
     let mut q = from;
     while k < n {
-        let g = records_read::value_at(file, base, WIDE, lines, parameter, closing, q);
+        let g = records_read::value_at(file, base, TEXT_COLUMNS, lines, parameter, closing, q);
         let value = value_of(g);
         let start = start_of(g);
         let next = behind_of(g);
@@ -144,7 +142,7 @@ fn values_pass(file: &[u8], c: Counts, parameter: u8, closing: u8, from: usize) 
 {
     let lines = wide(c.g);
     let base = LINE_BYTES * wide(c.s);
-    let check = records_read::check_from(file, base, WIDE, lines, parameter, closing, from);
+    let check = records_read::check_from(file, base, TEXT_COLUMNS, lines, parameter, closing, from);
     match check {
         Check::Wrong { fault, start, at } => {
             let line = spelling_line(file, c, start, at);

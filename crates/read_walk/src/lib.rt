@@ -1,9 +1,9 @@
 // One walk over an entity's values behind its type: it checks them, steps the layout and measures their lines in the sheet.
 // The layout and the sheet see the values up to the last that is no default, so defaults are owed until a value is given behind them.
+use columns::format::PARAMETER_COLUMNS;
 use layouts::Stepped;
 use layouts_machine::runs_on;
 use layouts_machine::with_left;
-use read_entities::COLUMNS;
 use read_entities::Walked;
 use read_entities::marks::mark_step;
 use records::Got;
@@ -118,7 +118,7 @@ pub fn walk(
     let mut owed: usize = 0;
     let mut length: usize = 0;
     loop {
-        let g = value_at(file, base, COLUMNS, lines, c, d, q);
+        let g = value_at(file, base, PARAMETER_COLUMNS, lines, c, d, q);
         match g {
             Got::Refused { fault, .. } => {
                 return Walked::Wrong(fault);

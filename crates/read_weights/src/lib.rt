@@ -1,14 +1,14 @@
 // Reading: what the checks of a file say in the paper's order, and what stands behind them in the sheet. `entity_at` reads the parameters of an
 // entity and measures its lines in the sheet on the way. Crate `read_check` has the last pass over all of them and all checks.
 use cards::Counts;
-use cards::LINE_BYTES;
 use columns::Fault;
 use columns::FileLine;
 use columns::ParameterLine;
+use columns::format::FIELD_COLUMNS;
+use columns::format::LINE_BYTES;
 use columns::wide;
 use directory::EntryRead;
 use directory::Fields;
-use directory::SLOT_COLUMNS;
 use read_entities::EntityAnswer;
 use read_entities::Weighed;
 use sheets_lay::entry_len;
@@ -97,7 +97,7 @@ fn head_len(i: usize, x: Fields) -> usize
     ensures { λ r. ⌜ r ≤ 388 ⌝ }
 {
     let number = cards::entry_number(i);
-    entry_len(number, x, SLOT_COLUMNS)
+    entry_len(number, x, FIELD_COLUMNS)
 }
 
 // So many bytes, if the entity passes.

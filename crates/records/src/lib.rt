@@ -6,9 +6,6 @@ pub mod position;
 use columns::Fault;
 use values::Value;
 
-// A line's bytes with its LF.
-const LINE: usize = 81;
-
 // What stands behind the blanks: a delimiter, and whether it ends the record, or something else.
 pub enum Next {
     Delimiter { at: usize, last: bool },

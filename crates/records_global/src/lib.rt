@@ -1,4 +1,5 @@
 // The Global section's opening, and what its fields may hold.
+use columns::format::TEXT_COLUMNS;
 use records::GlobalKind;
 use records::Opening;
 use values::Value;
@@ -10,9 +11,6 @@ ghost use Rattle.columns.specs.Format.{textColumns};
 ghost use Rattle.records.specs.Record.{blanks};
 ghost use Rattle.records.specs.Global.{mayDelimit, opened, recordDelimiter, openingOf, kindOf, upTo, inRange, isKind, globalFits};
 ghost use Rattle.records.specs.Reading.{Stands, Delimits, setsApart};
-
-// The columns of a G line that are text.
-const WIDE: usize = 72;
 
 // Neither a blank nor a digit.
 fn sets_apart(x: u8) -> bool
@@ -66,22 +64,22 @@ fn record_delimiter(file: &[u8], base: usize, lines: usize, c: u8, p: usize) -> 
     requires { ⌜ Stands (now file) base textColumns lines × (p ≤ 4) ⌝ }
     ensures { λ r. ⌜ r ≡ recordDelimiter c (textOf (now (file .entry)) base textColumns lines) p ⌝ }
 {
-    let x = records_read::char_at(file, base, WIDE, lines, p);
+    let x = records_read::char_at(file, base, TEXT_COLUMNS, lines, p);
     if x == c {
         return opened_of(c, b';', p + 1, false);
     }
     if x == b';' {
         return opened_of(c, b';', p + 1, true);
     }
-    let h = records_read::char_at(file, base, WIDE, lines, p + 1);
+    let h = records_read::char_at(file, base, TEXT_COLUMNS, lines, p + 1);
     if x != b'1' {
         return Opening::Wrong;
     }
     if h != b'H' {
         return Opening::Wrong;
     }
-    let d = records_read::char_at(file, base, WIDE, lines, p + 2);
-    let y = records_read::char_at(file, base, WIDE, lines, p + 3);
+    let d = records_read::char_at(file, base, TEXT_COLUMNS, lines, p + 2);
+    let y = records_read::char_at(file, base, TEXT_COLUMNS, lines, p + 3);
     if y == c {
         return opened_of(c, d, p + 4, false);
     }
@@ -97,13 +95,13 @@ pub fn opening_of(file: &[u8], base: usize, lines: usize) -> Opening
     ensures { λ r. ⌜ r ≡ openingOf (textOf (now (file .entry)) base textColumns lines) ⌝ }
     ensures { λ r. ⌜ Delimits 8 r ⌝ }
 {
-    let x = records_read::char_at(file, base, WIDE, lines, 0);
+    let x = records_read::char_at(file, base, TEXT_COLUMNS, lines, 0);
     if x == b',' {
         return record_delimiter(file, base, lines, b',', 1);
     }
-    let h = records_read::char_at(file, base, WIDE, lines, 1);
-    let c = records_read::char_at(file, base, WIDE, lines, 2);
-    let y = records_read::char_at(file, base, WIDE, lines, 3);
+    let h = records_read::char_at(file, base, TEXT_COLUMNS, lines, 1);
+    let c = records_read::char_at(file, base, TEXT_COLUMNS, lines, 2);
+    let y = records_read::char_at(file, base, TEXT_COLUMNS, lines, 3);
     if x != b'1' {
         return Opening::Wrong;
     }

@@ -1,6 +1,7 @@
 // Sheets out: each function writes a line and its LF, clipped to the buffer, and returns the place after it.
 use columns::DirectoryNumber;
 use columns::Signed;
+use columns::format::FIELD_COLUMNS;
 use directory::Fields;
 use directory::order;
 use values::Value;
@@ -84,7 +85,7 @@ fn put_num(out: &mut [u8], at: usize, left: usize, x: Signed) -> usize
     ensures { λ r. ⌜ r ≤ at + 28 ⌝ }
 {
     if left == 3 {
-        return columns_decimals::put_right(out, at, b'0', 8, x.size as u64);
+        return columns_decimals::put_right(out, at, b'0', FIELD_COLUMNS, x.size as u64);
     }
     columns_decimals::put_signed(out, at, x)
 }
@@ -162,7 +163,11 @@ fn num_len(left: usize, x: Signed) -> usize
         return columns_decimals::count_signed(x);
     }
     let count = columns_decimals::count_digits(x.size as u64);
-    if count < 8 { 8 } else { count }
+    if count < FIELD_COLUMNS {
+        FIELD_COLUMNS
+    } else {
+        count
+    }
 }
 
 // How many bytes the numbers take, a tab behind each.

@@ -2,6 +2,7 @@
 use columns::Signed;
 use columns::byte_u32;
 use columns::byte_u64;
+use columns::format::MOST_INTEGER;
 ghost use mathlib.Core.Path.{_≡_};
 ghost use mathlib.Core.Bool.{true, false};
 ghost use Prim.Native.Nat.{_+_, _-_, _≤_, _<_};
@@ -12,7 +13,7 @@ ghost use Rattle.sheets.specs.Line.{run};
 ghost use Rattle.sheets.specs.Folds.{unread, digitAfter, sizeFrom, minusOf, signedFold, statusFrom, entryFold};
 
 // The largest number. Past it one number says that the text is misspelt, and one that nothing was read yet.
-pub const MOST: u64 = 2147483647;
+pub const MOST: u64 = MOST_INTEGER as u64;
 
 const MISSPELT: u64 = 2147483648;
 

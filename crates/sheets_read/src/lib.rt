@@ -1,5 +1,7 @@
 // Sheets in: where a line ends and what it says.
 use columns::Signed;
+use columns::format::FIELD_COLUMNS;
+use columns::format::TEXT_COLUMNS;
 use columns::look;
 use directory::order;
 use sheets::EntryLine;
@@ -72,7 +74,7 @@ fn numbers(s: &[u8], at: usize, end: usize, known: bool) -> EntryLine
         k += 1;
         i = e + 1;
     }
-    if end - i != 8 {
+    if end - i != FIELD_COLUMNS {
         return EntryLine::Wrong;
     }
     if look::is_printable(s, i, end) {
@@ -115,7 +117,7 @@ fn is_start(s: &[u8], at: usize, end: usize) -> bool
     if end == at {
         return true;
     }
-    if 72 < end - at {
+    if TEXT_COLUMNS < end - at {
         return false;
     }
     if s[end - 1] == b' ' {

@@ -1,6 +1,7 @@
 // Prints the table of the file at standard input, slot by slot, and the names for the directory numbers 0 to 6.
 use columns::DirectoryNumber;
 use columns::ParameterLine;
+use columns::format::MOST_LIST;
 use desk::Record;
 use directory::Attribute;
 use directory::Entry;
@@ -8,9 +9,6 @@ ghost use mathlib.Core.Path.{_≡_};
 ghost use lib.ListN.{length};
 ghost use Rattle.desk.specs.Answers.{listedIn, slotsLeft};
 ghost use Rattle.viewer.specs.Unused.{nines};
-
-// The list of all types.
-const LIST: u64 = 16383;
 
 // The slots that are lent, and how many names are asked for.
 const SLOTS: usize = 4;
@@ -98,7 +96,7 @@ fn print_slot(slot: Record) {
 }
 
 fn print_name<'f, 's: 'f>(file: &'f [u8], stand_in: &'s [u8], number: DirectoryNumber) {
-    let name = desk_name::name(LIST, file, stand_in, number);
+    let name = desk_name::name(MOST_LIST, file, stand_in, number);
     print_part(number.0);
     io::write_all(1, b"[");
     io::write_all(1, name);
@@ -109,7 +107,7 @@ fn main() {
     let mut buffer = io::large_buffer();
     let n = io::read_full(0, &mut buffer);
     let empty = unused();
-    let table = listed(LIST, &buffer[..n], [empty; 4]);
+    let table = listed(MOST_LIST, &buffer[..n], [empty; 4]);
     let mut i = 0;
     while i < SLOTS {
         print_slot(table[i]);

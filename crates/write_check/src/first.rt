@@ -3,6 +3,7 @@
 use crate::Past;
 use crate::Walked;
 use columns::SheetLine;
+use columns::format::OPENING_COLUMNS;
 use file_canonical::Tally;
 use file_tally::behind_value;
 use file_tally::tally_said;
@@ -49,7 +50,7 @@ const BEGIN: State = State {
 // What no lines come to: the G record's opening has eight columns.
 const BEGUN: Tally = Tally {
     s: 0,
-    global: 8,
+    global: OPENING_COLUMNS,
     field: NO_FIELD,
     d: 0,
     p: 0,

@@ -1,6 +1,6 @@
 // How long the canonical file of a sheet is.
 use cards::Counts;
-use cards::LINE_BYTES;
+use columns::format::LINE_BYTES;
 use columns::wide;
 ghost use mathlib.Core.Path.{_≡_};
 ghost use Prim.Native.Nat.{_*_};
