@@ -10,7 +10,7 @@ use lib.ListN.{length, length-append}
 use borrow.Author.Tests.{le-leb, eq-eqb}
 use Rattle.cards.specs.declared.Counts.{Counts}
 use Rattle.cards.specs.declared.Placed.the-variants.{Here}
-use Rattle.cards.specs.declared.Step.the-variants.{Next}
+use Rattle.cards.specs.declared.LineStep.the-variants.{Next}
 use Rattle.cards.specs.declared.CardsRead.the-variants.{Counted}
 use Rattle.columns.specs.Columns.{lineAt}
 use Rattle.columns.specs.Format.{mostLines}

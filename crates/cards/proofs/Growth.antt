@@ -15,8 +15,8 @@ use Rattle.cards.specs.Shared.{fileLine}
 use Rattle.cards.specs.declared.Counts.{Counts}
 use Rattle.cards.specs.declared.Placed.{Placed}
 use Rattle.cards.specs.declared.Placed.the-variants.{Here, Nowhere}
-use Rattle.cards.specs.declared.Step.{Step}
-use Rattle.cards.specs.declared.Step.the-variants.{Next, Wrong}
+use Rattle.cards.specs.declared.LineStep.{LineStep}
+use Rattle.cards.specs.declared.LineStep.the-variants.{Next, Wrong}
 use Rattle.cards.specs.declared.CardsRead.{CardsRead}
 use Rattle.cards.specs.declared.CardsRead.the-variants.{Counted, Refused}
 use Rattle.columns.specs.declared.Fault.{Fault}
@@ -40,7 +40,7 @@ data Places (c : Counts) (left b : ℕ) : Placed → Type 0 where
   no-place : Places c left b Nowhere
   place-of : {q : Counts} {n : ℕ} → Moves c left b q n → Places c left b (Here q n)
 
-pub data Steps (c : Counts) (left : ℕ) (l : List ℕ) : Step → Type 0 where
+pub data Steps (c : Counts) (left : ℕ) (l : List ℕ) : LineStep → Type 0 where
   no-step : {w : Fault} → Steps c left l (Wrong w)
   step-of : {q : Counts} {n : ℕ} → Moves c left (getD l 72 0) q n → lineOk l ≡ true → seven l 73 n ≡ true → Steps c left l (Next q)
 
@@ -80,7 +80,7 @@ move-more (to-t e h k) = omega arith
 next-more : {c q : Counts} {left : ℕ} {l : List ℕ} → Steps c left l (Next q) → total q ≡ total c + 1
 next-more (step-of m o s) = move-more m
 
-pub one-more : (c q : Counts) (left k : ℕ) (l : List ℕ) (x : Step) → x ≡ stepOf c left l → x ≡ Next q → total c ≡ k → total q ≡ k + 1
+pub one-more : (c q : Counts) (left k : ℕ) (l : List ℕ) (x : LineStep) → x ≡ stepOf c left l → x ≡ Next q → total c ≡ k → total q ≡ k + 1
 one-more c q left k l x ex e h = omega (arith, next-more (rw (← ex, e) at (step-moves c left l)))
 
 move-last : {c q : Counts} {b n : ℕ} (left : ℕ) → Moves c left b q n → left ≡ 0 → q .t ≡ 1
@@ -216,7 +216,7 @@ ended-more {c} {q} {r} l ls m o s e = record {
         let i : total c + suc j ≡ total q + j = omega (arith, move-more m) in
         rw i (e .stand j (omega arith))
 
-ends-step : (c : Counts) (k : ℕ) (l : List ℕ) (ls : List (List ℕ)) (x : Step) → Steps c (length ls) l x → ((q : Counts) → Ends q ls (pass q (k + 1) ls))
+ends-step : (c : Counts) (k : ℕ) (l : List ℕ) (ls : List (List ℕ)) (x : LineStep) → Steps c (length ls) l x → ((q : Counts) → Ends q ls (pass q (k + 1) ls))
     → Ends c (l ∷ ls) (elim x [ Wrong w ↦ Refused w (fileLine k) | Next q ↦ pass q (k + 1) ls ])
 ends-step c k l ls (Wrong w) h rec = refused
 ends-step c k l ls (Next q) (step-of m o s) rec = then (pass q (k + 1) ls) (rec q)

@@ -16,8 +16,8 @@ use Rattle.cards.specs.Shared.{fileLine}
 use Rattle.cards.specs.declared.Counts.{Counts}
 use Rattle.cards.specs.declared.Placed.{Placed}
 use Rattle.cards.specs.declared.Placed.the-variants.{Here, Nowhere}
-use Rattle.cards.specs.declared.Step.{Step}
-use Rattle.cards.specs.declared.Step.the-variants.{Next, Wrong}
+use Rattle.cards.specs.declared.LineStep.{LineStep}
+use Rattle.cards.specs.declared.LineStep.the-variants.{Next, Wrong}
 use Rattle.cards.specs.declared.CardsRead.{CardsRead}
 use Rattle.cards.specs.declared.CardsRead.the-variants.{Counted, Refused}
 use Rattle.columns.specs.declared.Fault.{Fault}
@@ -172,7 +172,7 @@ lines-more f k n h =
     rw e
 
 module _ (r : CardsRead) (f : List ℕ) (c : Counts) (k n : ℕ) (inv : pass c (k + 1) (linesFrom f k (n - k)) ≡ r) where
-  module _ (lt : k < n) (x : Step) (ex : x ≡ stepOf c (n - (k + 1)) (lineAt f k)) where
+  module _ (lt : k < n) (x : LineStep) (ex : x ≡ stepOf c (n - (k + 1)) (lineAt f k)) where
     pub pass-wrong : (w : Fault) → x ≡ Wrong w → Refused w (fileLine (k + 1)) ≡ r
     unfolding pass
     pass-wrong w e = simp (pass, length-linesFrom, ← ex, e) at (rw (lines-more f k n lt) at inv)

@@ -14,8 +14,8 @@ use Rattle.columns.specs.Letters.{newline, letterD, letterG, letterP, letterS, 
 use Rattle.cards.specs.declared.Counts.{Counts}
 use Rattle.cards.specs.declared.Placed.{Placed}
 use Rattle.cards.specs.declared.Placed.the-variants.{Here, Nowhere}
-use Rattle.cards.specs.declared.Step.{Step}
-use Rattle.cards.specs.declared.Step.the-variants.{Next, Wrong}
+use Rattle.cards.specs.declared.LineStep.{LineStep}
+use Rattle.cards.specs.declared.LineStep.the-variants.{Next, Wrong}
 use Rattle.cards.specs.declared.CardsRead.{CardsRead}
 use Rattle.cards.specs.declared.CardsRead.the-variants.{Counted, Refused}
 use Rattle.cards.specs.Shared.{fileLine}
@@ -62,12 +62,12 @@ placeOf c left b =
     Nowhere)))))
 
 -- its number in columns 74-80
-unfoldable pub numberedOf : Placed → List ℕ → Step
+unfoldable pub numberedOf : Placed → List ℕ → LineStep
 numberedOf Nowhere l = Wrong Section
 numberedOf (Here c n) l = cond (seven l (textColumns + 1) n) (Next c) (Wrong Sequence)
 
 -- one line: its bytes, then its place, then its number
-unfoldable pub stepOf : Counts → ℕ → List ℕ → Step
+unfoldable pub stepOf : Counts → ℕ → List ℕ → LineStep
 stepOf c left l = cond (lineOk l) (numberedOf (placeOf c left (getD l textColumns 0)) l) (Wrong Byte)
 
 -- line by line, the first of them line k of the file

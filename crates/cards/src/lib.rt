@@ -28,7 +28,7 @@ pub enum Placed {
 }
 
 // What a line does: the counts with it, or a refusal.
-pub enum Step {
+pub enum LineStep {
     Next(Counts),
     Wrong(Fault),
 }

@@ -1,7 +1,7 @@
 // One line: its bytes, where it stands, its number.
 use cards::Counts;
+use cards::LineStep;
 use cards::Placed;
-use cards::Step;
 use columns::Fault;
 use columns::format::LINE_BYTES;
 use columns::format::LINE_COLUMNS;
@@ -75,19 +75,19 @@ fn place(c: Counts, left: usize, letter: u8) -> Placed
 }
 
 // What line k does, of which `left` more lines follow.
-pub fn step_line(file: &[u8], k: usize, left: usize, c: Counts) -> Step
+pub fn step_line(file: &[u8], k: usize, left: usize, c: Counts) -> LineStep
     requires { ⌜ (lineBytes * k + lineBytes ≤ length (now file)) × (total c < mostLines) ⌝ }
     ensures { λ r. ⌜ r ≡ stepOf c left (lineAt (now (file .entry)) k) ⌝ }
 {
     let at = LINE_BYTES * k;
     if !line_ok(file, at) {
-        return Step::Wrong(Fault::Byte);
+        return LineStep::Wrong(Fault::Byte);
     }
     let Placed::Here { counts, number } = place(c, left, file[at + TEXT_COLUMNS]) else {
-        return Step::Wrong(Fault::Section);
+        return LineStep::Wrong(Fault::Section);
     };
     if columns_fixed::holds(file, at + NUMBER, at + LINE_COLUMNS, number) {
-        return Step::Next(counts);
+        return LineStep::Next(counts);
     }
-    Step::Wrong(Fault::Sequence)
+    LineStep::Wrong(Fault::Sequence)
 }

@@ -3,7 +3,7 @@ mod terminate;
 
 use cards::CardsRead;
 use cards::Counts;
-use cards::Step;
+use cards::LineStep;
 use cards::length_ok;
 use columns::Fault;
 use columns::FileLine;
@@ -37,13 +37,13 @@ pub fn cards(file: &[u8]) -> CardsRead
         let next = k + 1;
         let done = cards_line::step_line(file, k, n - next, c);
         match done {
-            Step::Wrong(fault) => {
+            LineStep::Wrong(fault) => {
                 return CardsRead::Refused {
                     fault,
                     line: FileLine(next),
                 };
             }
-            Step::Next(counts) => {
+            LineStep::Next(counts) => {
                 c = counts;
             }
         }

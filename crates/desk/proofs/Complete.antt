@@ -20,8 +20,8 @@ use Rattle.owners.specs.Rules.{Owns}
 use Rattle.owners.proofs.Round.{owns-passes}
 use Rattle.model.specs.Read.{GlobalRead, globalRead, given, entryIn, entriesIn, listedType, referencesOf, referencesIn, firstEntry, before}
 use Rattle.model.proofs.Sizes.{size-same, size-some}
-use Rattle.read_passes.specs.declared.Pass.{Pass}
-use Rattle.read_passes.specs.declared.Pass.the-variants.{Good as Passes}
+use Rattle.read_passes.specs.declared.FilePass.{FilePass}
+use Rattle.read_passes.specs.declared.FilePass.the-variants.{Good as Passes}
 use Rattle.read_passes.specs.Passes.{passOf}
 use Rattle.read_passes.specs.Listed.{listedOf, listedAt, entryOf, allEntries, allTypes}
 use Rattle.read_passes.specs.Walks.{firstOf, entryCheck}
@@ -33,7 +33,7 @@ use Rattle.desk.proofs.GlobalRules.{global-complete}
 use Rattle.desk.proofs.Sound.{taken}
 
 -- where each passes, all do
-all-good : (check : ℕ → Pass) (n i : ℕ) → ((j : ℕ) → i ≤ j → j < i + n → check j ≡ Passes) → firstOf check i n ≡ Passes
+all-good : (check : ℕ → FilePass) (n i : ℕ) → ((j : ℕ) → i ≤ j → j < i + n → check j ≡ Passes) → firstOf check i n ≡ Passes
 unfolding firstOf
 all-good check zero i h = refl
 all-good check (suc n) i h = rw (h i (omega arith) (omega arith)) (all-good check n (i + 1) (λ j lo hi. h j (omega arith) (omega arith)))

@@ -28,8 +28,8 @@ use Rattle.records.specs.Record.{Values, values, wrong, blanks, trimmed, startA
 use Rattle.cards.specs.declared.Counts.{Counts}
 use Rattle.cards.specs.declared.Placed.{Placed}
 use Rattle.cards.specs.declared.Placed.the-variants.{Here, Nowhere}
-use Rattle.cards.specs.declared.Step.{Step}
-use Rattle.cards.specs.declared.Step.the-variants.{Next as NextLine, Wrong as WrongLine}
+use Rattle.cards.specs.declared.LineStep.{LineStep}
+use Rattle.cards.specs.declared.LineStep.the-variants.{Next as NextLine, Wrong as WrongLine}
 use Rattle.cards.specs.declared.CardsRead.{CardsRead}
 use Rattle.cards.specs.declared.CardsRead.the-variants.{Counted, Refused as NoCards}
 use Rattle.columns.specs.Columns.{lineAt}
@@ -46,12 +46,12 @@ use Rattle.directory.specs.Rules.{rangesOk, allFit, references, entryRules, ref
 use Rattle.owners.specs.declared.Owned.{Owned}
 use Rattle.owners.specs.declared.Owned.the-variants.{Everyone, Entry, Line}
 use Rattle.owners.specs.InFile.{ownersIn, outcome as ownershipOutcome}
-use Rattle.layouts.specs.declared.Verdict.{Verdict}
-use Rattle.layouts.specs.declared.Verdict.the-variants.{Good, Layout, LayoutReference}
+use Rattle.layouts.specs.declared.LayoutVerdict.{LayoutVerdict}
+use Rattle.layouts.specs.declared.LayoutVerdict.the-variants.{Good, Layout, LayoutReference}
 use Rattle.layouts.specs.Known.{known}
 use Rattle.layouts.specs.Entities.{Entity, fault, verdict, entityCheck}
-use Rattle.sheets.specs.declared.Verdict.{Verdict as SheetVerdict}
-use Rattle.sheets.specs.declared.Verdict.the-variants.{Good as GoodSheet, Wrong as WrongSheet}
+use Rattle.sheets.specs.declared.SheetVerdict.{LayoutVerdict as SheetVerdict}
+use Rattle.sheets.specs.declared.SheetVerdict.the-variants.{Good as GoodSheet, Wrong as WrongSheet}
 use Rattle.sheets.specs.Sheet.{Sheet, linesIn, sheetOf}
 use Rattle.sheets.specs.Order.{readSheet, verdictOf, outcome as sheetOutcome}
 use Rattle.model.specs.Read.{Listed, GlobalRead, two, globalText, globalLine, fieldFits, isType, parametersOf, referencesOf, noStray, byValues, byOpening, globalIn, byEntry, entryIn, entriesIn, referencesIn, byParameters, entityIn, lastPass, before, readModel, reads}
@@ -80,7 +80,7 @@ each-not takes f h p (x ∷ xs) = then-not (f p x) _ (h p x) (λ y. then-not (ea
 
 -- ---- lines
 
-abbrev LineNot : Step → Type 0
+abbrev LineNot : LineStep → Type 0
 LineNot (NextLine c) = Unit {0}
 LineNot (WrongLine n) = number n ≡ 16 → ⊥
 
@@ -106,7 +106,7 @@ unfolding pass
 pass-not c k [] = tt
 pass-not c k (l ∷ ls) = pick (stepOf c (length ls) l) (step-not c (length ls) l) (λ q. pass-not q (k + 1) ls)
   where
-    pick : (x : Step) → LineNot x → ((q : Counts) → CardsNot (pass q (k + 1) ls)) → CardsNot (elim x [ WrongLine w ↦ NoCards w (fileLine k) | NextLine q ↦ pass q (k + 1) ls ])
+    pick : (x : LineStep) → LineNot x → ((q : Counts) → CardsNot (pass q (k + 1) ls)) → CardsNot (elim x [ WrongLine w ↦ NoCards w (fileLine k) | NextLine q ↦ pass q (k + 1) ls ])
     pick (WrongLine w) h again = h
     pick (NextLine q) h again = again q
 
@@ -232,7 +232,7 @@ check-not : (list : ℕ) (types : List ℕ) (e : Entity) (place : ℕ) → NotRo
 unfolding entityCheck
 check-not list types e place = pick (known list (e .typ) (e .form)) (verdict types e)
   where
-    pick : (b : Bool) (v : Verdict) → NotRoom (cond b (fault v place) (accepted tt))
+    pick : (b : Bool) (v : LayoutVerdict) → NotRoom (cond b (fault v place) (accepted tt))
     pick true Good = tt
     pick true Layout = λ e. omega arith
     pick true LayoutReference = λ e. omega arith

@@ -33,7 +33,7 @@ use Rattle.model.specs.Model.{Carried, typeOf, entityOf}
 use Rattle.model.specs.Read.{Listed, Before, isType, entryIn, byParameters, parametersOf, entityIn, referencesOf, referencesIn, firstEntry, lastPass, before, readModel, reads}
 use Rattle.model.proofs.ReadApart.{entry-apart, entity-apart, read-apart}
 use Rattle.model.proofs.Sizes.{size-same}
-use Rattle.read_passes.specs.declared.Pass.the-variants.{Good as Passes}
+use Rattle.read_passes.specs.declared.FilePass.the-variants.{Good as Passes}
 use Rattle.read_passes.specs.Passes.{passOf}
 use Rattle.read_passes.specs.Listed.{entryOf, allTypes}
 use Rattle.read_passes.specs.Walks.{entryCheck}

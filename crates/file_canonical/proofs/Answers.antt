@@ -14,7 +14,7 @@ use Rattle.columns.proofs.Outcomes.{then-accepted, demand-accepted}
 use Rattle.cards.specs.declared.Counts.{Counts}
 use Rattle.cards.specs.Cards.{total}
 use Rattle.directory.specs.Rules.{rangesOk, entryRules}
-use Rattle.sheets.specs.declared.Verdict.the-variants.{Good}
+use Rattle.sheets.specs.declared.SheetVerdict.the-variants.{Good}
 use Rattle.sheets.specs.Sheet.{Row, Sheet, linesIn, sheetOf}
 use Rattle.sheets.specs.Order.{verdictOf}
 use Rattle.sheets.specs.WellFormed.{Each}

@@ -3,7 +3,7 @@ use mathlib.Core.Path.{_≡_, ap, _∙_}
 use mathlib.Core.List.{List}
 use Prim.Native.Nat.{ℕ, _≤_, _<_}
 use Rattle.columns.specs.Format.{mostLines}
-use Rattle.sheets.specs.declared.Verdict.the-variants.{Good}
+use Rattle.sheets.specs.declared.SheetVerdict.the-variants.{Good}
 use Rattle.sheets.specs.Sheet.{linesIn, sheetOf}
 use Rattle.sheets.specs.Order.{verdictOf}
 use Rattle.sheets.proofs.Sheets.{good-written}

@@ -17,7 +17,7 @@ use Rattle.records.specs.Flow.{lineCount}
 use Rattle.cards.specs.declared.Counts.{Counts}
 use Rattle.cards.specs.Cards.{total}
 use Rattle.cards.specs.Written.{lineOf, section, totalsOf, fileLines, fileOf, one}
-use Rattle.sheets.specs.declared.Verdict.the-variants.{Good}
+use Rattle.sheets.specs.declared.SheetVerdict.the-variants.{Good}
 use Rattle.sheets.specs.Sheet.{Line, Sheet, rowLines, linesOf, linesIn, sheetOf}
 use Rattle.sheets.specs.Order.{verdictOf}
 use Rattle.sheets.specs.WellFormed.{Each}

@@ -22,7 +22,7 @@ use Rattle.sheets.specs.Sheet.{linesIn}
 use Rattle.model.specs.Model.{Carried}
 use Rattle.model.specs.Canonical.{parameterText, blockOf, parameterLines}
 use Rattle.file_blocks.specs.Blocks.{behindValues, firstBegins, recordText, blockLines}
-use Rattle.file_canonical.specs.declared.Place.{Place}
+use Rattle.file_canonical.specs.declared.EntryPlace.{EntryPlace}
 use Rattle.file_canonical.specs.Laying.{carried, entriesIn, entriesAt, numberOf, directoryBytes, parameterBytes, Owing, OwingAt, bothLaid, Turn, Turned, valuesBehind, blockCount, labelBefore, EntryHasRoom, EntryLaid}
 use Rattle.file_canonical.proofs.Totals.{block-lines}
 use Rattle.file_canonical.proofs.Laying.{owing-less, owing-none}
@@ -60,7 +60,7 @@ module _ (o o′ : List ℕ) (k from d p d′ : ℕ) (c : Carried) (es : List Ca
       rw (← block-length from (numberOf k) c m w)
       (owing-less a b (directoryBytes (k + 1) (from + n) es) (parameterBytes (k + 1) (from + n) es) (record { bytes = rw (f, g); apart = rw f at h }) z)
 
-module _ (t : List ℕ) (x : Place) (k e : ℕ) (f : Fields) (u : Turn t x k) (s : EntryStands t (x .at) k e f) where
+module _ (t : List ℕ) (x : EntryPlace) (k e : ℕ) (f : Fields) (u : Turn t x k) (s : EntryStands t (x .at) k e f) where
   abbrev here : Carried
   here = carried f (labelBefore t e) (valuesBehind t e)
 
@@ -89,7 +89,7 @@ module _ (t : List ℕ) (x : Place) (k e : ℕ) (f : Fields) (u : Turn t x k) (s
     number = omega (arith, u .numbers, ap length (s .entries));
   }
 
-  module _ (o o′ : List ℕ) (y : Place) (w : EntryLaid o t x k e f o′ y) where
+  module _ (o o′ : List ℕ) (y : EntryPlace) (w : EntryLaid o t x k e f o′ y) where
     same : entriesAt t (y .at) ≡ later
     same = ap entriesIn (w .lines)
 
@@ -116,10 +116,10 @@ module _ (t : List ℕ) (x : Place) (k e : ℕ) (f : Fields) (u : Turn t x k) (s
 
 -- ---- what the functions are asked
 
-abbrev place : ℕ → ℕ → ℕ → ℕ → Place
+abbrev place : ℕ → ℕ → ℕ → ℕ → EntryPlace
 place at d p from = record { at = at; d = d; p = p; from = record { 0 = from } }
 
-pub entry-laid : {o o1 o2 : List ℕ} {next lines d number : ℕ} (t : List ℕ) (x : Place) (k end : ℕ) (f : Fields) → number ≡ numberOf k
+pub entry-laid : {o o1 o2 : List ℕ} {next lines d number : ℕ} (t : List ℕ) (x : EntryPlace) (k end : ℕ) (f : Fields) → number ≡ numberOf k
     → o1 ≡ laid o (x .p) (joined (section 80 (x .from .0) (blockLines number (f .entity .size) (valuesBehind t end))))
     → lines ≡ blockCount t end (f .entity .size)
     → linesIn (drop next t) ≡ behindValues (linesIn (drop (end + 1) t))
@@ -128,11 +128,11 @@ pub entry-laid : {o o1 o2 : List ℕ} {next lines d number : ℕ} (t : List ℕ)
     → EntryLaid o t x k end f o2 (place next d (x .p + 81 * lines) (x .from .0 + lines))
 entry-laid t x k end f n b c l i w = record { wrote = rw (← n, ← c, ← b) w; p = rw c; from = rw c; lines = l; inside = i }
 
-pub count-few : {lines : ℕ} (t : List ℕ) (x : Place) (k end typ : ℕ) → EntryHasRoom t x k end typ → lines ≡ blockCount t end typ → x .from .0 + lines ≤ 9999999
+pub count-few : {lines : ℕ} (t : List ℕ) (x : EntryPlace) (k end typ : ℕ) → EntryHasRoom t x k end typ → lines ≡ blockCount t end typ → x .from .0 + lines ≤ 9999999
 count-few t x k end typ f e = omega (arith, f .few)
 
 -- its directory number has room in its columns, and so has the one behind it
-module _ {number : ℕ} (t : List ℕ) (x : Place) (k end typ : ℕ) (f : EntryHasRoom t x k end typ) (e : number ≡ numberOf k) where
+module _ {number : ℕ} (t : List ℕ) (x : EntryPlace) (k end typ : ℕ) (f : EntryHasRoom t x k end typ) (e : number ≡ numberOf k) where
   pub number-few : number ≤ 9999999
   number-few = omega (arith, f .number)
 
@@ -141,7 +141,7 @@ module _ {number : ℕ} (t : List ℕ) (x : Place) (k end typ : ℕ) (f : EntryH
 
 pub ruleset entering = (entry-laid, count-few, number-few, number-next, wrote-length, length-laid)
 
-module _ (t : List ℕ) (x : Place) (k e : ℕ) (u : Turn t x k) (some : 0 < length (entriesAt t (x .at))) (en : e ≡ x .at + run 10 (drop (x .at) t)) (lo : x .at ≤ e) (hi : e ≤ length t) {y : EntryLine} (p : y ≡ entryOf (columns t (x .at) e)) where
+module _ (t : List ℕ) (x : EntryPlace) (k e : ℕ) (u : Turn t x k) (some : 0 < length (entriesAt t (x .at))) (en : e ≡ x .at + run 10 (drop (x .at) t)) (lo : x .at ≤ e) (hi : e ≤ length t) {y : EntryLine} (p : y ≡ entryOf (columns t (x .at) e)) where
   module _ {known : Bool} {n : Signed} {f : Fields} (g : y ≡ Got known n f) where
     read : EntryStands t (x .at) k e f
     read = entry-stands t (x .at) k e (u .rows) (u .lines) some en lo hi p g
@@ -149,24 +149,24 @@ module _ (t : List ℕ) (x : Place) (k e : ℕ) (u : Turn t x k) (some : 0 < len
     pub turn-fits : EntryHasRoom t x k e (f .entity .size)
     turn-fits = row-fits t x k e f u read
 
-    pub turn-turned : {o o′ : List ℕ} {z : Place} → EntryLaid o t x k e f o′ z → Turned o t x k o′ z
+    pub turn-turned : {o o′ : List ℕ} {z : EntryPlace} → EntryLaid o t x k e f o′ z → Turned o t x k o′ z
     turn-turned {o} {o′} {z} w = row-turned t x k e f u read o o′ z w
 
-  pub turn-never : {o o′ : List ℕ} {z : Place} → y ≡ Wrong → Turned o t x k o′ z
+  pub turn-never : {o o′ : List ℕ} {z : EntryPlace} → y ≡ Wrong → Turned o t x k o′ z
   turn-never g = absurd (entry-never t (x .at) k e (u .rows) (u .lines) some en lo hi p g)
 
-pub turn-inside : (t : List ℕ) (x : Place) (k : ℕ) → Turn t x k → x .at ≤ length t
+pub turn-inside : (t : List ℕ) (x : EntryPlace) (k : ℕ) → Turn t x k → x .at ≤ length t
 turn-inside t x k u = u .inside
 
 pub ruleset turning = (turn-fits, turn-turned, turn-never, turn-inside)
 
 -- ---- all entries: o is the answer
 
-module _ (t : List ℕ) (x : Place) (k n : ℕ) (c : k + length (entriesAt t (x .at)) ≡ n) where
+module _ (t : List ℕ) (x : EntryPlace) (k n : ℕ) (c : k + length (entriesAt t (x .at)) ≡ n) where
   pub rows-some : k < n → 0 < length (entriesAt t (x .at))
   rows-some h = omega arith
 
-  pub rows-less : {o o′ : List ℕ} {y : Place} → Turned o t x k o′ y → k + 1 + length (entriesAt t (y .at)) ≡ n
+  pub rows-less : {o o′ : List ℕ} {y : EntryPlace} → Turned o t x k o′ y → k + 1 + length (entriesAt t (y .at)) ≡ n
   rows-less w = omega (arith, w .left)
 
   pub rows-all : {o o′ : List ℕ} → OwingAt o o′ t x k → n ≤ k → o′ ≡ o
@@ -178,13 +178,13 @@ module _ (t : List ℕ) (x : Place) (k n : ℕ) (c : k + length (entriesAt t (x 
       empty [] q = refl
       empty (x ∷ es) q = absurd (omega arith)
 
-pub rows-turn : {o t o′ : List ℕ} {x y : Place} {k : ℕ} → Turned o t x k o′ y → Turn t y (k + 1)
+pub rows-turn : {o t o′ : List ℕ} {x y : EntryPlace} {k : ℕ} → Turned o t x k o′ y → Turn t y (k + 1)
 rows-turn w = w .next
 
-pub rows-owing : {a o t o′ : List ℕ} {x y : Place} {k : ℕ} → OwingAt a o t x k → Turned o t x k o′ y → OwingAt a o′ t y (k + 1)
+pub rows-owing : {a o t o′ : List ℕ} {x y : EntryPlace} {k : ℕ} → OwingAt a o t x k → Turned o t x k o′ y → OwingAt a o′ t y (k + 1)
 rows-owing v w = record { bytes = v .bytes ∙ w .owing .bytes; apart = w .owing .apart }
 
-pub rows-start : (o t : List ℕ) (x : Place) → Turn t x 0 → OwingAt (bothLaid o t x 0) o t x 0
+pub rows-start : (o t : List ℕ) (x : EntryPlace) → Turn t x 0 → OwingAt (bothLaid o t x 0) o t x 0
 rows-start o t x u = record { bytes = refl; apart = u .apart }
 
 length-both : (o : List ℕ) (d : ℕ) (ds : List ℕ) (q : ℕ) (ps : List ℕ) → length (laid (laid o d ds) q ps) ≡ length o

@@ -24,7 +24,7 @@ use Rattle.model.specs.Model.{Carried}
 use Rattle.model.specs.Canonical.{globalText, directoryLines, parameterLines}
 use Rattle.file_blocks.specs.Blocks.{behindValues, Unbroken, itemsFirst, itemsAt, globalsFirst, behindGlobals}
 use Rattle.file_blocks.specs.Blocks.{globalBytes, recordText, blockLines}
-use Rattle.file_canonical.specs.declared.Place.{Place}
+use Rattle.file_canonical.specs.declared.EntryPlace.{EntryPlace}
 
 -- ---- S
 
@@ -98,17 +98,17 @@ pub record Owing (o o′ : List ℕ) (d : ℕ) (ds : List ℕ) (q : ℕ) (ps : L
   pub apart : d + length ds ≤ q
 
 -- what is owed for the entries from a place on
-abbrev pub OwingAt : List ℕ → List ℕ → List ℕ → Place → ℕ → Type 0
+abbrev pub OwingAt : List ℕ → List ℕ → List ℕ → EntryPlace → ℕ → Type 0
 OwingAt o o′ t x k =
     Owing o o′ (x .d) (directoryBytes k (x .from .0) (entriesAt t (x .at))) (x .p) (parameterBytes k (x .from .0) (entriesAt t (x .at)))
 
 -- all of it laid
-abbrev pub bothLaid : List ℕ → List ℕ → Place → ℕ → List ℕ
+abbrev pub bothLaid : List ℕ → List ℕ → EntryPlace → ℕ → List ℕ
 bothLaid o t x k =
     laid (laid o (x .d) (directoryBytes k (x .from .0) (entriesAt t (x .at)))) (x .p) (parameterBytes k (x .from .0) (entriesAt t (x .at)))
 
 -- the entries from entry k on stand at a place, and their lines have room
-pub record Turn (t : List ℕ) (x : Place) (k : ℕ) : Type 0 where
+pub record Turn (t : List ℕ) (x : EntryPlace) (k : ℕ) : Type 0 where
   pub rows : List Row
   pub lines : linesAt t (x .at) ≡ rowLines k rows
   pub inside : x .at ≤ length t
@@ -118,7 +118,7 @@ pub record Turn (t : List ℕ) (x : Place) (k : ℕ) : Type 0 where
   pub numbers : 2 * k + 2 * length (entriesAt t (x .at)) ≤ 9999998
 
 -- entry k is laid, and y is where the next one stands
-pub record Turned (o t : List ℕ) (x : Place) (k : ℕ) (o′ : List ℕ) (y : Place) : Type 0 where
+pub record Turned (o t : List ℕ) (x : EntryPlace) (k : ℕ) (o′ : List ℕ) (y : EntryPlace) : Type 0 where
   pub next : Turn t y (k + 1)
   pub left : length (entriesAt t (x .at)) ≡ suc (length (entriesAt t (y .at)))
   pub owing : OwingAt (bothLaid o t x k) o′ t y (k + 1)
@@ -138,7 +138,7 @@ abbrev pub labelBefore : List ℕ → ℕ → List ℕ
 labelBefore t end = take (end - (end - fieldColumns)) (drop (end - fieldColumns) t)
 
 -- its line is whole, and its D and P lines have room where they come
-pub record EntryHasRoom (t : List ℕ) (x : Place) (k end typ : ℕ) : Type 0 where
+pub record EntryHasRoom (t : List ℕ) (x : EntryPlace) (k end typ : ℕ) : Type 0 where
   pub low : fieldColumns ≤ end
   pub high : end < length t
   pub small : typ ≤ mostInteger
@@ -150,7 +150,7 @@ pub record EntryHasRoom (t : List ℕ) (x : Place) (k end typ : ℕ) : Type 0 wh
   pub number : 2 * k + 2 ≤ 9999999
 
 -- they are laid, and y is where the next entry stands
-pub record EntryLaid (o t : List ℕ) (x : Place) (k end : ℕ) (f : Fields) (o′ : List ℕ) (y : Place) : Type 0 where
+pub record EntryLaid (o t : List ℕ) (x : EntryPlace) (k end : ℕ) (f : Fields) (o′ : List ℕ) (y : EntryPlace) : Type 0 where
   pub wrote :
       Wrote (laid o (x .p) (joined (section letterP (x .from .0) (blockLines (numberOf k) (f .entity .size) (valuesBehind t end))))) (x .d)
       (joined (section letterD (numberOf k) (entryLines f (x .from .0) (blockCount t end (f .entity .size)) (labelBefore t end)))) o′ (y .d)

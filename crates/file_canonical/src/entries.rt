@@ -1,5 +1,5 @@
 // The D and P lines, entry by entry: D lines in their section, P lines in theirs.
-use crate::Place;
+use crate::EntryPlace;
 use columns::ParameterLine;
 use columns::format::FIELD_COLUMNS;
 use columns::format::LINE_BYTES;
@@ -15,7 +15,14 @@ ghost use lib.ListN.{length};
 ghost use Rattle.file_canonical.specs.Laying.{entriesAt, bothLaid, Turn, Turned, EntryHasRoom, EntryLaid};
 
 // Lays the lines of entry k, whose line ends at `end` and has these numbers: the values behind it tell how many P lines it has.
-fn put_entry(out: &mut [u8], t: &[u8], x: Place, k: usize, end: usize, fields: Fields) -> Place
+fn put_entry(
+    out: &mut [u8],
+    t: &[u8],
+    x: EntryPlace,
+    k: usize,
+    end: usize,
+    fields: Fields,
+) -> EntryPlace
     requires { ⌜ EntryHasRoom (now t) x k end (fields .entity .size) ⌝ }
     ensures { λ r. ⌜ EntryLaid (now (out .entry)) (now (t .entry)) x k end fields (now (out .exit)) r ⌝ }
 {
@@ -26,7 +33,7 @@ fn put_entry(out: &mut [u8], t: &[u8], x: Place, k: usize, end: usize, fields: F
     let lines = b.lines as u32;
     let label = end - FIELD_COLUMNS;
     let d = put_entry_lines(out, x.d, fields, from, lines, &t[label..end], number);
-    Place {
+    EntryPlace {
         at: b.next,
         d,
         p: x.p + LINE_BYTES * b.lines,
@@ -35,7 +42,7 @@ fn put_entry(out: &mut [u8], t: &[u8], x: Place, k: usize, end: usize, fields: F
 }
 
 // Lays the lines of entry k.
-fn put_row(out: &mut [u8], t: &[u8], x: Place, k: usize) -> Place
+fn put_row(out: &mut [u8], t: &[u8], x: EntryPlace, k: usize) -> EntryPlace
     requires { ⌜ Turn (now t) x k × (0 < length (entriesAt (now t) (x .at))) ⌝ }
     ensures { λ r. ⌜ Turned (now (out .entry)) (now (t .entry)) x k (now (out .exit)) r ⌝ }
 {
@@ -48,7 +55,7 @@ fn put_row(out: &mut [u8], t: &[u8], x: Place, k: usize) -> Place
 }
 
 // Lays the lines of all n entries.
-pub fn put_rows(out: &mut [u8], t: &[u8], x: Place, n: usize)
+pub fn put_rows(out: &mut [u8], t: &[u8], x: EntryPlace, n: usize)
     requires { ⌜ Turn (now t) x 0 × (length (entriesAt (now t) (x .at)) ≡ n) ⌝ }
     ensures { λ _. ⌜ now (out .exit) ≡ bothLaid (now (out .entry)) (now (t .entry)) x 0 ⌝ }
 {

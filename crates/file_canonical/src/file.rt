@@ -1,5 +1,5 @@
 // The canonical file of a sheet: S, G, D and P lines and the T line, laid over a lent buffer and clipped to it.
-use crate::Place;
+use crate::EntryPlace;
 use crate::entries::put_rows;
 use crate::starts::put_starts;
 use cards::Counts;
@@ -13,7 +13,7 @@ ghost use Prim.Native.Nat.{_*_};
 ghost use Rattle.columns.specs.Laid.{Wrote};
 ghost use Rattle.columns.specs.Format.{lineBytes};
 ghost use Rattle.cards.specs.Cards.{total};
-ghost use Rattle.sheets.specs.declared.Verdict.the-variants.{Good};
+ghost use Rattle.sheets.specs.declared.SheetVerdict.the-variants.{Good};
 ghost use Rattle.sheets.specs.Sheet.{linesIn, sheetOf};
 ghost use Rattle.sheets.specs.Order.{verdictOf};
 ghost use Rattle.sheets.specs.WellFormed.{Each};
@@ -43,7 +43,7 @@ fn put_sections(out: &mut [u8], t: &[u8], c: Counts, n: usize) -> usize
     let directory = texts + wide(c.d);
     let end = directory + wide(c.p);
     let at = put_texts(out, t, s);
-    let x = Place {
+    let x = EntryPlace {
         at,
         d: LINE_BYTES * texts,
         p: LINE_BYTES * directory,

@@ -25,7 +25,7 @@ pub enum Lines {
 }
 
 // Where the next entry stands: its line on the sheet, its D and P lines in the file, and the number of its first P line.
-pub struct Place {
+pub struct EntryPlace {
     pub at: usize,
     pub d: usize,
     pub p: usize,

@@ -14,8 +14,8 @@ use Rattle.columns.specs.declared.Fault.the-variants.{Layout as LayoutFault, La
 use Rattle.columns.specs.Refusal.{Outcome, accepted, refused, _then_}
 use Rattle.columns.specs.Format.{mostList}
 use Rattle.columns.proofs.Stops.{Stops, here, later, not-both}
-use Rattle.layouts.specs.declared.Verdict.{Verdict}
-use Rattle.layouts.specs.declared.Verdict.the-variants.{Good, Layout, LayoutReference}
+use Rattle.layouts.specs.declared.LayoutVerdict.{LayoutVerdict}
+use Rattle.layouts.specs.declared.LayoutVerdict.the-variants.{Good, Layout, LayoutReference}
 use Rattle.layouts.specs.Layout.{paper, bitOf}
 use Rattle.layouts.specs.Known.{bit, known, Inside}
 use Rattle.layouts.specs.Entities.{Entity, fault, verdict, marks, entityCheck}
@@ -107,12 +107,12 @@ module _ {E A B : Type 0} (takes : E → ℕ) (f : ℕ → E → Outcome A) (g :
 -- ---- the last pass under two lists
 
 module _ (types : List ℕ) (list more : ℕ) (inside : Inside list more) where
-  fault-late : (v : Verdict) (p : ℕ) → Added (accepted (tt {0})) (fault v p)
+  fault-late : (v : LayoutVerdict) (p : ℕ) → Added (accepted (tt {0})) (fault v p)
   fault-late Good p = fine tt tt
   fault-late Layout p = added tt LayoutFault p (inl refl)
   fault-late LayoutReference p = added tt LayoutReferenceFault p (inr refl)
 
-  fault-alike : (v : Verdict) (p : ℕ) → Added (fault v p) (fault v p)
+  fault-alike : (v : LayoutVerdict) (p : ℕ) → Added (fault v p) (fault v p)
   fault-alike Good p = fine tt tt
   fault-alike Layout p = alike LayoutFault p
   fault-alike LayoutReference p = alike LayoutReferenceFault p

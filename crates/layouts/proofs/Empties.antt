@@ -8,8 +8,8 @@ use lib.Dec.{eqb, ltb}
 use borrow.Author.Tests.{eqb-true, eqb-false, ltb-true, ltb-false}
 use Rattle.layouts.specs.declared.Times.{Times}
 use Rattle.layouts.specs.declared.Times.the-variants.{Fixed, N, Knots1, Knots2, C, ThreeC}
-use Rattle.layouts.specs.declared.Place.{Place}
-use Rattle.layouts.specs.declared.State.{State}
+use Rattle.layouts.specs.declared.LayoutPlace.{LayoutPlace}
+use Rattle.layouts.specs.declared.LayoutState.{LayoutState}
 use Rattle.layouts.specs.Layout.{paper}
 use Rattle.layouts.specs.Table.{table, placeAt}
 use Rattle.layouts.specs.Machine.{times, stand, enter, beyond, settle}
@@ -25,7 +25,7 @@ mayLack Knots2 = false
 mayLack C = false
 mayLack ThreeC = false
 
-pub some : (t : Times) (s : State) → mayLack t ≡ false → 1 ≤ times t s
+pub some : (t : Times) (s : LayoutState) → mayLack t ≡ false → 1 ≤ times t s
 some (Fixed n) s e = let z = eqb-false n 0 e in omega arith
 some N s e = absurd (false≢true (sym e))
 some Knots1 s e = omega arith
@@ -52,10 +52,10 @@ lone-gap i e = go (ltb i 116) refl
 
     go : (b : Bool) → ltb i 116 ≡ b → mayLack (placeAt (i + 1) .times) ≡ false
     go true h = second (mayLack (placeAt i .times)) (mayLack (placeAt (i + 1) .times)) e (upTo-at 116 apart i all-apart (ltb-true i 116 h))
-    go false h = absurd (false≢true (ap (λ (p : Place). mayLack (p .times)) (sym (past i (ltb-false i 116 h))) ∙ e))
+    go false h = absurd (false≢true (ap (λ (p : LayoutPlace). mayLack (p .times)) (sym (past i (ltb-false i 116 h))) ∙ e))
 
 -- no times: so there may be none
-lacking : (t : Times) (s : State) → times t s ≡ 0 → mayLack t ≡ true
+lacking : (t : Times) (s : LayoutState) → times t s ≡ 0 → mayLack t ≡ true
 lacking t s e = go (mayLack t) refl
   where
     go : (b : Bool) → mayLack t ≡ b → b ≡ true
@@ -63,21 +63,21 @@ lacking t s e = go (mayLack t) refl
     go false h = let z = some t s h in absurd (omega arith)
 
 -- what `settle` comes to behind an empty place is not empty
-next-some : (u : State) → times (placeAt (u .at) .times) u ≡ 0 → 1 ≤ beyond (enter u) .left
+next-some : (u : LayoutState) → times (placeAt (u .at) .times) u ≡ 0 → 1 ≤ beyond (enter u) .left
 next-some u e = rw (← follow-next (placeAt (u .at) .next) (enter u)) (some (placeAt (u .at + 1) .times) (stand u (u .at + 1) 0) (lone-gap (u .at) (lacking (placeAt (u .at) .times) u e)))
 
 -- where there is none of a place, it settles where it would at the next
-pub settle-on : (u : State) → times (placeAt (u .at) .times) u ≡ 0 → settle (enter u) ≡ settle (enter (stand u (u .at + 1) 0))
+pub settle-on : (u : LayoutState) → times (placeAt (u .at) .times) u ≡ 0 → settle (enter u) ≡ settle (enter (stand u (u .at + 1) 0))
 settle-on u e =
     let h = next-some u e in
     sym (settle-past (enter u) (beyond (enter u)) e refl) ∙ settle-here (beyond (enter u)) (λ z. omega arith)
-    ∙ ap (λ (x : State). settle (enter x)) (sym (follow-next (placeAt (u .at) .next) (enter u)))
+    ∙ ap (λ (x : LayoutState). settle (enter x)) (sym (follow-next (placeAt (u .at) .next) (enter u)))
 
-pub settle-stays : (u : State) → 1 ≤ times (placeAt (u .at) .times) u → settle (enter u) ≡ enter u
+pub settle-stays : (u : LayoutState) → 1 ≤ times (placeAt (u .at) .times) u → settle (enter u) ≡ enter u
 settle-stays u h = sym (settle-here (enter u) (λ z. omega arith))
 
 -- wherever it settles, a value is to come: `settle` never has a second empty place to pass
-pub settled : (u : State) → 1 ≤ settle (enter u) .left
+pub settled : (u : LayoutState) → 1 ≤ settle (enter u) .left
 settled u = go (eqb (times (placeAt (u .at) .times) u) 0) refl
   where
     go : (b : Bool) → eqb (times (placeAt (u .at) .times) u) 0 ≡ b → 1 ≤ settle (enter u) .left

@@ -11,9 +11,9 @@ use Rattle.columns.specs.Refusal.{accepted}
 use Rattle.values.specs.declared.Value.{Value}
 use Rattle.values.specs.declared.Value.the-variants.{Default}
 use Rattle.values.specs.Value.{Item, default, seen}
-use Rattle.layouts.specs.declared.Place.{Place}
-use Rattle.layouts.specs.declared.Verdict.{Verdict}
-use Rattle.layouts.specs.declared.Verdict.the-variants.{Good, Layout, LayoutReference}
+use Rattle.layouts.specs.declared.LayoutPlace.{LayoutPlace}
+use Rattle.layouts.specs.declared.LayoutVerdict.{LayoutVerdict}
+use Rattle.layouts.specs.declared.LayoutVerdict.the-variants.{Good, Layout, LayoutReference}
 use Rattle.layouts.specs.Layout.{groups}
 use Rattle.layouts.specs.Known.{known}
 use Rattle.layouts.specs.Fits.{Ask, nothing, suits, refersWell, Counts, none, counted, many, ask, valueAt, Asks, close, spelled, placesOf, asked, askAt, Fits, Fails, Refers, Misrefers, Keeps}
@@ -81,7 +81,7 @@ module _ (types : List ℕ) (e : Entity) where
   refers-iff = everywhere-iff (refersWell types) refl (asked e) (e .values)
 
   -- by whether all values suit and all references are good
-  abbrev Says : Verdict → Bool → Bool → Type 0
+  abbrev Says : LayoutVerdict → Bool → Bool → Type 0
   Says Good suit refer = (suit ≡ true) × (refer ≡ true)
   Says Layout suit refer = suit ≡ false
   Says LayoutReference suit refer = (suit ≡ true) × (refer ≡ false)
@@ -124,7 +124,7 @@ module _ (types : List ℕ) (e : Entity) where
         by true h = let k = h refl in rw (good-iff .1 (k .fits, k .refers))
         by false h = refl
 
-    fault-good : (w : Verdict) (u : Unit {0}) → fault w place ≡ accepted u → w ≡ Good
+    fault-good : (w : LayoutVerdict) (u : Unit {0}) → fault w place ≡ accepted u → w ≡ Good
     fault-good Good u h = refl
     fault-good Layout u h = let z : _≡_ {A = ℕ} 0 1 = cc in absurd (omega arith)
     fault-good LayoutReference u h = let z : _≡_ {A = ℕ} 0 1 = cc in absurd (omega arith)
@@ -142,7 +142,7 @@ Same vs ws = (i : ℕ) → valueAt vs i ≡ valueAt ws i
 same-drop : (n : ℕ) (vs ws : List Item) → Same vs ws → Same (drop n vs) (drop n ws)
 same-drop n vs ws s i = ap seen (getD-drop n vs i default) ∙ s (n + i) ∙ sym (ap seen (getD-drop n ws i default))
 
-spelled-same : (ps : List Place) (more : Asks) → ((c : Counts) (vs ws : List Item) → Same vs ws → more c vs ≡ more c ws)
+spelled-same : (ps : List LayoutPlace) (more : Asks) → ((c : Counts) (vs ws : List Item) → Same vs ws → more c vs ≡ more c ws)
     → (c : Counts) (vs ws : List Item) → Same vs ws → spelled ps more c vs ≡ spelled ps more c ws
 spelled-same [] more h c vs ws s = h c vs ws s
 spelled-same (p ∷ ps) more h c vs ws s =

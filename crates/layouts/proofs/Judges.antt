@@ -9,12 +9,12 @@ use borrow.Author.Tests.{eqb-false, ne-eqb}
 use Rattle.layouts.specs.declared.Kind.{Kind}
 use Rattle.layouts.specs.declared.Kind.the-variants.{R, Given, Weight, S, I, Flag, Count, Outer, Upper1, Upper2, Degree1, Degree2, P, Q, Bound, Rest}
 use Rattle.layouts.specs.declared.Times.the-variants.{Fixed}
-use Rattle.layouts.specs.declared.Place.{Place}
-use Rattle.layouts.specs.declared.State.{State}
+use Rattle.layouts.specs.declared.LayoutPlace.{LayoutPlace}
+use Rattle.layouts.specs.declared.LayoutState.{LayoutState}
 use Rattle.layouts.specs.declared.Stepped.{Stepped}
 use Rattle.layouts.specs.declared.Stepped.the-variants.{Go, Bad}
-use Rattle.layouts.specs.declared.Verdict.{Verdict}
-use Rattle.layouts.specs.declared.Verdict.the-variants.{Layout}
+use Rattle.layouts.specs.declared.LayoutVerdict.{LayoutVerdict}
+use Rattle.layouts.specs.declared.LayoutVerdict.the-variants.{Layout}
 use Rattle.values.specs.declared.Value.{Value}
 use Rattle.values.specs.declared.Value.the-variants.{Default, Whole, Real, Text}
 use Rattle.values.specs.Value.{Item, seen, isMissing}
@@ -46,25 +46,25 @@ both false true true suits refers = refl
 both false true false suits refers = refl
 
 -- moving on forgets no wrong reference
-settle-bad : (u : State) → settle (enter u) .bad ≡ u .bad
+settle-bad : (u : LayoutState) → settle (enter u) .bad ≡ u .bad
 unfolding settle
 settle-bad u = go (eqb (enter u .left) 0)
   where
     go : (t : Bool) → ifEmpty t (beyond (enter u)) (enter u) .bad ≡ u .bad
-    go true = ap (λ (s : State). s .bad) (sym (follow-next (placeAt (u .at) .next) (enter u)))
+    go true = ap (λ (s : LayoutState). s .bad) (sym (follow-next (placeAt (u .at) .next) (enter u)))
     go false = refl
 
-onward-bad : (s : State) → onward s .bad ≡ s .bad
+onward-bad : (s : LayoutState) → onward s .bad ≡ s .bad
 unfolding onward
 onward-bad s = go (ltb 1 (s .left))
   where
     go : (t : Bool) → cond t (standing (s .at) (s .left - 1) (countsOf s) (s .bad)) (settle (beyond s)) .bad ≡ s .bad
     go true = refl
-    go false = settle-bad (follow (placeAt (s .at) .next) s) ∙ ap (λ (s : State). s .bad) (sym (follow-next (placeAt (s .at) .next) s))
+    go false = settle-bad (follow (placeAt (s .at) .next) s) ∙ ap (λ (s : LayoutState). s .bad) (sym (follow-next (placeAt (s .at) .next) s))
 
 module _ (types : List ℕ) where
   -- what is said of places and values; b: a reference was wrong before
-  abbrev said : Bool → List Ask → List Item → Verdict
+  abbrev said : Bool → List Ask → List Item → LayoutVerdict
   said b ps vs = cond (everywhere suits ps vs) (closed (b || not (everywhere (refersWell types) ps vs))) Layout
 
   -- ---- a place takes a value
@@ -103,18 +103,18 @@ module _ (types : List ℕ) where
     takes-is Rest v = plain (isMissing v) c
 
   -- a step at a place, and at the rest
-  step-takes : (s : State) (v : Value) → rests (kindAt s) ≡ false → step s v (named types v) ≡ moved false (need (suits (ask (kindAt s) (countsOf s)) v) (taken types s v))
+  step-takes : (s : LayoutState) (v : Value) → rests (kindAt s) ≡ false → step s v (named types v) ≡ moved false (need (suits (ask (kindAt s) (countsOf s)) v) (taken types s v))
   unfolding step
   step-takes s v r = ap₂ moved r (takes-is (s .at) (s .left) (countsOf s) (s .bad) (kindAt s) v)
 
-  step-rests : (s : State) (v : Value) → placeAt (s .at) ≡ Fixed 1 of Rest → step s v (named types v) ≡ moved true (need (isMissing v) s)
+  step-rests : (s : LayoutState) (v : Value) → placeAt (s .at) ≡ Fixed 1 of Rest → step s v (named types v) ≡ moved true (need (isMissing v) s)
   unfolding step takes
-  step-rests s v h = ap (λ (q : Place). moved (rests (q .kind)) (takes (q .kind) s v (named types v))) h
+  step-rests s v h = ap (λ (q : LayoutPlace). moved (rests (q .kind)) (takes (q .kind) s v (named types v))) h
 
   -- ---- the verdict
 
   -- one value more, or a default where none is left
-  unroll : (s : State) (vs : List Item) → verdictFrom types (Go s) vs ≡ verdictFrom types (step s (valueAt vs 0) (named types (valueAt vs 0))) (drop 1 vs)
+  unroll : (s : LayoutState) (vs : List Item) → verdictFrom types (Go s) vs ≡ verdictFrom types (step s (valueAt vs 0) (named types (valueAt vs 0))) (drop 1 vs)
   unfolding verdictFrom run named
   unroll s [] = sym (trailing s)
   unroll s (v ∷ vs) = refl
@@ -124,10 +124,10 @@ module _ (types : List ℕ) where
   lost [] = refl
   lost (v ∷ vs) = lost vs
 
-  rests-on : (s : State) → placeAt (s .at) ≡ Fixed 1 of Rest → (vs : List Item) → verdictFrom types (Go s) vs ≡ said (s .bad) [] vs
+  rests-on : (s : LayoutState) → placeAt (s .at) ≡ Fixed 1 of Rest → (vs : List Item) → verdictFrom types (Go s) vs ≡ said (s .bad) [] vs
   unfolding verdictFrom run end finish takes everywhere
   rests-on s h [] =
-      ap (λ (q : Place). after (rests (q .kind)) (takes (q .kind) s Default 0) (λ (t : State). finish 15 (settle (beyond t)))) h ∙ ap closed (sym (or-false (s .bad)))
+      ap (λ (q : LayoutPlace). after (rests (q .kind)) (takes (q .kind) s Default 0) (λ (t : LayoutState). finish 15 (settle (beyond t)))) h ∙ ap closed (sym (or-false (s .bad)))
   rests-on s h (v ∷ vs) = ap (λ (g : Stepped). verdictFrom types g vs) (step-rests s (seen v) h) ∙ go (isMissing (seen v)) (rests-on s h vs)
     where
       go : (t : Bool) → verdictFrom types (Go s) vs ≡ said (s .bad) [] vs
@@ -142,7 +142,7 @@ module _ (types : List ℕ) where
   said-next b a ps [] = both b (suits a Default) (refersWell types a Default) (everywhere suits ps []) (everywhere (refersWell types) ps [])
   said-next b a ps (v ∷ vs) = both b (suits a (seen v)) (refersWell types a (seen v)) (everywhere suits ps vs) (everywhere (refersWell types) ps vs)
 
-  pub goes-verdict : (ps : List Ask) (s : State) (vs : List Item) → Goes types s vs ps → verdictFrom types (Go s) vs ≡ said (s .bad) ps vs
+  pub goes-verdict : (ps : List Ask) (s : LayoutState) (vs : List Item) → Goes types s vs ps → verdictFrom types (Go s) vs ≡ said (s .bad) ps vs
   goes-verdict [] s vs h = rests-on s h vs
   goes-verdict (a ∷ ps) s vs h =
       let v = valueAt vs 0 in
@@ -152,7 +152,7 @@ module _ (types : List ℕ) where
       ∙ ap (λ (x : Ask). cond (suits x v) (said (s .bad || not (refersWell types x v)) ps (drop 1 vs)) Layout) (h .0)
       ∙ said-next (s .bad) a ps vs
     where
-      go : (b : Bool) (t : State) → verdictFrom types (Go (onward t)) (drop 1 vs) ≡ said (t .bad) ps (drop 1 vs)
+      go : (b : Bool) (t : LayoutState) → verdictFrom types (Go (onward t)) (drop 1 vs) ≡ said (t .bad) ps (drop 1 vs)
           → verdictFrom types (moved false (need b t)) (drop 1 vs) ≡ cond b (said (t .bad) ps (drop 1 vs)) Layout
       go true t ih = ih
       go false t ih = lost (drop 1 vs)
@@ -177,11 +177,11 @@ module _ (types : List ℕ) where
   refers-is (Bound want) c = refl
   refers-is Rest c = refl
 
-  pub goes-marks : (ps : List Ask) (s : State) (vs : List Item) → Goes types s vs ps → ((i : ℕ) → suits (askAt ps i) (valueAt vs i) ≡ true) → marksFrom types (Go s) vs ≡ referencePlaces ps vs
+  pub goes-marks : (ps : List Ask) (s : LayoutState) (vs : List Item) → Goes types s vs ps → ((i : ℕ) → suits (askAt ps i) (valueAt vs i) ≡ true) → marksFrom types (Go s) vs ≡ referencePlaces ps vs
   unfolding marksFrom referencePlaces
   goes-marks ps s [] h f = refl
   goes-marks [] s (v ∷ vs) h f =
-      ap₂ (λ (b : Bool) (l : List Bool). b ∷ l) (ap (λ (q : Place). refers (q .kind)) h)
+      ap₂ (λ (b : Bool) (l : List Bool). b ∷ l) (ap (λ (q : LayoutPlace). refers (q .kind)) h)
       (ap (λ (g : Stepped). marksFrom types g vs) (step-rests s (seen v) h ∙ ap (λ (b : Bool). moved true (need b s)) (f 0)) ∙ goes-marks [] s vs h (λ i. f (suc i)))
   goes-marks (a ∷ ps) s (v ∷ vs) h f =
       ap₂ (λ (b : Bool) (l : List Bool). b ∷ l) (refers-is (kindAt s) (countsOf s) ∙ ap isReference (h .0))

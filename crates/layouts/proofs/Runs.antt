@@ -9,7 +9,7 @@ use Rattle.values.specs.declared.Value.the-variants.{Default, Whole, Real, Text
 use Rattle.values.specs.Value.{Item, seen, itemOf}
 use Rattle.layouts.specs.declared.Kind.{Kind}
 use Rattle.layouts.specs.declared.Kind.the-variants.{R, Given, Weight, S, I, Flag, Count, Outer, Upper1, Upper2, Degree1, Degree2, P, Q, Bound, Rest}
-use Rattle.layouts.specs.declared.State.{State}
+use Rattle.layouts.specs.declared.LayoutState.{LayoutState}
 use Rattle.layouts.specs.declared.Stepped.{Stepped}
 use Rattle.layouts.specs.declared.Stepped.the-variants.{Go, Bad}
 use Rattle.layouts.specs.Named.{named}
@@ -18,7 +18,7 @@ use Rattle.layouts.specs.Walk.{stepped, feed, run, marksFrom}
 
 -- ---- where a string stands, and how long it is, says nothing
 
-takes-text : (k : Kind) (s : State) (class a b c d : ℕ) → takes k s (Text a b) class ≡ takes k s (Text c d) class
+takes-text : (k : Kind) (s : LayoutState) (class a b c d : ℕ) → takes k s (Text a b) class ≡ takes k s (Text c d) class
 unfolding takes
 takes-text R s class a b c d = refl
 takes-text Given s class a b c d = refl
@@ -37,12 +37,12 @@ takes-text (Q want) s class a b c d = refl
 takes-text (Bound want) s class a b c d = refl
 takes-text Rest s class a b c d = refl
 
-pub step-text : (s : State) (class a b c d : ℕ) → step s (Text a b) class ≡ step s (Text c d) class
+pub step-text : (s : LayoutState) (class a b c d : ℕ) → step s (Text a b) class ≡ step s (Text c d) class
 unfolding step
 step-text s class a b c d = ap (moved (rests (kindAt s))) (takes-text (kindAt s) s class a b c d)
 
 -- a value that was read in the text t does what its item does, and names what it names
-pub step-seen : (t : List ℕ) (s : State) (v : Value) (class : ℕ) → step s (seen (itemOf t v)) class ≡ step s v class
+pub step-seen : (t : List ℕ) (s : LayoutState) (v : Value) (class : ℕ) → step s (seen (itemOf t v)) class ≡ step s v class
 step-seen t s Default class = refl
 step-seen t s (Whole neg n) class = refl
 step-seen t s (Real neg m eneg e double) class = refl

@@ -11,7 +11,7 @@ use types.Run.{OneOf}
 use lib.Dec.{eqb, ltb}
 use borrow.Author.Tests.{eqb-true, eqb-false, ltb-true, ltb-false, ne-eqb, lt-ltb, le-ltb}
 use Rattle.layouts.specs.Known.{bit, known}
-use Rattle.layouts.specs.declared.Place.{Place}
+use Rattle.layouts.specs.declared.LayoutPlace.{LayoutPlace}
 use Rattle.layouts.specs.declared.Kind.{Kind}
 use Rattle.layouts.specs.declared.Kind.the-variants.{Rest}
 use Rattle.layouts.specs.declared.Times.the-variants.{Fixed}
@@ -19,7 +19,7 @@ use Rattle.layouts.specs.Layout.{_of_, Row, paper, bitOf, seek}
 use Rattle.layouts.specs.Table.{table, placeAt}
 use Rattle.layouts.specs.Coded.{Shape, shapes, shapeIn, shapeOf, codes, letterAt, told}
 use Rattle.layouts.specs.Machine.{reals, refers, kindAt}
-use Rattle.layouts.specs.declared.State.{State}
+use Rattle.layouts.specs.declared.LayoutState.{LayoutState}
 
 -- a test that antt computes for each number below n
 abbrev pub upTo : ℕ → (ℕ → Bool) → Bool
@@ -42,7 +42,7 @@ pub table-length : length table ≡ 116
 unfolding table paper
 table-length = refl
 
-pub shape-is : (k j : ℕ) (p q : Place) → k ≡ j → p ≡ q → q ≡ shapeOf j → p ≡ shapeOf k
+pub shape-is : (k j : ℕ) (p q : LayoutPlace) → k ≡ j → p ≡ q → q ≡ shapeOf j → p ≡ shapeOf k
 shape-is k j p q e r h = r ∙ h ∙ ap shapeOf (sym e)
 
 -- what `rest` says of a match with these arms
@@ -59,7 +59,7 @@ shape-past [] k r h = refl
 shape-past (x ∷ xs) k r h =
     simp (ne-eqb k (x .letter) (none-first (map (λ (x : Shape). x .letter) xs) k (r × (k ≡ x .letter → ⊥)) h .1)) (shape-past xs k (r × (k ≡ x .letter → ⊥)) h)
 
-pub shape-none : (k : ℕ) (p : Place) → NoneOf (map (λ (x : Shape). x .letter) shapes) k Unit → p ≡ Fixed 1 of Rest → p ≡ shapeOf k
+pub shape-none : (k : ℕ) (p : LayoutPlace) → NoneOf (map (λ (x : Shape). x .letter) shapes) k Unit → p ≡ Fixed 1 of Rest → p ≡ shapeOf k
 unfolding shapeOf shapes
 shape-none k p h e = e ∙ shape-past shapes k Unit h
 
@@ -71,10 +71,10 @@ rest-shape : shapeOf 46 ≡ Fixed 1 of Rest
 unfolding shapeOf shapes
 rest-shape = refl
 
-pub looked : (i c : ℕ) (p : Place) → c ≡ letterAt i → p ≡ shapeOf c → p ≡ placeAt i
+pub looked : (i c : ℕ) (p : LayoutPlace) → c ≡ letterAt i → p ≡ shapeOf c → p ≡ placeAt i
 unfolding placeAt letterAt
 looked i c p e q =
-    q ∙ ap shapeOf e ∙ sym (List·getD-map shapeOf codes i 46) ∙ ap₂ (λ (t : List Place) (d : Place). getD t i d) coded rest-shape
+    q ∙ ap shapeOf e ∙ sym (List·getD-map shapeOf codes i 46) ∙ ap₂ (λ (t : List LayoutPlace) (d : LayoutPlace). getD t i d) coded rest-shape
 
 pub past : (i : ℕ) → 116 ≤ i → placeAt i ≡ Fixed 1 of Rest
 unfolding placeAt
@@ -199,7 +199,7 @@ all-told low high f e z i = pick (ltb i 128) refl
     pick true q = agree-is (told low high i) (f (placeAt i .kind)) (upTo-at 128 (λ (i : ℕ). agree (told low high i) (f (placeAt i .kind))) i e (ltb-true i 128 q))
     pick false q =
         let h = ltb-false i 128 q in
-        sym (told-none low high i (omega arith) h) ∙ sym z ∙ ap (λ (p : Place). f (p .kind)) (sym (past i (omega arith)))
+        sym (told-none low high i (omega arith) h) ∙ sym z ∙ ap (λ (p : LayoutPlace). f (p .kind)) (sym (past i (omega arith)))
 
 reals-told : (i : ℕ) → told 30400293984804865 70368760954880 i ≡ reals (placeAt i .kind)
 unfolding told placeAt table paper
@@ -212,7 +212,7 @@ references-told i = all-told 7277827994311363220 1453645242837802 refers refl re
 pub reals-are : (i : ℕ) (b : Bool) → b ≡ told 30400293984804865 70368760954880 i → b ≡ reals (placeAt i .kind)
 reals-are i b e = e ∙ reals-told i
 
-pub references-are : (s : State) (b : Bool) → b ≡ told 7277827994311363220 1453645242837802 (s .at) → b ≡ refers (kindAt s)
+pub references-are : (s : LayoutState) (b : Bool) → b ≡ told 7277827994311363220 1453645242837802 (s .at) → b ≡ refers (kindAt s)
 references-are s b e = e ∙ references-told (s .at)
 
 -- ---- the type list

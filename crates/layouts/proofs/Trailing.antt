@@ -14,9 +14,9 @@ use Rattle.layouts.specs.declared.Times.{Times}
 use Rattle.layouts.specs.declared.Times.the-variants.{Fixed, N, Knots1, Knots2, C, ThreeC}
 use Rattle.layouts.specs.declared.Then.{Then}
 use Rattle.layouts.specs.declared.Then.the-variants.{Next}
-use Rattle.layouts.specs.declared.Place.{Place}
+use Rattle.layouts.specs.declared.LayoutPlace.{LayoutPlace}
 use Rattle.values.specs.declared.Value.the-variants.{Default}
-use Rattle.layouts.specs.declared.State.{State}
+use Rattle.layouts.specs.declared.LayoutState.{LayoutState}
 use Rattle.layouts.specs.declared.Stepped.{Stepped}
 use Rattle.layouts.specs.declared.Stepped.the-variants.{Go, Bad}
 use Rattle.layouts.specs.Layout.{paper}
@@ -28,11 +28,11 @@ use Rattle.layouts.proofs.Steps.{not-rest, stays}
 
 -- ---- a default at a place that took one changes nothing
 
-abbrev state : Stepped → State → State
+abbrev state : Stepped → LayoutState → LayoutState
 state (Go t) s = t
 state Bad s = s
 
-never : {A : Type 0} (t : State) → Bad ≡ Go t → A
+never : {A : Type 0} (t : LayoutState) → Bad ≡ Go t → A
 never t e = let z : _≡_ {A = ℕ} 0 1 = cc in absurd (no z)
   where
     no : _≡_ {A = ℕ} 0 1 → ⊥
@@ -51,7 +51,7 @@ or-again true x = refl
 or-again false true = refl
 or-again false false = refl
 
-idle : (k : Kind) (s t : State) (i n : ℕ) → takes k s Default 0 ≡ Go t → takes k (stand t i n) Default 0 ≡ Go (stand t i n)
+idle : (k : Kind) (s t : LayoutState) (i n : ℕ) → takes k s Default 0 ≡ Go t → takes k (stand t i n) Default 0 ≡ Go (stand t i n)
 unfolding takes
 idle R s t i n e = refl
 idle Given s t i n e = never t e
@@ -63,8 +63,8 @@ idle (I low high) s t i n e = go (eqb low 0) e
     go true e = refl
     go false e = never t e
 idle Flag s t i n e = never t e
-idle Count s t i n e = ap (λ (x : State). Go (withK1 (stand t i n) (x .k1))) (ap (λ (g : Stepped). state g s) e)
-idle Outer s t i n e = ap (λ (x : State). Go (withK2 (stand t i n) (x .k2))) (ap (λ (g : Stepped). state g s) e)
+idle Count s t i n e = ap (λ (x : LayoutState). Go (withK1 (stand t i n) (x .k1))) (ap (λ (g : Stepped). state g s) e)
+idle Outer s t i n e = ap (λ (x : LayoutState). Go (withK2 (stand t i n) (x .k2))) (ap (λ (g : Stepped). state g s) e)
 idle Upper1 s t i n e = never t e
 idle Upper2 s t i n e = never t e
 idle Degree1 s t i n e = never t e
@@ -92,7 +92,7 @@ lone Knots2 = false
 lone C = false
 lone ThreeC = false
 
-lone-times : (t : Times) (s : State) → lone t ≡ true → times t s ≡ 1
+lone-times : (t : Times) (s : LayoutState) → lone t ≡ true → times t s ≡ 1
 lone-times (Fixed n) s e = eqb-true n 1 e
 lone-times N s e = absurd (false≢true e)
 lone-times Knots1 s e = absurd (false≢true e)
@@ -101,10 +101,10 @@ lone-times C s e = absurd (false≢true e)
 lone-times ThreeC s e = absurd (false≢true e)
 
 -- a number for each place that falls along every way that defaults can go
-abbrev from : Place → List ℕ → ℕ
+abbrev from : LayoutPlace → List ℕ → ℕ
 from p rs = cond (rests (p .kind)) 0 (suc (getD rs 0 0))
 
-abbrev ranks : List Place → List ℕ
+abbrev ranks : List LayoutPlace → List ℕ
 ranks [] = []
 ranks (p ∷ ps) = let rs = ranks ps in from p rs ∷ rs
 
@@ -158,7 +158,7 @@ module _ (i : ℕ) where
     where
       go : (b : Bool) → ltb i 116 ≡ b → lone (placeAt i .times) ≡ true
       go true h = if-so stop (lone (placeAt i .times)) e (and-both (not stop || lone (placeAt i .times)) (leb (rank i) 14) (and-both (stop || drops i (placeAt i .next)) _ (is-fair (ltb-true i 116 h)) .1) .0)
-      go false h = ap (λ (p : Place). lone (p .times)) (past i (ltb-false i 116 h))
+      go false h = ap (λ (p : LayoutPlace). lone (p .times)) (past i (ltb-false i 116 h))
 
   rank-low : rank i ≤ 14
   unfolding fair
@@ -168,14 +168,14 @@ module _ (i : ℕ) where
       go true h = leb-true (rank i) 14 (and-both (not stop || lone (placeAt i .times)) (leb (rank i) 14) (and-both (stop || drops i (placeAt i .next)) _ (is-fair (ltb-true i 116 h)) .1) .1)
       go false h = let z = rank-past i (ltb-false i 116 h) in omega arith
 
-follow-falls : (s : State) (x : Then) → drops (s .at) x ≡ true → rank (follow x s .at) < rank (s .at)
+follow-falls : (s : LayoutState) (x : Then) → drops (s .at) x ≡ true → rank (follow x s .at) < rank (s .at)
 unfolding drops
 follow-falls s Next e = ltb-true (rank (s .at + 1)) (rank (s .at)) e
 
-beyond-falls : (s : State) → rests (kindAt s) ≡ false → rank (beyond s .at) < rank (s .at)
+beyond-falls : (s : LayoutState) → rests (kindAt s) ≡ false → rank (beyond s .at) < rank (s .at)
 beyond-falls s e = follow-falls s (placeAt (s .at) .next) (falls (s .at) e)
 
-settle-falls : (u : State) → rank (settle (enter u) .at) ≤ rank (u .at)
+settle-falls : (u : LayoutState) → rank (settle (enter u) .at) ≤ rank (u .at)
 unfolding settle
 settle-falls u = go (eqb (times (placeAt (u .at) .times) u) 0) refl
   where
@@ -189,7 +189,7 @@ settle-falls u = go (eqb (times (placeAt (u .at) .times) u) 0) refl
 
 -- ---- more turns change nothing
 
-next-low : (s t : State) (n : ℕ) → rests (kindAt s) ≡ false → takes (kindAt s) s Default 0 ≡ Go t → rank (s .at) < suc n → rank (settle (beyond t) .at) < n
+next-low : (s t : LayoutState) (n : ℕ) → rests (kindAt s) ≡ false → takes (kindAt s) s Default 0 ≡ Go t → rank (s .at) < suc n → rank (settle (beyond t) .at) < n
 next-low s t n r e h =
     let q = stays (kindAt s) s t Default 0 e in
     let f : rests (kindAt t) ≡ false = ap (λ (i : ℕ). rests (placeAt i .kind)) q ∙ r in
@@ -198,19 +198,19 @@ next-low s t n r e h =
     let c : rank (t .at) ≡ rank (s .at) = ap rank q in
     omega arith
 
-stable : (n : ℕ) (s : State) → rank (s .at) < n → finish n s ≡ finish (suc n) s
+stable : (n : ℕ) (s : LayoutState) → rank (s .at) < n → finish n s ≡ finish (suc n) s
 unfolding finish
 stable zero s h = absurd (not-suc-le-zero h)
 stable (suc n) s h = go (rests (kindAt s)) (takes (kindAt s) s Default 0) refl refl (λ x. stable n x)
   where
-    go : (b : Bool) (g : Stepped) → rests (kindAt s) ≡ b → takes (kindAt s) s Default 0 ≡ g → ((x : State) → rank (x .at) < n → finish n x ≡ finish (suc n) x)
-        → after b g (λ (t : State). finish n (settle (beyond t))) ≡ after b g (λ (t : State). finish (suc n) (settle (beyond t)))
+    go : (b : Bool) (g : Stepped) → rests (kindAt s) ≡ b → takes (kindAt s) s Default 0 ≡ g → ((x : LayoutState) → rank (x .at) < n → finish n x ≡ finish (suc n) x)
+        → after b g (λ (t : LayoutState). finish n (settle (beyond t))) ≡ after b g (λ (t : LayoutState). finish (suc n) (settle (beyond t)))
     go b Bad r e ih = refl
     go true (Go t) r e ih = refl
     go false (Go t) r e ih = ih (settle (beyond t)) (next-low s t n r e h)
 
 -- the turns of `end` are enough: with any number more it says the same
-pub enough : (n : ℕ) (s : State) → finish (16 + n) s ≡ end s
+pub enough : (n : ℕ) (s : LayoutState) → finish (16 + n) s ≡ end s
 unfolding end
 enough zero s = refl
 enough (suc n) s =
@@ -219,38 +219,38 @@ enough (suc n) s =
 
 -- ---- a default more
 
-follow-stand : (x : Then) (t : State) (n : ℕ) → follow x (stand t (t .at) n) ≡ follow x t
+follow-stand : (x : Then) (t : LayoutState) (n : ℕ) → follow x (stand t (t .at) n) ≡ follow x t
 follow-stand Next t n = refl
 
-beyond-stand : (t : State) (n : ℕ) → beyond (stand t (t .at) n) ≡ beyond t
+beyond-stand : (t : LayoutState) (n : ℕ) → beyond (stand t (t .at) n) ≡ beyond t
 beyond-stand t n = ap enter (follow-stand (placeAt (t .at) .next) t n)
 
-finish-at : (n : ℕ) (s : State) (b : Bool) (g : Stepped) → rests (kindAt s) ≡ b → takes (kindAt s) s Default 0 ≡ g
-    → finish (suc n) s ≡ after b g (λ (t : State). finish n (settle (beyond t)))
+finish-at : (n : ℕ) (s : LayoutState) (b : Bool) (g : Stepped) → rests (kindAt s) ≡ b → takes (kindAt s) s Default 0 ≡ g
+    → finish (suc n) s ≡ after b g (λ (t : LayoutState). finish n (settle (beyond t)))
 unfolding finish
-finish-at n s b g r e = ap₂ (λ (x : Bool) (y : Stepped). after x y (λ (t : State). finish n (settle (beyond t)))) r e
+finish-at n s b g r e = ap₂ (λ (x : Bool) (y : Stepped). after x y (λ (t : LayoutState). finish n (settle (beyond t)))) r e
 
-pub trailing : (s : State) → ended (step s Default 0) ≡ end s
+pub trailing : (s : LayoutState) → ended (step s Default 0) ≡ end s
 unfolding step end onward
 trailing s = go (rests (kindAt s)) (takes (kindAt s) s Default 0) refl refl ∙ sym (finish-at 15 s (rests (kindAt s)) (takes (kindAt s) s Default 0) refl refl)
   where
-    same-kind : (t : State) (n : ℕ) → t .at ≡ s .at → kindAt (stand t (t .at) n) ≡ kindAt s
+    same-kind : (t : LayoutState) (n : ℕ) → t .at ≡ s .at → kindAt (stand t (t .at) n) ≡ kindAt s
     same-kind t n e = ap (λ (i : ℕ). placeAt i .kind) e
 
-    idles : (t : State) (n : ℕ) (b : Bool) → rests (kindAt s) ≡ b → takes (kindAt s) s Default 0 ≡ Go t
-        → finish 16 (stand t (t .at) n) ≡ after b (Go (stand t (t .at) n)) (λ (u : State). finish 15 (settle (beyond u)))
+    idles : (t : LayoutState) (n : ℕ) (b : Bool) → rests (kindAt s) ≡ b → takes (kindAt s) s Default 0 ≡ Go t
+        → finish 16 (stand t (t .at) n) ≡ after b (Go (stand t (t .at) n)) (λ (u : LayoutState). finish 15 (settle (beyond u)))
     idles t n b r e =
         let q = same-kind t n (stays (kindAt s) s t Default 0 e) in
         finish-at 15 (stand t (t .at) n) b (Go (stand t (t .at) n)) (ap rests q ∙ r)
         (ap (λ (k : Kind). takes k (stand t (t .at) n) Default 0) q ∙ idle (kindAt s) s t (t .at) n e)
 
-    on : (t : State) (c : Bool) → ltb 1 (t .left) ≡ c → rests (kindAt s) ≡ false → takes (kindAt s) s Default 0 ≡ Go t
+    on : (t : LayoutState) (c : Bool) → ltb 1 (t .left) ≡ c → rests (kindAt s) ≡ false → takes (kindAt s) s Default 0 ≡ Go t
         → finish 16 (cond c (stand t (t .at) (t .left - 1)) (settle (beyond t))) ≡ finish 15 (settle (beyond t))
-    on t true l r e = idles t (t .left - 1) false r e ∙ ap (λ (x : State). finish 15 (settle x)) (beyond-stand t (t .left - 1))
+    on t true l r e = idles t (t .left - 1) false r e ∙ ap (λ (x : LayoutState). finish 15 (settle x)) (beyond-stand t (t .left - 1))
     on t false l r e = sym (stable 15 (settle (beyond t)) (next-low s t 15 r e (omega (arith, rank-low (s .at)))))
 
     go : (b : Bool) (g : Stepped) → rests (kindAt s) ≡ b → takes (kindAt s) s Default 0 ≡ g
-        → ended (moved b g) ≡ after b g (λ (t : State). finish 15 (settle (beyond t)))
+        → ended (moved b g) ≡ after b g (λ (t : LayoutState). finish 15 (settle (beyond t)))
     go b Bad r e = refl
     go true (Go t) r e = idles t (t .left) true r e
     go false (Go t) r e = on t (ltb 1 (t .left)) refl r e

@@ -12,7 +12,7 @@ use Rattle.values.specs.declared.Value.{Value}
 use Rattle.values.specs.declared.Value.the-variants.{Default, Whole, Real, Text}
 use Rattle.layouts.specs.declared.Times.{Times}
 use Rattle.layouts.specs.declared.Times.the-variants.{Knots1, Knots2, C, ThreeC}
-use Rattle.layouts.specs.declared.State.{State}
+use Rattle.layouts.specs.declared.LayoutState.{LayoutState}
 use Rattle.layouts.specs.declared.Stepped.{Stepped}
 use Rattle.layouts.specs.declared.Stepped.the-variants.{Go, Bad}
 use Rattle.references.specs.References.{fits}
@@ -39,7 +39,7 @@ within-low given low high v neg n p q h = rw (p, q) (simp (lt-leb low n h))
 
 pub ruleset values = (above-neg, above-pos, within-none, within-high, within-low)
 
-pub need-go : (b : Bool) (s : State) → b ≡ true → Go s ≡ need b s
+pub need-go : (b : Bool) (s : LayoutState) → b ≡ true → Go s ≡ need b s
 need-go b s e = rw e
 
 -- a number that fits where the test holds fits where it held
@@ -49,32 +49,32 @@ kept-fits b n h e = let k = h e in record { fits = omega arith }
 pub zero-free : (free : Bool) (n : ℕ) → free ≡ true → eqb n 0 ≡ (free && eqb n 0)
 zero-free free n e = rw e
 
-pub noted-is : (s : State) (bad r : Bool) → r ≡ (s .bad || bad) → Go (withBad s r) ≡ Go (withBad s (s .bad || bad))
+pub noted-is : (s : LayoutState) (bad r : Bool) → r ≡ (s .bad || bad) → Go (withBad s r) ≡ Go (withBad s (s .bad || bad))
 noted-is s bad r e = rw e
 
-pub refer-none : (free : Bool) (want : ℕ) (s : State) (v : Value) (class : ℕ) (r : Stepped) → v ≡ Default → r ≡ Go (withBad s (s .bad || not free)) → r ≡ refer free want s v class
+pub refer-none : (free : Bool) (want : ℕ) (s : LayoutState) (v : Value) (class : ℕ) (r : Stepped) → v ≡ Default → r ≡ Go (withBad s (s .bad || not free)) → r ≡ refer free want s v class
 refer-none free want s v class r p q = rw p q
 
-pub refer-whole : (free : Bool) (want : ℕ) (s : State) (v : Value) (class : ℕ) (r : Stepped) (neg : Bool) (n : ℕ) (z f o : Bool) → v ≡ Whole neg n
+pub refer-whole : (free : Bool) (want : ℕ) (s : LayoutState) (v : Value) (class : ℕ) (r : Stepped) (neg : Bool) (n : ℕ) (z f o : Bool) → v ≡ Whole neg n
     → z ≡ (free && eqb n 0) → f ≡ fits want class → o ≡ (z || f) → r ≡ Go (withBad s (s .bad || not o)) → r ≡ refer free want s v class
 refer-whole free want s v class r neg n z f o p ez ef eo q = rw (p, ← ef, ← ez, ← eo) q
 
-pub refer-real : (free : Bool) (want : ℕ) (s : State) (v : Value) (class : ℕ) (neg : Bool) (m : ℕ) (eneg : Bool) (e : ℕ) (double : Bool) → v ≡ Real neg m eneg e double → Bad ≡ refer free want s v class
+pub refer-real : (free : Bool) (want : ℕ) (s : LayoutState) (v : Value) (class : ℕ) (neg : Bool) (m : ℕ) (eneg : Bool) (e : ℕ) (double : Bool) → v ≡ Real neg m eneg e double → Bad ≡ refer free want s v class
 refer-real free want s v class neg m eneg e double p = rw p
 
-pub refer-text : (free : Bool) (want : ℕ) (s : State) (v : Value) (class a b : ℕ) → v ≡ Text a b → Bad ≡ refer free want s v class
+pub refer-text : (free : Bool) (want : ℕ) (s : LayoutState) (v : Value) (class a b : ℕ) → v ≡ Text a b → Bad ≡ refer free want s v class
 refer-text free want s v class a b p = rw p
 
-pub times-knots1 : (t : Times) (s : State) → t ≡ Knots1 → s .k1 + s .m1 + 2 ≡ times t s
+pub times-knots1 : (t : Times) (s : LayoutState) → t ≡ Knots1 → s .k1 + s .m1 + 2 ≡ times t s
 times-knots1 t s e = rw e
 
-pub times-knots2 : (t : Times) (s : State) → t ≡ Knots2 → s .k2 + s .m2 + 2 ≡ times t s
+pub times-knots2 : (t : Times) (s : LayoutState) → t ≡ Knots2 → s .k2 + s .m2 + 2 ≡ times t s
 times-knots2 t s e = rw e
 
-pub times-c : (t : Times) (s : State) → t ≡ C → (s .k1 + 1) * (s .k2 + 1) ≡ times t s
+pub times-c : (t : Times) (s : LayoutState) → t ≡ C → (s .k1 + 1) * (s .k2 + 1) ≡ times t s
 times-c t s e = rw e
 
-pub times-three : (t : Times) (s : State) → t ≡ ThreeC → 3 * ((s .k1 + 1) * (s .k2 + 1)) ≡ times t s
+pub times-three : (t : Times) (s : LayoutState) → t ≡ ThreeC → 3 * ((s .k1 + 1) * (s .k2 + 1)) ≡ times t s
 times-three t s e = rw e
 
 product : (a b : ℕ) → a < 2 ^ 32 → b < 2 ^ 16 → (a + 1) * (b + 1) ≤ 2 ^ 48

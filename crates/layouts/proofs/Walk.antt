@@ -12,11 +12,11 @@ use Rattle.columns.specs.Refusal.{accepted}
 use Rattle.values.specs.Value.{Item}
 use Rattle.layouts.specs.declared.Kind.the-variants.{Rest}
 use Rattle.layouts.specs.declared.Times.the-variants.{Fixed}
-use Rattle.layouts.specs.declared.Place.{Place}
-use Rattle.layouts.specs.declared.State.{State}
+use Rattle.layouts.specs.declared.LayoutPlace.{LayoutPlace}
+use Rattle.layouts.specs.declared.LayoutState.{LayoutState}
 use Rattle.layouts.specs.declared.Stepped.the-variants.{Bad}
-use Rattle.layouts.specs.declared.Verdict.{Verdict}
-use Rattle.layouts.specs.declared.Verdict.the-variants.{Good, Layout, LayoutReference}
+use Rattle.layouts.specs.declared.LayoutVerdict.{LayoutVerdict}
+use Rattle.layouts.specs.declared.LayoutVerdict.the-variants.{Good, Layout, LayoutReference}
 use Rattle.layouts.specs.Layout.{Row, _of_, paper, groups, bitOf}
 use Rattle.layouts.specs.Known.{bit, known}
 use Rattle.layouts.specs.Fits.{suits, refersWell, none, close, spelled, placesOf, asked, Fits, Keeps}
@@ -31,35 +31,35 @@ use Rattle.layouts.proofs.Judges.{goes-verdict, goes-marks}
 
 -- ---- where a row stands in the table
 
-abbrev allSound : List Place → Bool
+abbrev allSound : List LayoutPlace → Bool
 allSound [] = true
 allSound (p ∷ ps) = sound p && allSound ps
 
-at-head : (i : ℕ) (p : Place) (ps : List Place) → drop i table ≡ p ∷ ps → placeAt i ≡ p
+at-head : (i : ℕ) (p : LayoutPlace) (ps : List LayoutPlace) → drop i table ≡ p ∷ ps → placeAt i ≡ p
 unfolding placeAt
-at-head i p ps e = ap (λ (n : ℕ). getD table n (Fixed 1 of Rest)) (sym (add-zero i)) ∙ sym (getD-drop i table 0 (Fixed 1 of Rest)) ∙ ap (λ (l : List Place). getD l 0 (Fixed 1 of Rest)) e
+at-head i p ps e = ap (λ (n : ℕ). getD table n (Fixed 1 of Rest)) (sym (add-zero i)) ∙ sym (getD-drop i table 0 (Fixed 1 of Rest)) ∙ ap (λ (l : List LayoutPlace). getD l 0 (Fixed 1 of Rest)) e
 
 -- what the table has from i on, as a list, place by place
-placed : (ps : List Place) (i : ℕ) (rest : List Place) → drop i table ≡ ps ++ rest → allSound ps ≡ true → (j : ℕ) × (Placed i ps j × (drop j table ≡ rest))
+placed : (ps : List LayoutPlace) (i : ℕ) (rest : List LayoutPlace) → drop i table ≡ ps ++ rest → allSound ps ≡ true → (j : ℕ) × (Placed i ps j × (drop j table ≡ rest))
 placed [] i rest e s = (i, (placed-none, e))
 placed (p ∷ ps) i rest e s =
     let h = and-both (sound p) (allSound ps) s in
     let r = placed ps (i + 1) rest (sym (drop-drop 1 i table) ∙ ap (drop 1) e) (h .1) in
     (r .0, (placed-next (at-head i p (ps ++ rest) e) (h .0) (r .1 .0), r .1 .1))
 
-abbrev placesIn : List Row → ℕ → List Place
+abbrev placesIn : List Row → ℕ → List LayoutPlace
 placesIn rs k = getD (map (λ (r : Row). r .places) rs) k []
 
 -- behind other places, those of a row start where `starts` says
-row-from : (rs : List Row) (pre : List Place) (k : ℕ) → k < length rs
-    → (more : List Place) × (drop (getD (starts (length pre) rs) k 0) (pre ++ flat rs) ≡ (placesIn rs k ++ tail) ++ more)
+row-from : (rs : List Row) (pre : List LayoutPlace) (k : ℕ) → k < length rs
+    → (more : List LayoutPlace) × (drop (getD (starts (length pre) rs) k 0) (pre ++ flat rs) ≡ (placesIn rs k ++ tail) ++ more)
 row-from [] pre k h = absurd (not-suc-le-zero h)
 row-from (r ∷ rs) pre zero h = (flat rs, drop-append-seam pre (flat (r ∷ rs)))
 row-from (r ∷ rs) pre (suc k) h =
     let x = row-from rs (pre ++ (r .places ++ tail)) k (le-of-suc-le-suc h) in
     (x .0, rw (length-append, append-assoc pre (r .places ++ tail) (flat rs)) at (x .1))
 
-row-at : (k : ℕ) → k < length paper → (more : List Place) × (drop (startOf k) table ≡ placesIn paper k ++ (groups ++ (Fixed 1 of Rest ∷ more)))
+row-at : (k : ℕ) → k < length paper → (more : List LayoutPlace) × (drop (startOf k) table ≡ placesIn paper k ++ (groups ++ (Fixed 1 of Rest ∷ more)))
 unfolding startOf table
 row-at k h = let x = row-from paper [] k h in (x .0, x .1 ∙ append-assoc (placesIn paper k) tail (x .0))
 
@@ -91,7 +91,7 @@ module _ (types : List ℕ) where
   entity-goes : (e : Entity) → bitOf (e .typ) (e .form) < length paper → Goes types (start (e .typ) (e .form)) (e .values) (asked e)
   unfolding asked placesOf
   entity-goes e h =
-      subst (λ (s : State). Goes types s (e .values) (asked e)) (sym (start-arrives (e .typ) (e .form) h)) (row-agrees (bitOf (e .typ) (e .form)) h none false (e .values))
+      subst (λ (s : LayoutState). Goes types s (e .values) (asked e)) (sym (start-arrives (e .typ) (e .form) h)) (row-agrees (bitOf (e .typ) (e .form)) h none false (e .values))
 
   -- ---- of an entity that a list knows
 
@@ -125,7 +125,7 @@ module _ (types : List ℕ) where
     check-judged place = by (known list (e .typ) (e .form)) refl
       where
         by : (b : Bool) → known list (e .typ) (e .form) ≡ b → cond b (fault (judged types e) place) (accepted tt) ≡ cond b (fault (verdict types e) place) (accepted tt)
-        by true k = ap (λ (w : Verdict). fault w place) (judged-verdict list e k)
+        by true k = ap (λ (w : LayoutVerdict). fault w place) (judged-verdict list e k)
         by false k = refl
 
     bad-marks : (vs : List Item) → marksFrom types Bad vs ≡ map carried vs

@@ -10,7 +10,7 @@ use Rattle.columns.specs.Format.{mostInteger}
 use Rattle.layouts.specs.declared.Kind.the-variants.{R, Given, Weight, S, I, Flag, Count, Outer}
 use Rattle.layouts.specs.declared.Kind.the-variants.{Upper1, Upper2, Degree1, Degree2, P, Q, Bound, Rest}
 use Rattle.layouts.specs.declared.Times.the-variants.{Fixed, N, Knots1, Knots2, C, ThreeC}
-use Rattle.layouts.specs.declared.Place.{Place}
+use Rattle.layouts.specs.declared.LayoutPlace.{LayoutPlace}
 use Rattle.references.specs.References.{entry308, entry142}
 use Rattle.layouts.specs.Layout.{_of_, any}
 use Rattle.layouts.specs.Known.{bit}
@@ -18,9 +18,9 @@ use Rattle.layouts.specs.Known.{bit}
 -- a letter and its place
 pub record Shape : Type 0 where
   pub letter : ℕ
-  pub place : Place
+  pub place : LayoutPlace
 
-abbrev is : Char → Place → Shape
+abbrev is : Char → LayoutPlace → Shape
 is c p = record { letter = code c; place = p }
 
 -- all that rows are made of
@@ -59,12 +59,12 @@ shapes =
     ∷ []
 
 -- any other letter is the rest
-abbrev pub shapeIn : List Shape → ℕ → Place
+abbrev pub shapeIn : List Shape → ℕ → LayoutPlace
 shapeIn [] k = Fixed 1 of Rest
 shapeIn (x ∷ xs) k = cond (eqb k (x .letter)) (x .place) (shapeIn xs k)
 
 -- the place of a letter
-unfoldable pub shapeOf : ℕ → Place
+unfoldable pub shapeOf : ℕ → LayoutPlace
 shapeOf k = shapeIn shapes k
 
 abbrev bytes : String → List ℕ

@@ -7,8 +7,8 @@ use Rattle.columns.specs.Refusal.{Outcome, accepted, refused}
 use Rattle.values.specs.declared.Value.{Value}
 use Rattle.values.specs.declared.Value.the-variants.{Default}
 use Rattle.values.specs.Value.{Item, seen}
-use Rattle.layouts.specs.declared.Verdict.{Verdict}
-use Rattle.layouts.specs.declared.Verdict.the-variants.{Good, Layout, LayoutReference}
+use Rattle.layouts.specs.declared.LayoutVerdict.{LayoutVerdict}
+use Rattle.layouts.specs.declared.LayoutVerdict.the-variants.{Good, Layout, LayoutReference}
 pub use Rattle.layouts.specs.Entity.{Entity}
 use Rattle.layouts.specs.Known.{known}
 use Rattle.layouts.specs.Fits.{Ask, nothing, suits, refersWell, isReference, asked}
@@ -24,12 +24,12 @@ everywhere test (a ∷ ps) [] = test a Default && everywhere test ps []
 everywhere test (a ∷ ps) (v ∷ vs) = test a (seen v) && everywhere test ps vs
 
 -- 14 is told before 15; types are those of all entries in directory order
-unfoldable pub verdict : List ℕ → Entity → Verdict
+unfoldable pub verdict : List ℕ → Entity → LayoutVerdict
 verdict types e =
     cond (everywhere suits (asked e) (e .values)) (cond (everywhere (refersWell types) (asked e) (e .values)) Good LayoutReference) Layout
 
 -- the refusal that a verdict is, 14 or 15
-abbrev pub fault : Verdict → ℕ → Outcome (Unit {0})
+abbrev pub fault : LayoutVerdict → ℕ → Outcome (Unit {0})
 fault Good place = accepted tt
 fault Layout place = refused LayoutFault place
 fault LayoutReference place = refused LayoutReferenceFault place

@@ -8,8 +8,8 @@ use Rattle.columns.specs.declared.Fault.the-variants.{Layout as LayoutFault, La
 use Rattle.columns.specs.Refusal.{Outcome, accepted, refused}
 use Rattle.columns.specs.Format.{mostList}
 use Rattle.values.specs.Value.{Item, default, whole, real, text}
-use Rattle.layouts.specs.declared.Verdict.{Verdict}
-use Rattle.layouts.specs.declared.Verdict.the-variants.{Good, Layout, LayoutReference}
+use Rattle.layouts.specs.declared.LayoutVerdict.{LayoutVerdict}
+use Rattle.layouts.specs.declared.LayoutVerdict.the-variants.{Good, Layout, LayoutReference}
 use Rattle.references.specs.References.{classAt, classOf}
 use Rattle.layouts.specs.Named.{named}
 use Rattle.layouts.specs.Layout.{paper, bitOf}
@@ -50,7 +50,7 @@ abbrev surface : List Item → List Item
 surface last = replicate 4 (i 1) ++ replicate 5 (i 1) ++ replicate 8 r ++ replicate 4 r ++ replicate 12 r ++ last
 
 -- an entity and its verdict
-abbrev tests : List (Entity × Verdict)
+abbrev tests : List (Entity × LayoutVerdict)
 tests =
     (entity 102 0 (i 2 ∷ i 1 ∷ []), LayoutReference)
     ∷ (entity 102 0 (i 2 ∷ i 1 ∷ i 3 ∷ []), Good)
@@ -110,7 +110,7 @@ checks =
     ∷ []
 
 -- all of them; 402 form 6 is carried under any list, 402 form 7 is read under list 2048; counts are V, references R
-pub examples : (map (λ (x : Entity × Verdict). verdict types (x .0)) tests ≡ map (λ (x : Entity × Verdict). x .1) tests)
+pub examples : (map (λ (x : Entity × LayoutVerdict). verdict types (x .0)) tests ≡ map (λ (x : Entity × LayoutVerdict). x .1) tests)
     × (map (λ (x : ℕ × Entity × Outcome (Unit {0})). entityCheck (x .0) types (x .1) 9) checks
     ≡ map (λ (x : ℕ × Entity × Outcome (Unit {0})). x .2) checks)
     × (marks mostList (entity 144 0 (i 1 ∷ i 0 ∷ i 1 ∷ i 0 ∷ i 5 ∷ i 1 ∷ i 1 ∷ []))

@@ -12,7 +12,7 @@ use Rattle.layouts.specs.declared.Kind.the-variants.{R, Given, Weight, S
 use Rattle.layouts.specs.declared.Kind.the-variants.{Upper1, Upper2, Degree1, Degree2, P, Q, Bound, Rest}
 use Rattle.layouts.specs.declared.Times.{Times}
 use Rattle.layouts.specs.declared.Times.the-variants.{Fixed, N, Knots1, Knots2, C, ThreeC}
-use Rattle.layouts.specs.declared.Place.{Place}
+use Rattle.layouts.specs.declared.LayoutPlace.{LayoutPlace}
 use Rattle.values.specs.declared.Value.{Value}
 use Rattle.values.specs.Value.{Item, default, seen, isMissing}
 use Rattle.references.specs.References.{fits}
@@ -159,14 +159,14 @@ abbrev pub close : Asks
 close c vs = []
 
 -- these places, then what comes after them
-abbrev pub spelled : List Place → Asks → Asks
+abbrev pub spelled : List LayoutPlace → Asks → Asks
 spelled [] more c vs = more c vs
 spelled (p ∷ ps) more c vs =
     let n = many (p .times) c in
     replicate n (ask (p .kind) c) ++ spelled ps more (counted (p .kind) (valueAt vs 0) c) (drop n vs)
 
 -- the row of a type and form
-unfoldable pub placesOf : ℕ → ℕ → List Place
+unfoldable pub placesOf : ℕ → ℕ → List LayoutPlace
 placesOf typ form = getD (map (λ (r : Row). r .places) paper) (bitOf typ form) []
 
 -- all that is asked of an entity's values

@@ -10,16 +10,16 @@ use Rattle.layouts.specs.declared.Kind.the-variants.{Upper1, Upper2, Deg
 use Rattle.layouts.specs.declared.Times.{Times}
 use Rattle.layouts.specs.declared.Times.the-variants.{Fixed, N, Knots1, Knots2, C, ThreeC}
 use Rattle.layouts.specs.declared.Then.the-variants.{Next}
-use Rattle.layouts.specs.declared.Place.{Place}
+use Rattle.layouts.specs.declared.LayoutPlace.{LayoutPlace}
 use Rattle.references.specs.References.{noEntry, entry308, entry142}
 
 infix 68 _of_
 -- so many places of one kind
-abbrev pub _of_ : Times → Kind → Place
+abbrev pub _of_ : Times → Kind → LayoutPlace
 t of k = record { kind = k; times = t; next = Next }
 
 -- one place
-abbrev pub one : Kind → Place
+abbrev pub one : Kind → LayoutPlace
 one k = Fixed 1 of k
 
 -- a reference that asks its target for no type; others name the class that they ask for
@@ -39,19 +39,19 @@ pub data Form : Type 0 where
 pub record Row : Type 0 where
   pub typ : ℕ
   pub form : Form
-  pub places : List Place
+  pub places : List LayoutPlace
 
-abbrev row : ℕ → Form → List Place → Row
+abbrev row : ℕ → Form → List LayoutPlace → Row
 row t f ps = record { typ = t; form = f; places = ps }
 
 -- the places of 126: K, M, flags, knots, weights, control points, limits, normal
-abbrev curve : List Place
+abbrev curve : List LayoutPlace
 curve =
     one Upper1 ∷ one Degree1 ∷ Fixed 4 of Flag ∷ Knots1 of Given ∷ C of Weight ∷ ThreeC of Given
     ∷ Fixed 2 of Given ∷ Fixed 3 of R ∷ []
 
 -- the places of 128: K1, K2, M1, M2, flags, both knot sequences, weights, control points, limits
-abbrev surface : List Place
+abbrev surface : List LayoutPlace
 surface =
     one Upper1 ∷ one Upper2 ∷ one Degree1 ∷ one Degree2 ∷ Fixed 5 of Flag ∷ Knots1 of Given ∷ Knots2 of Given
     ∷ C of Weight ∷ ThreeC of Given ∷ Fixed 4 of Given ∷ []
@@ -76,7 +76,7 @@ paper =
     ∷ []
 
 -- after the layout: a count of q and those, then a second count of q and those
-abbrev pub groups : List Place
+abbrev pub groups : List LayoutPlace
 groups = one Count ∷ N of Q any ∷ one Count ∷ N of Q any ∷ []
 
 -- only 402 and 406 look at the form

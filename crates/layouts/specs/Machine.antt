@@ -13,11 +13,11 @@ use Rattle.layouts.specs.declared.Then.the-variants.{Next}
 use Rattle.values.specs.declared.Value.{Value}
 use Rattle.values.specs.declared.Value.the-variants.{Default, Whole, Real, Text}
 use Rattle.values.specs.Value.{isMissing}
-use Rattle.layouts.specs.declared.State.{State}
+use Rattle.layouts.specs.declared.LayoutState.{LayoutState}
 use Rattle.layouts.specs.declared.Stepped.{Stepped}
 use Rattle.layouts.specs.declared.Stepped.the-variants.{Go, Bad}
-use Rattle.layouts.specs.declared.Verdict.{Verdict}
-use Rattle.layouts.specs.declared.Verdict.the-variants.{Good, Layout, LayoutReference}
+use Rattle.layouts.specs.declared.LayoutVerdict.{LayoutVerdict}
+use Rattle.layouts.specs.declared.LayoutVerdict.the-variants.{Good, Layout, LayoutReference}
 use Rattle.references.specs.References.{noEntry, fits}
 pub use Rattle.layouts.specs.Tests.{real, above, text, within, size}
 use Rattle.layouts.specs.Layout.{mostUpper, bitOf}
@@ -26,35 +26,35 @@ use Rattle.layouts.specs.Table.{placeAt, startOf}
 -- ---- the state
 
 -- nothing is read yet
-abbrev pub fresh : State
+abbrev pub fresh : LayoutState
 fresh = record { at = 0; left = 0; k1 = 0; k2 = 0; m1 = 0; m2 = 0; bad = false }
 
 -- N or K1 (the K of 126) is read
-abbrev pub withK1 : State → ℕ → State
+abbrev pub withK1 : LayoutState → ℕ → LayoutState
 withK1 s n = record { at = s .at; left = s .left; k1 = n; k2 = s .k2; m1 = s .m1; m2 = s .m2; bad = s .bad }
 
 -- K2, or the N1 of 144
-abbrev pub withK2 : State → ℕ → State
+abbrev pub withK2 : LayoutState → ℕ → LayoutState
 withK2 s n = record { at = s .at; left = s .left; k1 = s .k1; k2 = n; m1 = s .m1; m2 = s .m2; bad = s .bad }
 
 -- M1 (the M of 126)
-abbrev pub withM1 : State → ℕ → State
+abbrev pub withM1 : LayoutState → ℕ → LayoutState
 withM1 s n = record { at = s .at; left = s .left; k1 = s .k1; k2 = s .k2; m1 = n; m2 = s .m2; bad = s .bad }
 
 -- M2
-abbrev pub withM2 : State → ℕ → State
+abbrev pub withM2 : LayoutState → ℕ → LayoutState
 withM2 s n = record { at = s .at; left = s .left; k1 = s .k1; k2 = s .k2; m1 = s .m1; m2 = n; bad = s .bad }
 
 -- whether a reference was bad
-abbrev pub withBad : State → Bool → State
+abbrev pub withBad : LayoutState → Bool → LayoutState
 withBad s b = record { at = s .at; left = s .left; k1 = s .k1; k2 = s .k2; m1 = s .m1; m2 = s .m2; bad = b }
 
 -- at place i with so many of it left
-abbrev pub stand : State → ℕ → ℕ → State
+abbrev pub stand : LayoutState → ℕ → ℕ → LayoutState
 stand s i n = record { at = i; left = n; k1 = s .k1; k2 = s .k2; m1 = s .m1; m2 = s .m2; bad = s .bad }
 
 -- how many places; 126 has K2 = 0, so that C is K+1
-abbrev pub times : Times → State → ℕ
+abbrev pub times : Times → LayoutState → ℕ
 times (Fixed n) s = n
 times N s = s .k1
 times Knots1 s = s .k1 + s .m1 + 2
@@ -63,45 +63,45 @@ times C s = (s .k1 + 1) * (s .k2 + 1)
 times ThreeC s = 3 * ((s .k1 + 1) * (s .k2 + 1))
 
 -- the place after
-abbrev pub follow : Then → State → State
+abbrev pub follow : Then → LayoutState → LayoutState
 follow Next s = stand s (s .at + 1) 0
 
 -- at a place, with all of it left
-abbrev pub enter : State → State
+abbrev pub enter : LayoutState → LayoutState
 enter s = stand s (s .at) (times (placeAt (s .at) .times) s)
 
 -- at the place after
-abbrev pub beyond : State → State
+abbrev pub beyond : LayoutState → LayoutState
 beyond s = enter (follow (placeAt (s .at) .next) s)
 
 -- one state or the other
-abbrev pub ifEmpty : Bool → State → State → State
+abbrev pub ifEmpty : Bool → LayoutState → LayoutState → LayoutState
 ifEmpty true t s = t
 ifEmpty false t s = s
 
 -- past a place of which there is none: no two such stand side by side (proofs/Empties.settled)
-unfoldable pub settle : State → State
+unfoldable pub settle : LayoutState → LayoutState
 settle s = ifEmpty (eqb (s .left) 0) (beyond s) s
 
 -- past the place that took a value
-unfoldable pub onward : State → State
+unfoldable pub onward : LayoutState → LayoutState
 onward s = cond (ltb 1 (s .left)) (stand s (s .at) (s .left - 1)) (settle (beyond s))
 
 -- ---- one value
 
 -- a test that fails is 14
-abbrev pub need : Bool → State → Stepped
+abbrev pub need : Bool → LayoutState → Stepped
 need b s = cond b (Go s) Bad
 
 -- a reference, which may be 0 or missing where free: what is wrong with it is told at the end
-abbrev pub refer : Bool → ℕ → State → Value → ℕ → Stepped
+abbrev pub refer : Bool → ℕ → LayoutState → Value → ℕ → Stepped
 refer free want s Default class = Go (withBad s (s .bad || not free))
 refer free want s (Whole neg n) class = Go (withBad s (s .bad || not ((free && eqb n 0) || fits want class)))
 refer free want s (Real neg m eneg e double) class = Bad
 refer free want s (Text start count) class = Bad
 
 -- what the place of a kind makes of a value; class is that of the entry that it names
-unfoldable pub takes : Kind → State → Value → ℕ → Stepped
+unfoldable pub takes : Kind → LayoutState → Value → ℕ → Stepped
 takes R s v class = need (real v || isMissing v) s
 takes Given s v class = need (real v) s
 takes Weight s v class = need (above v) s
@@ -177,7 +177,7 @@ reals (Bound want) = false
 reals Rest = false
 
 -- the kind of the place where it stands
-abbrev pub kindAt : State → Kind
+abbrev pub kindAt : LayoutState → Kind
 kindAt s = placeAt (s .at) .kind
 
 -- behind the rest nothing moves
@@ -186,33 +186,33 @@ moved rest Bad = Bad
 moved rest (Go t) = Go (cond rest t (onward t))
 
 -- at the first place of a type and form
-unfoldable pub start : ℕ → ℕ → State
+unfoldable pub start : ℕ → ℕ → LayoutState
 start typ form = enter (stand fresh (startOf (bitOf typ form)) 0)
 
 -- one value more
-unfoldable pub step : State → Value → ℕ → Stepped
+unfoldable pub step : LayoutState → Value → ℕ → Stepped
 step s v class = moved (rests (kindAt s)) (takes (kindAt s) s v class)
 
 -- a real stands where more of its kind follow
-unfoldable pub runsOn : State → Value → Bool
+unfoldable pub runsOn : LayoutState → Value → Bool
 runsOn s v = ltb 1 (s .left) && (reals (kindAt s) && real v)
 
 -- ---- the end: what is missing is a default
 
 -- at the rest of a row
-abbrev pub closed : Bool → Verdict
+abbrev pub closed : Bool → LayoutVerdict
 closed bad = cond bad LayoutReference Good
 
 -- a place took its default, or did not
-abbrev pub after : Bool → Stepped → (State → Verdict) → Verdict
+abbrev pub after : Bool → Stepped → (LayoutState → LayoutVerdict) → LayoutVerdict
 after rest Bad f = Layout
 after rest (Go t) f = cond rest (closed (t .bad)) (f t)
 
 -- in so many places at most
-unfoldable pub finish : ℕ → State → Verdict
+unfoldable pub finish : ℕ → LayoutState → LayoutVerdict
 finish zero s = Layout
 finish (suc n) s = after (rests (kindAt s)) (takes (kindAt s) s Default noEntry) (λ t. finish n (settle (beyond t)))
 
 -- no row has more than 16 (proofs/Trailing.enough)
-unfoldable pub end : State → Verdict
+unfoldable pub end : LayoutState → LayoutVerdict
 end s = finish 16 s

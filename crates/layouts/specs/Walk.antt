@@ -7,8 +7,8 @@ use Rattle.values.specs.declared.Value.{Value}
 use Rattle.values.specs.Value.{Item, seen}
 use Rattle.layouts.specs.declared.Stepped.{Stepped}
 use Rattle.layouts.specs.declared.Stepped.the-variants.{Go, Bad}
-use Rattle.layouts.specs.declared.Verdict.{Verdict}
-use Rattle.layouts.specs.declared.Verdict.the-variants.{Layout}
+use Rattle.layouts.specs.declared.LayoutVerdict.{LayoutVerdict}
+use Rattle.layouts.specs.declared.LayoutVerdict.the-variants.{Layout}
 use Rattle.layouts.specs.Named.{named}
 use Rattle.layouts.specs.Entity.{Entity}
 use Rattle.layouts.specs.Machine.{kindAt, refers, start, step, end}
@@ -33,16 +33,16 @@ run types g [] = g
 run types g (v ∷ vs) = run types (feed types g v) vs
 
 -- after its last value
-abbrev pub ended : Stepped → Verdict
+abbrev pub ended : Stepped → LayoutVerdict
 ended Bad = Layout
 ended (Go s) = end s
 
 -- the verdict from here on
-unfoldable pub verdictFrom : List ℕ → Stepped → List Item → Verdict
+unfoldable pub verdictFrom : List ℕ → Stepped → List Item → LayoutVerdict
 verdictFrom types g vs = ended (run types g vs)
 
 -- what is wrong with a reference is kept to the end, so 14 is told before 15
-unfoldable pub judged : List ℕ → Entity → Verdict
+unfoldable pub judged : List ℕ → Entity → LayoutVerdict
 judged types e = verdictFrom types (begun e) (e .values)
 
 -- the mark of the next value; behind a value that was refused it says nothing

@@ -44,7 +44,7 @@ pub enum Times {
 }
 
 // So many places of a kind, and where it goes on.
-pub struct Place {
+pub struct LayoutPlace {
     pub kind: Kind,
     pub times: Times,
     pub next: Then,
@@ -52,7 +52,7 @@ pub struct Place {
 
 // Where the machine stands: at a place, with so many of it left; the numbers read so far; whether a reference was bad.
 // The widths keep 3(K1+1)(K2+1) in 64 bits.
-pub struct State {
+pub struct LayoutState {
     pub at: usize,
     pub left: u64,
     pub k1: u32,
@@ -64,12 +64,12 @@ pub struct State {
 
 // Bad is refusal 14.
 pub enum Stepped {
-    Go(State),
+    Go(LayoutState),
     Bad,
 }
 
 // Layout is refusal 14, LayoutReference 15.
-pub enum Verdict {
+pub enum LayoutVerdict {
     Good,
     Layout,
     LayoutReference,

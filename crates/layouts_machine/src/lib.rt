@@ -6,11 +6,11 @@ ghost use Rattle.layouts.specs.Table.{placeAt, startOf};
 ghost use Rattle.layouts.specs.Machine.{times, follow, enter, beyond, settle, onward, step, closed, end, start};
 ghost use Rattle.layouts.specs.Machine.{reals, refers, kindAt, stand, runsOn};
 ghost use Rattle.layouts.specs.Coded.{told};
-use layouts::State;
+use layouts::LayoutState;
+use layouts::LayoutVerdict;
 use layouts::Stepped;
 use layouts::Then;
 use layouts::Times;
-use layouts::Verdict;
 use layouts_lists::ROWS;
 use layouts_lists::bit_of;
 use layouts_rows::look;
@@ -21,7 +21,7 @@ use references::NO_ENTRY;
 use values::Value;
 
 // How many places of a kind there are, by what was read.
-fn times_in(t: Times, s: State) -> u64
+fn times_in(t: Times, s: LayoutState) -> u64
     ensures { λ r. ⌜ r ≡ times t s ⌝ }
 {
     match t {
@@ -35,7 +35,7 @@ fn times_in(t: Times, s: State) -> u64
 }
 
 // The place after. The bounds on `at`, here and below, say that it does not wrap: the table is far smaller.
-fn follow_to(x: Then, s: State) -> State
+fn follow_to(x: Then, s: LayoutState) -> LayoutState
     requires { ⌜ s .at < 4000 ⌝ }
     ensures { λ r. ⌜ (r ≡ follow x s) × (r .at ≤ s .at + 256) ⌝ }
 {
@@ -50,7 +50,7 @@ fn follow_to(x: Then, s: State) -> State
 }
 
 // At a place, with all of it left.
-fn enter_at(s: State) -> State
+fn enter_at(s: LayoutState) -> LayoutState
     ensures { λ r. ⌜ (r ≡ enter s) × (r .at ≡ s .at) ⌝ }
 {
     let p = look(s.at);
@@ -61,7 +61,7 @@ fn enter_at(s: State) -> State
 }
 
 // At the place after.
-fn beyond_of(s: State) -> State
+fn beyond_of(s: LayoutState) -> LayoutState
     requires { ⌜ s .at < 4000 ⌝ }
     ensures { λ r. ⌜ (r ≡ beyond s) × (r .at ≤ s .at + 256) ⌝ }
 {
@@ -71,7 +71,7 @@ fn beyond_of(s: State) -> State
 }
 
 // Past a place of which there is none.
-fn settle_of(s: State) -> State
+fn settle_of(s: LayoutState) -> LayoutState
     requires { ⌜ s .at < 4000 ⌝ }
     ensures { λ r. ⌜ r ≡ settle s ⌝ }
 {
@@ -82,7 +82,7 @@ fn settle_of(s: State) -> State
 }
 
 // Past a place that took a value.
-fn onward_of(s: State) -> State
+fn onward_of(s: LayoutState) -> LayoutState
     requires { ⌜ s .at < 900 ⌝ }
     ensures { λ r. ⌜ r ≡ onward s ⌝ }
 {
@@ -96,10 +96,10 @@ fn onward_of(s: State) -> State
 }
 
 // The state with so many left, made field by field: so its fields are kept apart, and a step needs no copy of the whole.
-pub fn with_left(s: State, left: u64) -> State
+pub fn with_left(s: LayoutState, left: u64) -> LayoutState
     ensures { λ r. ⌜ r ≡ stand s (s .at) left ⌝ }
 {
-    State {
+    LayoutState {
         at: s.at,
         left,
         k1: s.k1,
@@ -111,7 +111,7 @@ pub fn with_left(s: State, left: u64) -> State
 }
 
 // One value more, at a place of any kind.
-fn step_from(s: State, v: Value, class: u8) -> Stepped
+fn step_from(s: LayoutState, v: Value, class: u8) -> Stepped
     ensures { λ r. ⌜ r ≡ step s v class ⌝ }
 {
     let p = look(s.at);
@@ -129,7 +129,7 @@ fn step_from(s: State, v: Value, class: u8) -> Stepped
 }
 
 // The same, with the fields of the state kept apart.
-fn step_any(s: State, v: Value, class: u8) -> Stepped
+fn step_any(s: LayoutState, v: Value, class: u8) -> Stepped
     ensures { λ r. ⌜ r ≡ step s v class ⌝ }
 {
     let t = with_left(s, s.left);
@@ -165,7 +165,7 @@ fn reals_at(at: usize) -> bool
 }
 
 // Whether a real stands where more of its kind follow: most values do.
-pub fn runs_on(s: State, v: Value) -> bool
+pub fn runs_on(s: LayoutState, v: Value) -> bool
     ensures { λ r. ⌜ r ≡ runsOn s v ⌝ }
 {
     if s.left <= 1 {
@@ -178,7 +178,7 @@ pub fn runs_on(s: State, v: Value) -> bool
 }
 
 // One value more. The commonest case comes first, and is small enough to stand where the step is called.
-pub fn step(s: State, v: Value, class: u8) -> Stepped
+pub fn step(s: LayoutState, v: Value, class: u8) -> Stepped
     ensures { λ r. ⌜ r ≡ step s v class ⌝ }
 {
     if runs_on(s, v) {
@@ -192,18 +192,18 @@ pub fn step(s: State, v: Value, class: u8) -> Stepped
 }
 
 // At the rest of a row.
-fn closed_of(bad: bool) -> Verdict
+fn closed_of(bad: bool) -> LayoutVerdict
     ensures { λ r. ⌜ r ≡ closed bad ⌝ }
 {
     if bad {
-        Verdict::LayoutReference
+        LayoutVerdict::LayoutReference
     } else {
-        Verdict::Good
+        LayoutVerdict::Good
     }
 }
 
 // No value more: what is missing is a default.
-pub fn end(s: State) -> Verdict
+pub fn end(s: LayoutState) -> LayoutVerdict
     ensures { λ r. ⌜ r ≡ end s ⌝ }
 {
     let mut t = s;
@@ -218,11 +218,11 @@ pub fn end(s: State) -> Verdict
         // A default passes the whole place, however many of it were left.
         let last = with_left(t, 1);
         let Stepped::Go(u) = step_any(last, Value::Default, NO_ENTRY) else {
-            return Verdict::Layout;
+            return LayoutVerdict::Layout;
         };
         t = u;
     }
-    Verdict::Layout
+    LayoutVerdict::Layout
 }
 
 // Where the places of each row start.
@@ -242,11 +242,11 @@ fn start_of(bit: usize) -> usize
 }
 
 // At the first place of a type and form.
-pub fn start(typ: u32, form: u32) -> State
+pub fn start(typ: u32, form: u32) -> LayoutState
     ensures { λ r. ⌜ r ≡ start typ form ⌝ }
 {
     let i = start_of(bit_of(typ, form));
-    let s = State {
+    let s = LayoutState {
         at: i,
         left: 0,
         k1: 0,
@@ -259,7 +259,7 @@ pub fn start(typ: u32, form: u32) -> State
 }
 
 // Whether the next value stands at a reference place: its mark in the sheet is R.
-pub fn is_reference(s: State) -> bool
+pub fn is_reference(s: LayoutState) -> bool
     ensures { λ r. ⌜ r ≡ refers (kindAt s) ⌝ }
 {
     told_by(REFERENCES_LOW, REFERENCES_HIGH, s.at)

@@ -8,7 +8,7 @@ ghost use Rattle.layouts.specs.Coded.{shapeOf, letterAt};
 ghost use Rattle.layouts.specs.Machine.{rests};
 use columns::format::MOST_INTEGER;
 use layouts::Kind;
-use layouts::Place;
+use layouts::LayoutPlace;
 use layouts::Then;
 use layouts::Times;
 use references::ENTRY_142;
@@ -17,10 +17,10 @@ use references::ENTRY_308;
 // A reference that asks its target for no type.
 const ANY: u8 = references::ANY;
 
-fn of(kind: Kind, times: Times) -> Place
+fn of(kind: Kind, times: Times) -> LayoutPlace
     ensures { λ r. ⌜ r ≡ times of kind ⌝ }
 {
-    Place {
+    LayoutPlace {
         kind,
         times,
         next: Then::Next,
@@ -28,7 +28,7 @@ fn of(kind: Kind, times: Times) -> Place
 }
 
 // The places that rows are made of.
-fn shape(k: u8) -> Place
+fn shape(k: u8) -> LayoutPlace
     ensures { λ r. ⌜ r ≡ shapeOf k ⌝ }
 {
     match k {
@@ -116,7 +116,7 @@ fn letter_at(at: usize) -> u8
 }
 
 // The place at `at`; past the table all is rest.
-pub fn look(at: usize) -> Place
+pub fn look(at: usize) -> LayoutPlace
     ensures { λ r. ⌜ r ≡ placeAt at ⌝ }
 {
     shape(letter_at(at))

@@ -9,13 +9,13 @@ use Rattle.layouts.specs.declared.Kind.{Kind}
 use Rattle.layouts.specs.declared.Kind.the-variants.{R, Given, Weight, S, I, Flag, Count, Outer, Upper1, Upper2, Degree1, Degree2, P, Q, Bound, Rest}
 use Rattle.values.specs.declared.Value.{Value}
 use Rattle.values.specs.Value.{isMissing}
-use Rattle.layouts.specs.declared.State.{State}
+use Rattle.layouts.specs.declared.LayoutState.{LayoutState}
 use Rattle.layouts.specs.declared.Stepped.{Stepped}
 use Rattle.layouts.specs.Layout.{mostUpper}
 use Rattle.layouts.specs.Machine.{real, above, text, within, size, need, refer, takes, withK1, withK2, withM1, withM2}
 use Rattle.layouts.proofs.Values.{within-size}
 
-module _ (k : Kind) (s : State) (v : Value) (class : ℕ) (r : Stepped) where
+module _ (k : Kind) (s : LayoutState) (v : Value) (class : ℕ) (r : Stepped) where
   pub takes-r : (x y b : Bool) → k ≡ R → x ≡ real v → y ≡ isMissing v → b ≡ (x || y) → r ≡ need b s → r ≡ takes k s v class
   unfolding takes
   takes-r x y b e ex ey eb q = rw (e, ← ex, ← ey, ← eb) q

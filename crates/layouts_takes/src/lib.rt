@@ -6,7 +6,7 @@ ghost use lib.Dec.{eqb};
 ghost use Rattle.layouts.specs.Machine.{need, withK1, withK2, withM1, withM2, withBad, refer, takes};
 use columns::format::MOST_INTEGER;
 use layouts::Kind;
-use layouts::State;
+use layouts::LayoutState;
 use layouts::Stepped;
 use layouts_rows::told::above_in;
 use layouts_rows::told::real_in;
@@ -25,7 +25,7 @@ fn either(a: bool, b: bool) -> bool
 }
 
 // A test that fails is refusal 14.
-fn need_of(b: bool, s: State) -> Stepped
+fn need_of(b: bool, s: LayoutState) -> Stepped
     ensures { λ r. ⌜ r ≡ need b s ⌝ }
 {
     if b { Stepped::Go(s) } else { Stepped::Bad }
@@ -38,7 +38,7 @@ fn zero_in(free: bool, n: u32) -> bool
 }
 
 // A bad reference is kept to the end.
-fn noted(s: State, bad: bool) -> Stepped
+fn noted(s: LayoutState, bad: bool) -> Stepped
     ensures { λ r. ⌜ r ≡ Stepped.Go (withBad s (s .bad || bad)) ⌝ }
 {
     let mut t = s;
@@ -47,7 +47,7 @@ fn noted(s: State, bad: bool) -> Stepped
 }
 
 // A number that is right is kept.
-fn keep_k1(b: bool, s: State, n: u32) -> Stepped
+fn keep_k1(b: bool, s: LayoutState, n: u32) -> Stepped
     ensures { λ r. ⌜ r ≡ need b (withK1 s n) ⌝ }
 {
     let mut t = s;
@@ -55,7 +55,7 @@ fn keep_k1(b: bool, s: State, n: u32) -> Stepped
     need_of(b, t)
 }
 
-fn keep_k2(b: bool, s: State, n: u32) -> Stepped
+fn keep_k2(b: bool, s: LayoutState, n: u32) -> Stepped
     requires { ⌜ (b ≡ true → n < 2 ^ 16) ⌝ }
     ensures { λ r. ⌜ r ≡ need b (withK2 s n) ⌝ }
 {
@@ -68,7 +68,7 @@ fn keep_k2(b: bool, s: State, n: u32) -> Stepped
     }
 }
 
-fn keep_m1(b: bool, s: State, n: u32) -> Stepped
+fn keep_m1(b: bool, s: LayoutState, n: u32) -> Stepped
     ensures { λ r. ⌜ r ≡ need b (withM1 s n) ⌝ }
 {
     let mut t = s;
@@ -76,7 +76,7 @@ fn keep_m1(b: bool, s: State, n: u32) -> Stepped
     need_of(b, t)
 }
 
-fn keep_m2(b: bool, s: State, n: u32) -> Stepped
+fn keep_m2(b: bool, s: LayoutState, n: u32) -> Stepped
     ensures { λ r. ⌜ r ≡ need b (withM2 s n) ⌝ }
 {
     let mut t = s;
@@ -85,7 +85,7 @@ fn keep_m2(b: bool, s: State, n: u32) -> Stepped
 }
 
 // A reference, which may be 0 or missing where free.
-fn refer_in(free: bool, want: u8, s: State, v: Value, class: u8) -> Stepped
+fn refer_in(free: bool, want: u8, s: LayoutState, v: Value, class: u8) -> Stepped
     ensures { λ r. ⌜ r ≡ refer free want s v class ⌝ }
 {
     match v {
@@ -100,7 +100,7 @@ fn refer_in(free: bool, want: u8, s: State, v: Value, class: u8) -> Stepped
 }
 
 // What a place of kind k makes of a value.
-pub fn takes_in(k: Kind, s: State, v: Value, class: u8) -> Stepped
+pub fn takes_in(k: Kind, s: LayoutState, v: Value, class: u8) -> Stepped
     ensures { λ r. ⌜ r ≡ takes k s v class ⌝ }
 {
     match k {

@@ -22,7 +22,7 @@ use Rattle.records.proofs.Texts.{length-text, small}
 use Rattle.records.proofs.Items.{trimmed-first}
 use Rattle.records.proofs.Steps.{last-is, more-is, none-wrong}
 use Rattle.directory.specs.Naming.{typesAt}
-use Rattle.layouts.specs.declared.State.{State}
+use Rattle.layouts.specs.declared.LayoutState.{LayoutState}
 use Rattle.layouts.specs.declared.Stepped.{Stepped}
 use Rattle.layouts.specs.declared.Stepped.the-variants.{Go}
 use Rattle.layouts.specs.Walk.{stepped, feed, run, mark, marksFrom}
@@ -116,7 +116,7 @@ module _ (types : List ℕ) where
 pub ruleset owed = (owes-all, owed-more, owed-last, owed-steps, owed-stepped, wrote-length)
 
 -- where more of its kind follow and none is owed: its mark is that of the place, and one of it is left less
-pub given-runs : (f : List ℕ) (base lines first n owed : ℕ) (v : Value) {g : Stepped} {s u : State} → owed ≡ 0 → g ≡ Go s → {y : Bool} → y ≡ runsOn s v → y ≡ true
+pub given-runs : (f : List ℕ) (base lines first n owed : ℕ) (v : Value) {g : Stepped} {s u : LayoutState} → owed ≡ 0 → g ≡ Go s → {y : Bool} → y ≡ runsOn s v → y ≡ true
     → u ≡ stand s (s .at) (s .left - 1) → {m : Bool} → m ≡ refers (kindAt s) → {o o′ : List ℕ} {at r : ℕ}
     → Wrote o at (lineOf (value m (itemOf (textOf f base 64 lines) v)) ++ (10 ∷ [])) o′ r → r ≤ at + 1100 → GivenPut f base lines first n g owed v o at o′ (record { next = r; marks = Go u })
 given-runs f base lines first n owed v {g} {s} {u} z e {y} ey yt eu {m} em {o} {o′} {at} {r} w near =

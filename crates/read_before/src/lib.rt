@@ -4,8 +4,8 @@ use cards::Counts;
 use columns::Fault;
 use owners::Owned;
 use read_passes::BeforeAnswer;
+use read_passes::FilePass;
 use read_passes::GlobalAnswer;
-use read_passes::Pass;
 ghost use mathlib.Core.Path.{_≡_};
 ghost use Rattle.cards.specs.Rules.{Holds};
 ghost use Rattle.owners.specs.InFile.{ownersIn, outcome};
@@ -14,19 +14,19 @@ ghost use Rattle.read_passes.specs.Passes.{passOf, beforeAnswer};
 ghost use Rattle.read_passes.specs.Walks.{directoryOutcome, behindCards};
 
 // 11: over entries, then over P lines.
-fn owners_pass(file: &[u8], c: Counts) -> Pass
+fn owners_pass(file: &[u8], c: Counts) -> FilePass
     requires { ⌜ Holds (now file) c ⌝ }
     ensures { λ r. ⌜ r ≡ passOf (outcome c (ownersIn (now (file .entry)) c)) ⌝ }
 {
     let found = owners_pass::owners(file, c);
     let line = owners_pass::line_of(c, found);
     match found {
-        Owned::Everyone => Pass::Good,
-        Owned::Entry(_) => Pass::Refused {
+        Owned::Everyone => FilePass::Good,
+        Owned::Entry(_) => FilePass::Refused {
             fault: Fault::Ownership,
             line,
         },
-        Owned::Line(_) => Pass::Refused {
+        Owned::Line(_) => FilePass::Refused {
             fault: Fault::Ownership,
             line,
         },
@@ -34,14 +34,14 @@ fn owners_pass(file: &[u8], c: Counts) -> Pass
 }
 
 // Each entry 9, 13; all 10; then 11.
-fn directory_pass(file: &[u8], c: Counts) -> Pass
+fn directory_pass(file: &[u8], c: Counts) -> FilePass
     requires { ⌜ Holds (now file) c ⌝ }
     ensures { λ r. ⌜ r ≡ passOf (directoryOutcome (now (file .entry)) c) ⌝ }
 {
     let entries = read_directory::entries(file, c);
     match entries {
-        Pass::Refused { fault, line } => Pass::Refused { fault, line },
-        Pass::Good => owners_pass(file, c),
+        FilePass::Refused { fault, line } => FilePass::Refused { fault, line },
+        FilePass::Good => owners_pass(file, c),
     }
 }
 
@@ -56,8 +56,8 @@ fn behind_cards(file: &[u8], c: Counts) -> BeforeAnswer
         GlobalAnswer::Good { parameter, closing } => {
             let found = directory_pass(file, c);
             match found {
-                Pass::Refused { fault, line } => BeforeAnswer::Refused { fault, line },
-                Pass::Good => BeforeAnswer::Good {
+                FilePass::Refused { fault, line } => BeforeAnswer::Refused { fault, line },
+                FilePass::Good => BeforeAnswer::Good {
                     counts: c,
                     parameter,
                     closing,

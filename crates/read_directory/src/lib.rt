@@ -8,7 +8,7 @@ use columns::FileLine;
 use columns::wide;
 use directory::EntryRead;
 use directory::Rule;
-use read_passes::Pass;
+use read_passes::FilePass;
 use read_passes::Turn;
 ghost use mathlib.Core.Path.{_≡_};
 ghost use Prim.Native.Nat.{_<_};
@@ -18,7 +18,7 @@ ghost use Rattle.read_passes.specs.Passes.{passOf};
 ghost use Rattle.read_passes.specs.Walks.{orElse, turnOf, entryCheck, referenceCheck, entriesOutcome};
 
 // Entry i, whose first D line is its place, with what is kept of the entries before it.
-fn entry_check(file: &[u8], c: Counts, i: usize, kept: Pass) -> Turn
+fn entry_check(file: &[u8], c: Counts, i: usize, kept: FilePass) -> Turn
     requires { ⌜ Holds (now file) c × (i < entries c) ⌝ }
     ensures { λ r. ⌜ r ≡ turnOf (entryCheck (now (file .entry)) c i) (orElse kept (referenceCheck (now (file .entry)) c i)) ⌝ }
 {
@@ -44,18 +44,18 @@ fn entry_check(file: &[u8], c: Counts, i: usize, kept: Pass) -> Turn
 }
 
 // All entries.
-pub fn entries(file: &[u8], c: Counts) -> Pass
+pub fn entries(file: &[u8], c: Counts) -> FilePass
     requires { ⌜ Holds (now file) c ⌝ }
     ensures { λ r. ⌜ r ≡ passOf (entriesOutcome (now (file .entry)) c) ⌝ }
 {
     let n = wide(c.d) / 2;
     let mut i = 0;
-    let mut kept = Pass::Good;
+    let mut kept = FilePass::Good;
     while i < n {
         let turn = entry_check(file, c, i, kept);
         match turn {
             Turn::Refused { fault, line } => {
-                return Pass::Refused { fault, line };
+                return FilePass::Refused { fault, line };
             }
             Turn::Kept(next) => {
                 kept = next;

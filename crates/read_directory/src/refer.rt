@@ -4,7 +4,7 @@ use columns::FileLine;
 use directory::Entry;
 use directory::Fields;
 use directory::Wanted;
-use read_passes::Pass;
+use read_passes::FilePass;
 ghost use mathlib.Core.Path.{_≡_};
 ghost use Prim.Native.Nat.{_+_, _*_, _≤_};
 ghost use lib.ListN.{length};
@@ -53,19 +53,19 @@ pub fn reference_check(
     n: usize,
     fields: Fields,
     line: FileLine,
-    kept: Pass,
-) -> Pass
+    kept: FilePass,
+) -> FilePass
     requires { ⌜ lineBytes * (first + 2 * n) ≤ length (now file) ⌝ }
     ensures { λ r. ⌜ r ≡ orElse kept (passOf (referenceRule (typesAt (now (file .entry)) first n) fields (line .0))) ⌝ }
 {
-    let Pass::Good = kept else {
+    let FilePass::Good = kept else {
         return kept;
     };
     let e = directory_rules::entry_of(fields);
     if all_ask_ok(file, first, n, e) {
-        return Pass::Good;
+        return FilePass::Good;
     }
-    Pass::Refused {
+    FilePass::Refused {
         fault: Fault::Reference,
         line,
     }

@@ -11,8 +11,8 @@ use Rattle.columns.specs.Refusal.{Outcome, accepted, refused, demand, _then_}
 use Rattle.values.specs.Value.{default}
 use Rattle.records.specs.Record.{Values, values, wrong, valuesAt, trimmed}
 use Rattle.cards.specs.declared.Counts.{Counts}
-use Rattle.layouts.specs.declared.Verdict.{Verdict}
-use Rattle.layouts.specs.declared.Verdict.the-variants.{Good as GoodVerdict, Layout, LayoutReference}
+use Rattle.layouts.specs.declared.LayoutVerdict.{LayoutVerdict}
+use Rattle.layouts.specs.declared.LayoutVerdict.the-variants.{Good as GoodVerdict, Layout, LayoutReference}
 use Rattle.layouts.specs.Known.{known}
 use Rattle.layouts.specs.Entities.{Entity, verdict, fault, entityCheck}
 use Rattle.layouts.specs.Fits.{Keeps}
@@ -39,7 +39,7 @@ refused-of : {A : Type 0} {a : A} {place : ℕ} (o : Outcome A) → Of a place o
 refused-of o of-accepted f h = let z : _≡_ {A = ℕ} 0 1 = cc in absurd (omega arith)
 refused-of {A} {a} {place} o (of-refused g) f h = let e : g ≡ f = cc in ap (λ (x : Fault). refused x place) e
 
-fault-of : (w : Verdict) (place : ℕ) → Of tt place (fault w place)
+fault-of : (w : LayoutVerdict) (place : ℕ) → Of tt place (fault w place)
 fault-of GoodVerdict place = of-accepted
 fault-of Layout place = of-refused _
 fault-of LayoutReference place = of-refused _

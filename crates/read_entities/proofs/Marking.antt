@@ -5,7 +5,7 @@ use mathlib.Core.List.{List}
 use Prim.Native.Nat.{ℕ}
 use Rattle.values.specs.declared.Value.{Value}
 use Rattle.values.specs.Value.{Item}
-use Rattle.layouts.specs.declared.State.{State}
+use Rattle.layouts.specs.declared.LayoutState.{LayoutState}
 use Rattle.layouts.specs.declared.Stepped.{Stepped}
 use Rattle.layouts.specs.declared.Stepped.the-variants.{Go, Bad}
 use Rattle.layouts.specs.Named.{named}
@@ -22,7 +22,7 @@ use Rattle.read_entities.specs.Marks.{marksBegun, markedFrom}
 -- ---- marks
 
 module _ (list typ form : ℕ) {y : Bool} (ey : y ≡ known list typ form) where
-  pub begun-known : y ≡ true → {s : State} → s ≡ start typ form → Go s ≡ marksBegun list typ form
+  pub begun-known : y ≡ true → {s : LayoutState} → s ≡ start typ form → Go s ≡ marksBegun list typ form
   unfolding marksBegun
   begun-known e q = rw (← ey, e, q)
 
@@ -31,14 +31,14 @@ module _ (list typ form : ℕ) {y : Bool} (ey : y ≡ known list typ form) where
   begun-carried e = rw (← ey, e)
 
 module _ {g : Stepped} where
-  pub mark-go : {s : State} {b : Bool} → g ≡ Go s → b ≡ refers (kindAt s) → b ≡ mark g
+  pub mark-go : {s : LayoutState} {b : Bool} → g ≡ Go s → b ≡ refers (kindAt s) → b ≡ mark g
   mark-go e q = rw e q
 
   pub mark-bad : g ≡ Bad → false ≡ mark g
   mark-bad e = rw e
 
   module _ (types : List ℕ) (v : Value) where
-    pub stepped-go : {s : State} (class : ℕ) {r : Stepped} → g ≡ Go s → class ≡ named types v → r ≡ step s v class → r ≡ stepped types g v
+    pub stepped-go : {s : LayoutState} (class : ℕ) {r : Stepped} → g ≡ Go s → class ≡ named types v → r ≡ step s v class → r ≡ stepped types g v
     stepped-go {s} class e q h = rw e (h ∙ ap (step s v) q)
 
     pub stepped-bad : g ≡ Bad → Bad ≡ stepped types g v

@@ -15,8 +15,8 @@ use Rattle.values.specs.Value.{Item, default, itemOf}
 use Rattle.records.specs.declared.Check.the-variants.{Done}
 use Rattle.records.specs.Record.{Values, values, wrong, trimmed, kept}
 use Rattle.records.specs.Reading.{checked}
-use Rattle.layouts.specs.declared.Verdict.{Verdict}
-use Rattle.layouts.specs.declared.Verdict.the-variants.{Good as GoodVerdict, Layout, LayoutReference}
+use Rattle.layouts.specs.declared.LayoutVerdict.{LayoutVerdict}
+use Rattle.layouts.specs.declared.LayoutVerdict.the-variants.{Good as GoodVerdict, Layout, LayoutReference}
 use Rattle.layouts.specs.Known.{known}
 use Rattle.layouts.specs.Entities.{Entity, verdict, fault, entityCheck}
 use Rattle.model.specs.Model.{typeOf}
@@ -31,7 +31,7 @@ then-carried : {A : Type 0} (o : Outcome (Unit {0})) (a : A) → entityAnswer o 
 then-carried (accepted u) a = refl
 then-carried (refused n p) a = refl
 
-fault-place : (w : Verdict) (p q : ℕ) → entityAnswer (fault w p) ≡ entityAnswer (fault w q)
+fault-place : (w : LayoutVerdict) (p q : ℕ) → entityAnswer (fault w p) ≡ entityAnswer (fault w q)
 fault-place GoodVerdict p q = refl
 fault-place Layout p q = refl
 fault-place LayoutReference p q = refl
@@ -100,12 +100,12 @@ done-values (wrong f s at) n m end h = let z : _≡_ {A = ℕ} 0 1 = cc in absur
 
 -- ---- the pass
 
-pub answer-fault : (w : Verdict) (p : ℕ) → verdictAnswer w ≡ entityAnswer (fault w p)
+pub answer-fault : (w : LayoutVerdict) (p : ℕ) → verdictAnswer w ≡ entityAnswer (fault w p)
 answer-fault GoodVerdict p = refl
 answer-fault Layout p = refl
 answer-fault LayoutReference p = refl
 
-module _ {w : Verdict} where
+module _ {w : LayoutVerdict} where
   pub answer-good : w ≡ GoodVerdict → Good ≡ verdictAnswer w
   answer-good e = rw e
 

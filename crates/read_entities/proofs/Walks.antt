@@ -21,7 +21,7 @@ use Rattle.records.proofs.Texts.{length-text, small}
 use Rattle.records.proofs.Bounds.{next-more, next-in, next-less, can-write}
 use Rattle.records.proofs.Puts.{inside, copied-text, spelled-length, copied-few}
 use Rattle.records.proofs.Steps.{at-last, at-more, at-wrong}
-use Rattle.layouts.specs.declared.State.{State}
+use Rattle.layouts.specs.declared.LayoutState.{LayoutState}
 use Rattle.layouts.specs.declared.Stepped.{Stepped}
 use Rattle.layouts.specs.declared.Stepped.the-variants.{Go, Bad}
 use Rattle.layouts.specs.Named.{named}
@@ -29,8 +29,8 @@ use Rattle.layouts.specs.Machine.{stand, runsOn}
 use Rattle.layouts.specs.Walk.{stepped, run}
 use Rattle.layouts.proofs.Steps.{runs-left, step-runs}
 use Rattle.layouts.proofs.Runs.{feed-stepped, run-bad, run-append}
-use Rattle.read_entities.specs.declared.Walked.{Walked}
-use Rattle.read_entities.specs.declared.Walked.the-variants.{Done, Wrong}
+use Rattle.read_entities.specs.declared.EntityWalked.{EntityWalked}
+use Rattle.read_entities.specs.declared.EntityWalked.the-variants.{Done, Wrong}
 use Rattle.read_entities.specs.Walking.{carriedLength, owing, stateAfter, lengthAfter, owedAfter, walkedFrom}
 
 -- ---- defaults
@@ -63,14 +63,14 @@ module _ (types : List ℕ) {g : Stepped} (owed : ℕ) (v : Value) (b : Bool) (e
     pub state-bad : g ≡ Bad → Bad ≡ stateAfter types g owed v
     state-bad eg = rw (← eb, e, eg, run-bad types (replicate owed default))
 
-    module _ (s : State) (eg : g ≡ Go s) (t : State) where
+    module _ (s : LayoutState) (eg : g ≡ Go s) (t : LayoutState) where
       -- none is owed, and more of its kind follow
       pub state-runs : (y : Bool) → owed ≡ 0 → y ≡ runsOn s v → y ≡ true → t ≡ stand s (s .at) (s .left - 1) → Go t ≡ stateAfter types g owed v
       unfolding run
       state-runs y z ey h et = rw (← eb, e, eg, z) (step-runs s t v (named types v) y ey h et)
 
       pub state-given : (h u : Stepped) → t ≡ stand s (s .at) (s .left) → h ≡ run types (Go t) (replicate owed default) → u ≡ stepped types h v → u ≡ stateAfter types g owed v
-      state-given h u et eh eu = rw (← eb, e, eg) (eu ∙ ap (λ (x : Stepped). stepped types x v) (eh ∙ ap (λ (x : State). run types (Go x) (replicate owed default)) et))
+      state-given h u et eh eu = rw (← eb, e, eg) (eu ∙ ap (λ (x : Stepped). stepped types x v) (eh ∙ ap (λ (x : LayoutState). run types (Go x) (replicate owed default)) et))
 
 pub ruleset states = (state-same, state-bad, state-runs, state-given, runs-left)
 
@@ -159,7 +159,7 @@ module _ (types : List ℕ) (g : Stepped) (owed size : ℕ) (t : List ℕ) where
 -- ---- the loop over a record: f is the answer
 
 module _ {file : List ℕ} {base lines : ℕ} (st : Stands file base 64 lines) {c d : ℕ} (pc : 0 < c) (pd : 0 < d) (types : List ℕ) where
-  module _ (q owed size : ℕ) (g : Stepped) {got : Got} {f : Walked} (h : q ≤ lines * 64) (eg : got ≡ valueAt 64 c d (textOf file base 64 lines) q)
+  module _ (q owed size : ℕ) (g : Stepped) {got : Got} {f : EntityWalked} (h : q ≤ lines * 64) (eg : got ≡ valueAt 64 c d (textOf file base 64 lines) q)
       (inv : walkedFrom types g owed size (valuesAt 64 c d (textOf file base 64 lines) q) ≡ f) where
     pub walk-wrong : {fault : Fault} {s at : ℕ} → got ≡ Refused fault s at → Wrong fault ≡ f
     walk-wrong e = sym (ap (walkedFrom types g owed size) (at-wrong 64 c d (textOf file base 64 lines) pc pd q (sym eg ∙ e))) ∙ inv

@@ -10,16 +10,16 @@ use Rattle.values.specs.declared.Value.{Value}
 use Rattle.values.specs.declared.Value.the-variants.{Default, Whole, Real, Text}
 use Rattle.values.specs.Value.{default}
 use Rattle.records.specs.Record.{Values, values, wrong, trimmed}
-use Rattle.layouts.specs.declared.Verdict.{Verdict}
-use Rattle.layouts.specs.declared.Verdict.the-variants.{Good as GoodVerdict, Layout, LayoutReference}
+use Rattle.layouts.specs.declared.LayoutVerdict.{LayoutVerdict}
+use Rattle.layouts.specs.declared.LayoutVerdict.the-variants.{Good as GoodVerdict, Layout, LayoutReference}
 use Rattle.layouts.specs.declared.Stepped.{Stepped}
 use Rattle.layouts.specs.Entities.{entityCheck}
 use Rattle.layouts.specs.Walk.{ended}
 use Rattle.model.specs.Read.{isType}
 use Rattle.read_entities.specs.declared.EntityAnswer.{EntityAnswer}
 use Rattle.read_entities.specs.declared.EntityAnswer.the-variants.{Good, Refused}
-use Rattle.read_entities.specs.declared.Walked.{Walked}
-use Rattle.read_entities.specs.declared.Walked.the-variants.{Done, Wrong}
+use Rattle.read_entities.specs.declared.EntityWalked.{EntityWalked}
+use Rattle.read_entities.specs.declared.EntityWalked.the-variants.{Done, Wrong}
 use Rattle.read_entities.specs.declared.Weighed.{Weighed}
 use Rattle.read_entities.specs.Taking.{entityWith}
 
@@ -46,7 +46,7 @@ typeRead typ (Real neg m eneg e double) = false
 typeRead typ (Text start count) = false
 
 -- the answer that a verdict is
-abbrev pub verdictAnswer : Verdict → EntityAnswer
+abbrev pub verdictAnswer : LayoutVerdict → EntityAnswer
 verdictAnswer GoodVerdict = Good
 verdictAnswer Layout = Refused LayoutFault
 verdictAnswer LayoutReference = Refused LayoutReferenceFault
@@ -56,6 +56,6 @@ abbrev pub passAnswer : Bool → Bool → Stepped → EntityAnswer
 passAnswer typed inside g = cond typed (cond inside (verdictAnswer (ended g)) Good) (Refused FirstValue)
 
 -- the same by the walk over its values, with the bytes of their lines
-unfoldable pub weighedOf : Bool → Bool → Walked → Weighed
+unfoldable pub weighedOf : Bool → Bool → EntityWalked → Weighed
 weighedOf typed inside (Done state size) = record { answer = passAnswer typed inside state; length = size }
 weighedOf typed inside (Wrong fault) = record { answer = Refused fault; length = 0 }

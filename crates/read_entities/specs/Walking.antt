@@ -11,8 +11,8 @@ use Rattle.records.specs.Record.{Values, values, wrong, trimmed}
 use Rattle.records.specs.Written.{copied}
 use Rattle.layouts.specs.declared.Stepped.{Stepped}
 use Rattle.layouts.specs.Walk.{stepped, run}
-use Rattle.read_entities.specs.declared.Walked.{Walked}
-use Rattle.read_entities.specs.declared.Walked.the-variants.{Done, Wrong}
+use Rattle.read_entities.specs.declared.EntityWalked.{EntityWalked}
+use Rattle.read_entities.specs.declared.EntityWalked.the-variants.{Done, Wrong}
 
 -- the bytes of the value lines of these values: the mark, a tab, the spelling, an LF
 unfoldable pub carriedLength : List Item → ℕ
@@ -38,11 +38,11 @@ owedAfter owed v = cond (isMissing v) (owed + 1) 0
 -- ---- behind all
 
 -- the rest of the walk, so many defaults owed and so many bytes measured
-abbrev pub walkedFrom : List ℕ → Stepped → ℕ → ℕ → Values → Walked
+abbrev pub walkedFrom : List ℕ → Stepped → ℕ → ℕ → Values → EntityWalked
 walkedFrom types g owed size (values vs end) = Done (run types g (owing owed (trimmed vs))) (size + carriedLength (owing owed (trimmed vs)))
 walkedFrom types g owed size (wrong fault start at) = Wrong fault
 
 -- no more bytes than m
-abbrev pub Light : ℕ → Walked → Type 0
+abbrev pub Light : ℕ → EntityWalked → Type 0
 Light m (Done state size) = size ≤ m
 Light m (Wrong fault) = Unit {0}

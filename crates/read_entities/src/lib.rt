@@ -28,7 +28,7 @@ pub struct Weighed {
 
 // An entity's values behind its type, walked over: the layout behind the last that is no default, and the bytes of the value
 // lines up to it; or the first refusal.
-pub enum Walked {
+pub enum EntityWalked {
     Done { state: Stepped, length: usize },
     Wrong(Fault),
 }

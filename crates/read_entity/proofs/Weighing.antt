@@ -16,10 +16,10 @@ use Rattle.records.specs.declared.Got.the-variants.{Found, Refused as RefusedVa
 use Rattle.records.specs.Record.{Values, values, wrong, more, valueAt, valuesAt, trimmed}
 use Rattle.records.proofs.Bounds.{next-in}
 use Rattle.records.proofs.Steps.{at-last, at-more, at-wrong}
-use Rattle.layouts.specs.declared.State.{State}
+use Rattle.layouts.specs.declared.LayoutState.{LayoutState}
 use Rattle.layouts.specs.declared.Stepped.{Stepped}
 use Rattle.layouts.specs.declared.Stepped.the-variants.{Go, Bad}
-use Rattle.layouts.specs.declared.Verdict.{Verdict}
+use Rattle.layouts.specs.declared.LayoutVerdict.{LayoutVerdict}
 use Rattle.layouts.specs.Machine.{start, end}
 use Rattle.layouts.specs.Known.{known}
 use Rattle.layouts.specs.Entities.{fault}
@@ -28,8 +28,8 @@ use Rattle.layouts.proofs.Walk.{check-judged}
 use Rattle.model.specs.Read.{isType}
 use Rattle.read_entities.specs.declared.EntityAnswer.{EntityAnswer}
 use Rattle.read_entities.specs.declared.EntityAnswer.the-variants.{Good, Refused}
-use Rattle.read_entities.specs.declared.Walked.{Walked}
-use Rattle.read_entities.specs.declared.Walked.the-variants.{Done, Wrong}
+use Rattle.read_entities.specs.declared.EntityWalked.{EntityWalked}
+use Rattle.read_entities.specs.declared.EntityWalked.the-variants.{Done, Wrong}
 use Rattle.read_entities.specs.declared.Weighed.{Weighed}
 use Rattle.read_entities.specs.Taking.{entityWith}
 use Rattle.read_entities.specs.Answers.{entityAnswer, entityPassOf, typeRead, verdictAnswer, passAnswer, weighedOf}
@@ -49,7 +49,7 @@ module _ (typed inside : Bool) (g : Stepped) where
     answer-outside h = rw (e, h)
 
     module _ (h : inside ≡ true) where
-      pub answer-go : {s : State} {w : Verdict} {r : EntityAnswer} → g ≡ Go s → w ≡ end s → r ≡ verdictAnswer w → r ≡ passAnswer typed inside g
+      pub answer-go : {s : LayoutState} {w : LayoutVerdict} {r : EntityAnswer} → g ≡ Go s → w ≡ end s → r ≡ verdictAnswer w → r ≡ passAnswer typed inside g
       answer-go q ew er = rw (e, h, q, ← ew) er
 
       pub answer-bad : g ≡ Bad → Refused LayoutFault ≡ passAnswer typed inside g
@@ -57,7 +57,7 @@ module _ (typed inside : Bool) (g : Stepped) where
 
 pub ruleset answers = (not-true, not-false, answer-first, answer-outside, answer-go, answer-bad)
 
-module _ (typed inside : Bool) {w : Walked} where
+module _ (typed inside : Bool) {w : EntityWalked} where
   pub weighed-wrong : {f : Fault} → w ≡ Wrong f → record { answer = Refused f; length = 0 } ≡ weighedOf typed inside w
   unfolding weighedOf
   weighed-wrong e = rw e
@@ -119,7 +119,7 @@ module _ {c d : ℕ} (pc : 0 < c) (pd : 0 < d) (t : List ℕ) {got : Got} (eg : 
     unfolding carriedLength
     weigh-single l = sym (ap (λ (vs : Values). carriedLength (carriedIn vs)) (at-last 64 c d t pc pd 0 (sym eg ∙ e ∙ ap (Found v s next) l)))
 
-    module _ (l : last ≡ false) (types : List ℕ) (g : Stepped) {w : Walked} (ew : w ≡ walkedFrom types g 0 0 (valuesAt 64 c d t next)) where
+    module _ (l : last ≡ false) (types : List ℕ) (g : Stepped) {w : EntityWalked} (ew : w ≡ walkedFrom types g 0 0 (valuesAt 64 c d t next)) where
       whole : carriedLength (carriedIn (more (itemOf t v) (valuesAt 64 c d t next))) ≡ carriedLength (carriedIn (valuesAt 64 c d t 0))
       whole = sym (ap (λ (vs : Values). carriedLength (carriedIn vs)) (at-more 64 c d t pc pd 0 (omega arith) (sym eg ∙ e ∙ ap (Found v s next) l)))
 
@@ -127,15 +127,15 @@ module _ {c d : ℕ} (pc : 0 < c) (pd : 0 < d) (t : List ℕ) {got : Got} (eg : 
       unfolding weighedOf
       weigh-walked typed inside er = ap (λ (y : Weighed). y .length) er ∙ by w ew
         where
-          by : (x : Walked) → x ≡ walkedFrom types g 0 0 (valuesAt 64 c d t next) → weighedOf typed inside x .length ≡ carriedLength (carriedIn (valuesAt 64 c d t 0))
+          by : (x : EntityWalked) → x ≡ walkedFrom types g 0 0 (valuesAt 64 c d t next) → weighedOf typed inside x .length ≡ carriedLength (carriedIn (valuesAt 64 c d t 0))
           by (Wrong f) ex = none-carried types (itemOf t v) (valuesAt 64 c d t next) g f (sym ex) ∙ whole
           by (Done u size) ex = all-carried types (itemOf t v) (valuesAt 64 c d t next) g u size (sym ex) ∙ whole
 
-pub weigh-light : (m : ℕ) (w : Walked) (typed inside : Bool) {r : Weighed} → r ≡ weighedOf typed inside w → Light m w → r .length ≤ m
+pub weigh-light : (m : ℕ) (w : EntityWalked) (typed inside : Bool) {r : Weighed} → r ≡ weighedOf typed inside w → Light m w → r .length ≤ m
 unfolding weighedOf
 weigh-light m w typed inside er h = by w er h
   where
-    by : {r : Weighed} (x : Walked) → r ≡ weighedOf typed inside x → Light m x → r .length ≤ m
+    by : {r : Weighed} (x : EntityWalked) → r ≡ weighedOf typed inside x → Light m x → r .length ≤ m
     by (Wrong f) e l = let k = ap (λ (y : Weighed). y .length) e in omega arith
     by (Done u size) e l = let k = ap (λ (y : Weighed). y .length) e in omega arith
 
@@ -158,7 +158,7 @@ module _ (list : ℕ) (types : List ℕ) (typ form : ℕ) where
           er ∙ rw (its-type, ei, eb) (pass-all list types typ form (itemOf t v) [] next)
           ∙ sym (ap (entityPassOf list types typ form) (at-last 64 c d t pc pd 0 (sym eg ∙ e ∙ ap (Found v s next) l)))
 
-      module _ (l : last ≡ false) {w : Walked} (ew : w ≡ walkedFrom types g 0 0 (valuesAt 64 c d t next)) where
+      module _ (l : last ≡ false) {w : EntityWalked} (ew : w ≡ walkedFrom types g 0 0 (valuesAt 64 c d t next)) where
         rest : valuesAt 64 c d t 0 ≡ more (itemOf t v) (valuesAt 64 c d t next)
         rest = at-more 64 c d t pc pd 0 (omega arith) (sym eg ∙ e ∙ ap (Found v s next) l)
 
@@ -166,7 +166,7 @@ module _ (list : ℕ) (types : List ℕ) (typ form : ℕ) where
         unfolding weighedOf
         pass-walked er = ap (λ (y : Weighed). y .answer) er ∙ by w ew ∙ sym (ap (entityPassOf list types typ form) rest)
           where
-            by : (x : Walked) → x ≡ walkedFrom types g 0 0 (valuesAt 64 c d t next) → weighedOf typed inside x .answer ≡ entityPassOf list types typ form (more (itemOf t v) (valuesAt 64 c d t next))
+            by : (x : EntityWalked) → x ≡ walkedFrom types g 0 0 (valuesAt 64 c d t next) → weighedOf typed inside x .answer ≡ entityPassOf list types typ form (more (itemOf t v) (valuesAt 64 c d t next))
             by (Wrong f) ex = values-wrong list types typ form (itemOf t v) (valuesAt 64 c d t next) g f (sym ex)
             by (Done u size) ex =
                 rw (its-type, ei) (values-done list types typ form (itemOf t v) (valuesAt 64 c d t next) u size (ap (λ (y : Stepped). walkedFrom types y 0 0 (valuesAt 64 c d t next)) (sym eb) ∙ sym ex))

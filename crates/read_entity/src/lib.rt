@@ -1,12 +1,12 @@
 // The pass over one entity: its record's values, the type that stands first, its layout.
 use columns::Fault;
 use columns::format::PARAMETER_COLUMNS;
+use layouts::LayoutVerdict;
 use layouts::Stepped;
-use layouts::Verdict;
 use layouts_lists::known;
 use layouts_machine::end;
 use read_entities::EntityAnswer;
-use read_entities::Walked;
+use read_entities::EntityWalked;
 use read_entities::Weighed;
 use read_entities::marks::marks_begun;
 use read_walk::walk;
@@ -42,13 +42,13 @@ fn is_type(typ: u32, v: Value) -> bool
     }
 }
 
-fn verdict_answer(w: Verdict) -> EntityAnswer
+fn verdict_answer(w: LayoutVerdict) -> EntityAnswer
     ensures { λ r. ⌜ r ≡ verdictAnswer w ⌝ }
 {
     match w {
-        Verdict::Good => EntityAnswer::Good,
-        Verdict::Layout => EntityAnswer::Refused(Fault::Layout),
-        Verdict::LayoutReference => EntityAnswer::Refused(Fault::LayoutReference),
+        LayoutVerdict::Good => EntityAnswer::Good,
+        LayoutVerdict::Layout => EntityAnswer::Refused(Fault::Layout),
+        LayoutVerdict::LayoutReference => EntityAnswer::Refused(Fault::LayoutReference),
     }
 }
 
@@ -73,15 +73,15 @@ fn pass_answer(typed: bool, inside: bool, g: Stepped) -> EntityAnswer
 }
 
 // The same by the walk over its values, with the bytes of their lines.
-fn weighed_by(typed: bool, inside: bool, walked: Walked) -> Weighed
+fn weighed_by(typed: bool, inside: bool, walked: EntityWalked) -> Weighed
     ensures { λ r. ⌜ r ≡ weighedOf typed inside walked ⌝ }
 {
     match walked {
-        Walked::Wrong(fault) => Weighed {
+        EntityWalked::Wrong(fault) => Weighed {
             answer: EntityAnswer::Refused(fault),
             length: 0,
         },
-        Walked::Done { state, length } => {
+        EntityWalked::Done { state, length } => {
             let answer = pass_answer(typed, inside, state);
             Weighed { answer, length }
         }

@@ -8,7 +8,7 @@ use Rattle.cards.specs.declared.Counts.{Counts}
 use Rattle.cards.specs.Cards.{firstD, firstP, entries, parameterLine}
 use Rattle.records.specs.Record.{Values, values, wrong, valuesAt}
 use Rattle.model.specs.Read.{Listed, firstEntry, parametersOf, byParameters, entityIn, lastPass}
-use Rattle.read_passes.specs.declared.Pass.the-variants.{Good as Passes}
+use Rattle.read_passes.specs.declared.FilePass.the-variants.{Good as Passes}
 use Rattle.read_passes.specs.Passes.{passOf}
 use Rattle.read_passes.specs.Listed.{entryOf, allTypes}
 use Rattle.read_passes.specs.Ready.{Ready}

@@ -30,8 +30,8 @@ use Rattle.records.proofs.Bounds.{done-count, done-end, failed-start}
 use Rattle.records.proofs.Globals.{parameter-above, record-above, opening-in}
 use Rattle.records.proofs.Items.{items-are}
 use Rattle.model.specs.Read.{GlobalRead, globalRead, given, globalText, globalLine, spellingLine, fieldFits, noStray, byValues, globalIn}
-use Rattle.read_passes.specs.declared.Pass.{Pass}
-use Rattle.read_passes.specs.declared.Pass.the-variants.{Good, Refused}
+use Rattle.read_passes.specs.declared.FilePass.{FilePass}
+use Rattle.read_passes.specs.declared.FilePass.the-variants.{Good, Refused}
 use Rattle.read_passes.specs.declared.GlobalAnswer.{GlobalAnswer}
 use Rattle.read_passes.specs.declared.GlobalAnswer.the-variants.{Good as GlobalGood, Refused as GlobalRefused}
 use Rattle.read_passes.specs.Passes.{passOf, answerOf, globalAnswer}
@@ -72,7 +72,7 @@ module _ (c : Counts) (t : List ℕ) (p d from : ℕ) where
       rw e (by-parts (noStray c t end) (eqb (firstNot (fieldFits vs) 0 (length vs)) (length vs)) Global (globalLine c (startAt 72 p d t from (firstNot (fieldFits vs) 0 (length vs)))) (globalRead p d (given firstField vs))
       ∙ ap (λ (k : ℕ). orElse (passOf (noStray c t end)) (passOf (demand (eqb k (length vs)) Global (globalLine c (startAt 72 p d t from k))))) (fields-same vs end e))
 
-  pub pass-done : (k : Check) (n m end : ℕ) (r : Pass) → k ≡ checked (valuesAt 72 p d t from) → k ≡ Done n m end
+  pub pass-done : (k : Check) (n m end : ℕ) (r : FilePass) → k ≡ checked (valuesAt 72 p d t from) → k ≡ Done n m end
       → r ≡ orElse (passOf (noStray c t end)) (passOf (fieldsFit c p d t from n)) → r ≡ passOf (valuesOutcome c t p d from)
   pass-done k n m end r ek e er = by (valuesAt 72 p d t from) refl (sym ek ∙ e)
     where
@@ -118,14 +118,14 @@ module _ (c : Counts) (t : List ℕ) (p d from : ℕ) where
 
 -- ---- one check after another
 
-module _ (x y : Pass) where
-  pub else-here : (n : Fault) (l : FileLine) (a : Pass) → a ≡ x → a ≡ Refused n l → Refused n l ≡ orElse x y
+module _ (x y : FilePass) where
+  pub else-here : (n : Fault) (l : FileLine) (a : FilePass) → a ≡ x → a ≡ Refused n l → Refused n l ≡ orElse x y
   else-here n l a e h = rw (← e, h)
 
-  pub else-next : (a r : Pass) → a ≡ x → a ≡ Good → r ≡ y → r ≡ orElse x y
+  pub else-next : (a r : FilePass) → a ≡ x → a ≡ Good → r ≡ y → r ≡ orElse x y
   else-next a r e h k = rw (← e, h) k
 
-module _ (x : Pass) (p d : ℕ) where
+module _ (x : FilePass) (p d : ℕ) where
   pub answers-good : x ≡ Good → GlobalGood p d ≡ answerOf x p d
   answers-good e = rw e
 
@@ -142,7 +142,7 @@ module _ (f : List ℕ) (c : Counts) (s g : ℕ) (es : s ≡ c .s) (eg : g ≡ c
     ek-is : k ≡ checked (valuesAt 72 p d (globalText f c) from)
     ek-is = ek ∙ ap (λ (t : List ℕ). checked (valuesAt 72 p d t from)) same-text
 
-    pub record-done : (n m end : ℕ) (r : Pass) → k ≡ Done n m end
+    pub record-done : (n m end : ℕ) (r : FilePass) → k ≡ Done n m end
         → r ≡ orElse (passOf (noStray c (globalText f c) end)) (passOf (fieldsFit c p d (globalText f c) from n)) → r ≡ passOf (valuesOutcome c (globalText f c) p d from)
     record-done n m end r e er = pass-done c (globalText f c) p d from k n m end r ek-is e er
 
@@ -157,14 +157,14 @@ module _ (f : List ℕ) (c : Counts) (s g : ℕ) (es : s ≡ c .s) (eg : g ≡ c
     unfolding globalIn
     opening-wrong e = rw (eo-is, e, es)
 
-    module _ (p d next : ℕ) (last : Bool) (e : o ≡ Opened p d next last) (x : Pass) (r : GlobalAnswer) (er : r ≡ answerOf x p d) where
+    module _ (p d next : ℕ) (last : Bool) (e : o ≡ Opened p d next last) (x : FilePass) (r : GlobalAnswer) (er : r ≡ answerOf x p d) where
       pub opening-last : last ≡ true → x ≡ passOf (noStray c (globalText f c) next) → r ≡ globalAnswer (globalIn f c)
       unfolding globalIn
-      opening-last l ex = rw (eo-is, e, l) (er ∙ ap (λ (y : Pass). answerOf y p d) ex ∙ answer-alone c (globalText f c) p d next (noStray c (globalText f c) next))
+      opening-last l ex = rw (eo-is, e, l) (er ∙ ap (λ (y : FilePass). answerOf y p d) ex ∙ answer-alone c (globalText f c) p d next (noStray c (globalText f c) next))
 
       pub opening-more : last ≡ false → x ≡ passOf (valuesOutcome c (globalText f c) p d next) → r ≡ globalAnswer (globalIn f c)
       unfolding globalIn valuesOutcome
-      opening-more l ex = rw (eo-is, e, l) (er ∙ ap (λ (y : Pass). answerOf y p d) ex ∙ answer-values c (globalText f c) p d next)
+      opening-more l ex = rw (eo-is, e, l) (er ∙ ap (λ (y : FilePass). answerOf y p d) ex ∙ answer-values c (globalText f c) p d next)
 
 -- ---- bounds
 

@@ -5,8 +5,8 @@ use columns::FileLine;
 use columns::format::LINE_BYTES;
 use columns::format::TEXT_COLUMNS;
 use columns::wide;
+use read_passes::FilePass;
 use read_passes::GlobalAnswer;
-use read_passes::Pass;
 use records::Check;
 use records::Got;
 use records::Opening;
@@ -45,17 +45,17 @@ fn spelling_line(file: &[u8], c: Counts, start: usize, at: usize) -> FileLine
 }
 
 // Behind the record, which ends at `end`, is nothing but blanks.
-fn no_stray(file: &[u8], c: Counts, end: usize) -> Pass
+fn no_stray(file: &[u8], c: Counts, end: usize) -> FilePass
     requires { ⌜ Holds (now file) c × (end ≤ c .g * textColumns) ⌝ }
     ensures { λ r. ⌜ r ≡ passOf (noStray c (globalText (now (file .entry)) c) end) ⌝ }
 {
     let lines = wide(c.g);
     let q = records_global::stray(file, LINE_BYTES * wide(c.s), TEXT_COLUMNS, lines, end);
     if q == lines * TEXT_COLUMNS {
-        return Pass::Good;
+        return FilePass::Good;
     }
     let line = global_line(c, q);
-    Pass::Refused {
+    FilePass::Refused {
         fault: Fault::Spelling,
         line,
     }
@@ -89,7 +89,7 @@ fn behind_of(g: Got) -> usize
 }
 
 // Rule 8, field by field: the values from position `from` on, n of them.
-fn fields_fit(file: &[u8], c: Counts, parameter: u8, closing: u8, from: usize, n: usize) -> Pass
+fn fields_fit(file: &[u8], c: Counts, parameter: u8, closing: u8, from: usize, n: usize) -> FilePass
     requires { ⌜ Holds (now file) c × (from ≤ c .g * textColumns) × (n ≤ 16000000) × (0 < parameter) × (0 < closing) ⌝ }
     ensures { λ r. ⌜ r ≡ passOf (fieldsFit c parameter closing (globalText (now (file .entry)) c) from n) ⌝ }
 {
@@ -104,7 +104,7 @@ fn fields_fit(file: &[u8], c: Counts, parameter: u8, closing: u8, from: usize, n
         let next = behind_of(g);
         if !records_global::global_fits(FIRST_FIELD + k as u32, value) {
             let line = global_line(c, start);
-            return Pass::Refused {
+            return FilePass::Refused {
                 fault: Fault::Global,
                 line,
             };
@@ -112,7 +112,7 @@ fn fields_fit(file: &[u8], c: Counts, parameter: u8, closing: u8, from: usize, n
         q = next;
         k += 1;
     }
-    Pass::Good
+    FilePass::Good
 }
 
 // Behind n values from `from` on, where the record ends at `end`: stray text, then rule 8.
@@ -124,19 +124,19 @@ fn done_pass(
     from: usize,
     n: usize,
     end: usize,
-) -> Pass
+) -> FilePass
     requires { ⌜ Holds (now file) c × (from ≤ c .g * textColumns) × (n ≤ 16000000) × (end ≤ c .g * textColumns) × (0 < parameter) × (0 < closing) ⌝ }
     ensures { λ r. ⌜ r ≡ orElse (passOf (noStray c (globalText (now (file .entry)) c) end)) (passOf (fieldsFit c parameter closing (globalText (now (file .entry)) c) from n)) ⌝ }
 {
     let found = no_stray(file, c, end);
     match found {
-        Pass::Refused { fault, line } => Pass::Refused { fault, line },
-        Pass::Good => fields_fit(file, c, parameter, closing, from, n),
+        FilePass::Refused { fault, line } => FilePass::Refused { fault, line },
+        FilePass::Good => fields_fit(file, c, parameter, closing, from, n),
     }
 }
 
 // The record from `from` on.
-fn values_pass(file: &[u8], c: Counts, parameter: u8, closing: u8, from: usize) -> Pass
+fn values_pass(file: &[u8], c: Counts, parameter: u8, closing: u8, from: usize) -> FilePass
     requires { ⌜ Holds (now file) c × (from ≤ c .g * textColumns) × (0 < parameter) × (0 < closing) ⌝ }
     ensures { λ r. ⌜ r ≡ passOf (valuesOutcome c (globalText (now (file .entry)) c) parameter closing from) ⌝ }
 {
@@ -146,18 +146,18 @@ fn values_pass(file: &[u8], c: Counts, parameter: u8, closing: u8, from: usize) 
     match check {
         Check::Wrong { fault, start, at } => {
             let line = spelling_line(file, c, start, at);
-            Pass::Refused { fault, line }
+            FilePass::Refused { fault, line }
         }
         Check::Done { count, end, .. } => done_pass(file, c, parameter, closing, from, count, end),
     }
 }
 
-fn answer_of(found: Pass, parameter: u8, closing: u8) -> GlobalAnswer
+fn answer_of(found: FilePass, parameter: u8, closing: u8) -> GlobalAnswer
     ensures { λ r. ⌜ r ≡ answerOf found parameter closing ⌝ }
 {
     match found {
-        Pass::Good => GlobalAnswer::Good { parameter, closing },
-        Pass::Refused { fault, line } => GlobalAnswer::Refused { fault, line },
+        FilePass::Good => GlobalAnswer::Good { parameter, closing },
+        FilePass::Refused { fault, line } => GlobalAnswer::Refused { fault, line },
     }
 }
 

@@ -26,7 +26,7 @@ use Rattle.owners.proofs.Round.{passes-owns, accepted-everyone}
 use Rattle.model.specs.Read.{GlobalRead, Before, globalText, globalIn, entriesIn, referencesIn, before}
 use Rattle.model.proofs.ReadApart.{GlobalApart, alone, more, global-apart, before-apart}
 use Rattle.model.proofs.Sizes.{size-same, size-some}
-use Rattle.read_passes.specs.declared.Pass.the-variants.{Good}
+use Rattle.read_passes.specs.declared.FilePass.the-variants.{Good}
 use Rattle.read_passes.specs.Passes.{passOf}
 use Rattle.read_passes.specs.Listed.{listedOf, listedAt, entryOf, allEntries}
 use Rattle.read_passes.proofs.Listing.{entries-are}

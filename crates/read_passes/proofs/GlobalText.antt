@@ -30,7 +30,7 @@ use Rattle.records.specs.Items.{gotItem}
 use Rattle.records.specs.Reading.{Stands, Sane}
 use Rattle.records.proofs.Texts.{length-text, small}
 use Rattle.model.specs.Read.{globalText, globalLine, spellingLine, noStray}
-use Rattle.read_passes.specs.declared.Pass.the-variants.{Good, Refused}
+use Rattle.read_passes.specs.declared.FilePass.the-variants.{Good, Refused}
 use Rattle.read_passes.specs.Passes.{passOf}
 use Rattle.read_passes.specs.Walks.{gotValue, valueFits, fieldsFit}
 

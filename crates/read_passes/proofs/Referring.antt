@@ -29,8 +29,8 @@ use Rattle.directory.specs.Naming.{typesAt}
 use Rattle.directory.proofs.Asked.{rest-all, rest-on, rest-no, rest-done}
 use Rattle.model.specs.Read.{Listed, firstEntry, entriesIn, referencesOf, referencesIn}
 use Rattle.model.proofs.Types.{types-listed}
-use Rattle.read_passes.specs.declared.Pass.{Pass}
-use Rattle.read_passes.specs.declared.Pass.the-variants.{Good, Refused}
+use Rattle.read_passes.specs.declared.FilePass.{FilePass}
+use Rattle.read_passes.specs.declared.FilePass.the-variants.{Good, Refused}
 use Rattle.read_passes.specs.declared.Turn.the-variants.{Kept}
 use Rattle.read_passes.specs.Passes.{passOf}
 use Rattle.read_passes.specs.Listed.{listedOf, listedAt, entryOf, allEntries, allTypes}
@@ -52,7 +52,7 @@ pub ruleset asks = (not-true, not-false, asks-nothing, asks-class, rest-all, res
 
 -- ---- those of one entry
 
-module _ (types : List ℕ) (x : Fields) (line : FileLine) (kept : Pass) where
+module _ (types : List ℕ) (x : Fields) (line : FileLine) (kept : FilePass) where
   pub kept-stays : (n : Fault) (l : FileLine) → kept ≡ Refused n l → kept ≡ orElse kept (passOf (referenceRule types x (line .0)))
   kept-stays n l e = rw e
 
@@ -82,7 +82,7 @@ module _ (f : List ℕ) (c : Counts) (i k : ℕ) (r : EntryRead) (ek : k ≡ ent
         let q : entryOf f c i .fields ≡ x = ap (λ (y : EntryRead). listedOf (labelAt f (entryLine c i)) y .fields) (ap (entryAt f) (sym ek) ∙ sym er ∙ e) in
         ap₂ (λ (y : Fields) (p : ℕ). passOf (referenceRule (typesAt f (firstD c) (entries c)) y p)) q (sym place)
 
-    pub turn-kept : (rule : Rule) → rule ≡ ruleOf x → rule ≡ GoodRule → (kept next : Pass) (first d : ℕ) → first ≡ entryLine c 0 → d ≡ c .d
+    pub turn-kept : (rule : Rule) → rule ≡ ruleOf x → rule ≡ GoodRule → (kept next : FilePass) (first d : ℕ) → first ≡ entryLine c 0 → d ≡ c .d
         → next ≡ orElse kept (passOf (referenceRule (typesAt f first (d / 2)) x (k + 1))) → Kept next ≡ turnOf (entryCheck f c i) (orElse kept (referenceCheck f c i))
     turn-kept rule eq g kept next first d ef ed en =
         let s : first ≡ firstD c = omega arith in

@@ -21,7 +21,7 @@ use Rattle.directory.specs.declared.EntryRead.the-variants.{Spelt, Wrong}
 use Rattle.directory.specs.Fields.{typeAt, fieldsOf}
 use Rattle.directory.specs.Lines.{number, again, pointer, lines, slotIn, numberIn, Numbers, numbers, misspelt, with, numbersFrom, positive, sizeOf, isSame, parameterLine, spelt, entryAt, labelAt}
 use Rattle.model.specs.Read.{byEntry, entryIn, entriesIn, firstEntry, listedType}
-use Rattle.read_passes.specs.declared.Pass.the-variants.{Good}
+use Rattle.read_passes.specs.declared.FilePass.the-variants.{Good}
 use Rattle.read_passes.specs.Passes.{passOf}
 use Rattle.read_passes.specs.Listed.{entryOf, allEntries, allTypes}
 use Rattle.read_passes.specs.Walks.{entryCheck}

@@ -23,8 +23,8 @@ use Rattle.directory.specs.Lines.{entryAt, labelAt}
 use Rattle.directory.specs.Asking.{outcomeOf, ruleOf}
 use Rattle.directory.proofs.Ranges.{rule-outcome}
 use Rattle.model.specs.Read.{Listed, two, byEntry, entryIn, entriesIn, firstEntry}
-use Rattle.read_passes.specs.declared.Pass.{Pass}
-use Rattle.read_passes.specs.declared.Pass.the-variants.{Good, Refused}
+use Rattle.read_passes.specs.declared.FilePass.{FilePass}
+use Rattle.read_passes.specs.declared.FilePass.the-variants.{Good, Refused}
 use Rattle.read_passes.specs.Passes.{passOf}
 use Rattle.read_passes.specs.declared.Turn.{Turn}
 use Rattle.read_passes.specs.declared.Turn.the-variants.{Kept, Refused as RefusedTurn}
@@ -32,8 +32,8 @@ use Rattle.read_passes.specs.Walks.{orElse, firstOf, turnOf, entryCheck}
 
 -- ---- a loop from i up to e: r is the answer
 
-module _ (check : ℕ → Pass) (i e : ℕ) (r : Pass) (inv : firstOf check i (e - i) ≡ r) where
-  module _ (x : Pass) (h : i < e) (ex : x ≡ check i) where
+module _ (check : ℕ → FilePass) (i e : ℕ) (r : FilePass) (inv : firstOf check i (e - i) ≡ r) where
+  module _ (x : FilePass) (h : i < e) (ex : x ≡ check i) where
     next : orElse x (firstOf check (i + 1) (e - (i + 1))) ≡ r
     unfolding firstOf
     next =
@@ -52,25 +52,25 @@ module _ (check : ℕ → Pass) (i e : ℕ) (r : Pass) (inv : firstOf check i (e
       let z : e - i ≡ 0 = omega arith in
       rw z at inv
 
-pub walk-start : (check : ℕ → Pass) (d n : ℕ) → d ≡ n → firstOf check 0 (d / 2 - 0) ≡ firstOf check 0 (n / 2)
+pub walk-start : (check : ℕ → FilePass) (d n : ℕ) → d ≡ n → firstOf check 0 (d / 2 - 0) ≡ firstOf check 0 (n / 2)
 walk-start check d n e = rw (sub-zero, e)
 
 -- ---- two rows in one loop: r is the answer, the refusals of the second kept behind those of the first
 
-pub or-good : (p : Pass) → orElse p Good ≡ p
+pub or-good : (p : FilePass) → orElse p Good ≡ p
 or-good Good = refl
 or-good (Refused n l) = refl
 
-or-both : (p q r : Pass) → orElse (orElse p q) r ≡ orElse p (orElse q r)
+or-both : (p q r : FilePass) → orElse (orElse p q) r ≡ orElse p (orElse q r)
 or-both Good q r = refl
 or-both (Refused n l) q r = refl
 
-module _ (a b : ℕ → Pass) (i e : ℕ) (kept r : Pass) (inv : orElse (firstOf a i (e - i)) (orElse kept (firstOf b i (e - i))) ≡ r) where
+module _ (a b : ℕ → FilePass) (i e : ℕ) (kept r : FilePass) (inv : orElse (firstOf a i (e - i)) (orElse kept (firstOf b i (e - i))) ≡ r) where
   module _ (y : Turn) (h : i < e) (ey : y ≡ turnOf (a i) (orElse kept (b i))) where
-    abbrev rest-a : Pass
+    abbrev rest-a : FilePass
     rest-a = firstOf a (i + 1) (e - (i + 1))
 
-    abbrev rest-b : Pass
+    abbrev rest-b : FilePass
     rest-b = firstOf b (i + 1) (e - (i + 1))
 
     both-next : orElse (orElse (a i) rest-a) (orElse (orElse kept (b i)) rest-b) ≡ r
@@ -79,10 +79,10 @@ module _ (a b : ℕ → Pass) (i e : ℕ) (kept r : Pass) (inv : orElse (firstOf
         let l : e - i ≡ suc (e - (i + 1)) = omega arith in
         rw (or-both kept (b i) rest-b) (rw l at inv)
 
-    pub both-on : {next : Pass} → y ≡ Kept next → orElse (firstOf a (i + 1) (e - (i + 1))) (orElse next (firstOf b (i + 1) (e - (i + 1)))) ≡ r
+    pub both-on : {next : FilePass} → y ≡ Kept next → orElse (firstOf a (i + 1) (e - (i + 1))) (orElse next (firstOf b (i + 1) (e - (i + 1)))) ≡ r
     both-on {next} g = by (a i) (sym ey ∙ g) both-next
       where
-        by : (x : Pass) → turnOf x (orElse kept (b i)) ≡ Kept next → orElse (orElse x rest-a) (orElse (orElse kept (b i)) rest-b) ≡ r → orElse rest-a (orElse next rest-b) ≡ r
+        by : (x : FilePass) → turnOf x (orElse kept (b i)) ≡ Kept next → orElse (orElse x rest-a) (orElse (orElse kept (b i)) rest-b) ≡ r → orElse rest-a (orElse next rest-b) ≡ r
         by Good t n =
             let q : orElse kept (b i) ≡ next = cc in
             rw q at n
@@ -91,7 +91,7 @@ module _ (a b : ℕ → Pass) (i e : ℕ) (kept r : Pass) (inv : orElse (firstOf
     pub both-here : {m : Fault} {l : FileLine} → y ≡ RefusedTurn m l → Refused m l ≡ r
     both-here {m} {l} g = by (a i) (sym ey ∙ g) both-next
       where
-        by : (x : Pass) → turnOf x (orElse kept (b i)) ≡ RefusedTurn m l → orElse (orElse x rest-a) (orElse (orElse kept (b i)) rest-b) ≡ r → Refused m l ≡ r
+        by : (x : FilePass) → turnOf x (orElse kept (b i)) ≡ RefusedTurn m l → orElse (orElse x rest-a) (orElse (orElse kept (b i)) rest-b) ≡ r → Refused m l ≡ r
         by Good t n = let z : _≡_ {A = ℕ} 0 1 = cc in absurd (omega arith)
         by (Refused m′ l′) t n =
             let em : m ≡ m′ = cc in
@@ -105,19 +105,19 @@ module _ (a b : ℕ → Pass) (i e : ℕ) (kept r : Pass) (inv : orElse (firstOf
       sym (or-good kept) ∙ (rw z at inv)
 
 -- where all passes, each does
-pub each-good : (check : ℕ → Pass) (n i j : ℕ) → firstOf check i n ≡ Good → i ≤ j → j < i + n → check j ≡ Good
+pub each-good : (check : ℕ → FilePass) (n i j : ℕ) → firstOf check i n ≡ Good → i ≤ j → j < i + n → check j ≡ Good
 unfolding firstOf
 each-good check zero i j h lo hi = absurd (omega arith)
 each-good check (suc n) i j h lo hi = by (check i) refl h (each-good check n (i + 1) j)
   where
-    by : (x : Pass) → check i ≡ x → orElse x (firstOf check (i + 1) n) ≡ Good → (firstOf check (i + 1) n ≡ Good → i + 1 ≤ j → j < i + 1 + n → check j ≡ Good) → check j ≡ Good
+    by : (x : FilePass) → check i ≡ x → orElse x (firstOf check (i + 1) n) ≡ Good → (firstOf check (i + 1) n ≡ Good → i + 1 ≤ j → j < i + 1 + n → check j ≡ Good) → check j ≡ Good
     by Good e k ih = elim (ℕ-discrete j i) [ yes x ↦ rw x e | no x ↦ ih k (omega arith) (omega arith) ]
     by (Refused m l) e k ih = let z : _≡_ {A = ℕ} 0 1 = cc in absurd (omega arith)
 
 -- ---- entries two lines apart
 
 module _ {A B : Type 0} (f : ℕ → A → Outcome B) (at : ℕ → A) (p : ℕ) where
-  after-one : {y : Pass} (o : Outcome B) (xs : Outcome (List B)) → passOf xs ≡ y → passOf (o then λ z. xs then λ zs. accepted (z ∷ zs)) ≡ orElse (passOf o) y
+  after-one : {y : FilePass} (o : Outcome B) (xs : Outcome (List B)) → passOf xs ≡ y → passOf (o then λ z. xs then λ zs. accepted (z ∷ zs)) ≡ orElse (passOf o) y
   after-one (accepted b) (accepted bs) e = e
   after-one (accepted b) (refused n q) e = e
   after-one (refused n q) xs e = refl
@@ -142,8 +142,8 @@ module _ (f : List ℕ) (c : Counts) (i k : ℕ) (r : EntryRead) (ek : k ≡ ent
   unfolding entryCheck entryIn
   one = rw (place, er, ek)
 
-  pub turn-wrong : (kept : Pass) → r ≡ Wrong → RefusedTurn Directory (fileLine (k + 1)) ≡ turnOf (entryCheck f c i) kept
-  turn-wrong kept e = sym (ap (λ (p : Pass). turnOf p kept) one ∙ rw e)
+  pub turn-wrong : (kept : FilePass) → r ≡ Wrong → RefusedTurn Directory (fileLine (k + 1)) ≡ turnOf (entryCheck f c i) kept
+  turn-wrong kept e = sym (ap (λ (p : FilePass). turnOf p kept) one ∙ rw e)
 
   module _ (x : Fields) (from : ParameterLine) (count : ℕ) (e : r ≡ Spelt x from count) (rule : Rule) (eq : rule ≡ ruleOf x) where
     ruled : entryCheck f c i ≡ passOf (outcomeOf rule (k + 1))
@@ -153,8 +153,8 @@ module _ (f : List ℕ) (c : Counts) (i k : ℕ) (r : EntryRead) (ek : k ≡ ent
         by GoodRule = refl
         by (RefusedRule n) = refl
 
-    pub turn-good : (kept : Pass) → rule ≡ GoodRule → Kept kept ≡ turnOf (entryCheck f c i) kept
-    turn-good kept g = sym (ap (λ (p : Pass). turnOf p kept) ruled ∙ rw g)
+    pub turn-good : (kept : FilePass) → rule ≡ GoodRule → Kept kept ≡ turnOf (entryCheck f c i) kept
+    turn-good kept g = sym (ap (λ (p : FilePass). turnOf p kept) ruled ∙ rw g)
 
-    pub turn-refused : (kept : Pass) (n : Fault) → rule ≡ RefusedRule n → RefusedTurn n (fileLine (k + 1)) ≡ turnOf (entryCheck f c i) kept
-    turn-refused kept n g = sym (ap (λ (p : Pass). turnOf p kept) ruled ∙ rw g)
+    pub turn-refused : (kept : FilePass) (n : Fault) → rule ≡ RefusedRule n → RefusedTurn n (fileLine (k + 1)) ≡ turnOf (entryCheck f c i) kept
+    turn-refused kept n g = sym (ap (λ (p : FilePass). turnOf p kept) ruled ∙ rw g)

@@ -19,8 +19,8 @@ use Rattle.owners.specs.declared.Owned.{Owned}
 use Rattle.owners.specs.declared.Owned.the-variants.{Everyone, Entry, Line}
 use Rattle.owners.specs.InFile.{ownersIn, lineOf, outcome}
 use Rattle.model.specs.Read.{GlobalRead, Listed, globalIn, entriesIn, referencesIn, before}
-use Rattle.read_passes.specs.declared.Pass.{Pass}
-use Rattle.read_passes.specs.declared.Pass.the-variants.{Good, Refused}
+use Rattle.read_passes.specs.declared.FilePass.{FilePass}
+use Rattle.read_passes.specs.declared.FilePass.the-variants.{Good, Refused}
 use Rattle.read_passes.specs.declared.GlobalAnswer.{GlobalAnswer}
 use Rattle.read_passes.specs.declared.GlobalAnswer.the-variants.{Good as GlobalGood, Refused as GlobalRefused}
 use Rattle.read_passes.specs.declared.BeforeAnswer.{BeforeAnswer}
@@ -63,12 +63,12 @@ good-first : {A B : Type 0} (o : Outcome A) (b : Outcome B) → passOf o ≡ Goo
 good-first (accepted a) b h = refl
 good-first (refused m p) b h = let z : _≡_ {A = ℕ} 0 1 = cc in absurd (omega arith)
 
-module _ (f : List ℕ) (c : Counts) (x : Pass) (ex : x ≡ passOf (entriesOutcome f c)) where
+module _ (f : List ℕ) (c : Counts) (x : FilePass) (ex : x ≡ passOf (entriesOutcome f c)) where
   pub entries-refuse : (n : Fault) (l : FileLine) → x ≡ Refused n l → Refused n l ≡ passOf (directoryOutcome f c)
   unfolding directoryOutcome
   entries-refuse n l e = sym (refused-first (entriesOutcome f c) (λ _. outcome c (ownersIn f c)) n l (sym ex ∙ e))
 
-  pub owners-decide : (r : Pass) → x ≡ Good → r ≡ passOf (outcome c (ownersIn f c)) → r ≡ passOf (directoryOutcome f c)
+  pub owners-decide : (r : FilePass) → x ≡ Good → r ≡ passOf (outcome c (ownersIn f c)) → r ≡ passOf (directoryOutcome f c)
   unfolding directoryOutcome
   owners-decide r e er = er ∙ sym (good-first (entriesOutcome f c) (outcome c (ownersIn f c)) (sym ex ∙ e))
 
@@ -77,7 +77,7 @@ pub ruleset directories = (owned-all, owned-entry, owned-line, entries-refuse, o
 -- ---- all
 
 -- counts and delimiters, where a pass is good
-abbrev answerWith : Pass → Counts → ℕ → ℕ → BeforeAnswer
+abbrev answerWith : FilePass → Counts → ℕ → ℕ → BeforeAnswer
 answerWith Good c p d = BeforeGood c p d
 answerWith (Refused n l) c p d = BeforeRefused n l
 
@@ -108,7 +108,7 @@ module _ (f : List ℕ) (c : Counts) (x : GlobalAnswer) (ex : x ≡ globalAnswer
           let el : fileLine p ≡ l = cc in
           rw (en, ← el)
 
-  module _ (p d : ℕ) (e : x ≡ GlobalGood p d) (y : Pass) (ey : y ≡ passOf (directoryOutcome f c)) where
+  module _ (p d : ℕ) (e : x ≡ GlobalGood p d) (y : FilePass) (ey : y ≡ passOf (directoryOutcome f c)) where
     decided : answerWith y c p d ≡ beforeAnswer (behindCards f c)
     unfolding behindCards directoryOutcome entriesOutcome
     decided = by (globalIn f c) (sym ex ∙ e)
@@ -121,10 +121,10 @@ module _ (f : List ℕ) (c : Counts) (x : GlobalAnswer) (ex : x ≡ globalAnswer
         by (refused m q) h = let z : _≡_ {A = ℕ} 0 1 = cc in absurd (omega arith)
 
     pub directory-refuses : (n : Fault) (l : FileLine) → y ≡ Refused n l → BeforeRefused n l ≡ beforeAnswer (behindCards f c)
-    directory-refuses n l h = sym (ap (λ (z : Pass). answerWith z c p d) h) ∙ decided
+    directory-refuses n l h = sym (ap (λ (z : FilePass). answerWith z c p d) h) ∙ decided
 
     pub directory-passes : y ≡ Good → BeforeGood c p d ≡ beforeAnswer (behindCards f c)
-    directory-passes h = sym (ap (λ (z : Pass). answerWith z c p d) h) ∙ decided
+    directory-passes h = sym (ap (λ (z : FilePass). answerWith z c p d) h) ∙ decided
 
 module _ (f : List ℕ) (x : CardsRead) (ex : x ≡ cardsOf f) where
   pub cards-refuse : (n : Fault) (l : FileLine) → x ≡ CardsRefused n l → BeforeRefused n l ≡ beforeAnswer (before f)

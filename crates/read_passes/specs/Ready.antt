@@ -8,7 +8,7 @@ use Rattle.cards.specs.Rules.{Holds}
 use Rattle.owners.specs.declared.Owned.the-variants.{Everyone}
 use Rattle.owners.specs.InFile.{ownersIn}
 use Rattle.model.specs.Read.{entriesIn}
-use Rattle.read_passes.specs.declared.Pass.the-variants.{Good}
+use Rattle.read_passes.specs.declared.FilePass.the-variants.{Good}
 use Rattle.read_passes.specs.Passes.{passOf}
 
 -- a file with these counts is ready for the last pass

@@ -21,33 +21,33 @@ use Rattle.records.specs.Items.{gotItem}
 use Rattle.records.specs.Global.{firstField, globalFits}
 use Rattle.owners.specs.InFile.{ownersIn, outcome as ownershipOutcome}
 use Rattle.model.specs.Read.{GlobalRead, Before, entryIn, firstEntry, globalLine, byValues, globalIn, entriesIn, referencesIn}
-use Rattle.read_passes.specs.declared.Pass.{Pass}
-use Rattle.read_passes.specs.declared.Pass.the-variants.{Good, Refused}
+use Rattle.read_passes.specs.declared.FilePass.{FilePass}
+use Rattle.read_passes.specs.declared.FilePass.the-variants.{Good, Refused}
 use Rattle.read_passes.specs.declared.Turn.{Turn}
 use Rattle.read_passes.specs.declared.Turn.the-variants.{Kept, Refused as RefusedTurn}
 use Rattle.read_passes.specs.Passes.{passOf}
 use Rattle.read_passes.specs.Listed.{entryOf}
 
 -- the first refusal of two checks
-abbrev pub orElse : Pass → Pass → Pass
+abbrev pub orElse : FilePass → FilePass → FilePass
 orElse Good q = q
 orElse (Refused n l) q = Refused n l
 
 -- the first refusal of the checks from i on, n of them
-unfoldable pub firstOf : (ℕ → Pass) → ℕ → ℕ → Pass
+unfoldable pub firstOf : (ℕ → FilePass) → ℕ → ℕ → FilePass
 firstOf check i zero = Good
 firstOf check i (suc n) = orElse (check i) (firstOf check (i + 1) n)
 
 -- rules 9 and 13 of entry i
-unfoldable pub entryCheck : List ℕ → Counts → ℕ → Pass
+unfoldable pub entryCheck : List ℕ → Counts → ℕ → FilePass
 entryCheck f c i = passOf (entryIn f (firstEntry c + 2 * i) (entryLine c i))
 
 -- rule 10 of entry i, by the types that stand on the D lines: they are those of the entries, if all pass
-unfoldable pub referenceCheck : List ℕ → Counts → ℕ → Pass
+unfoldable pub referenceCheck : List ℕ → Counts → ℕ → FilePass
 referenceCheck f c i = passOf (referenceRule (typesAt f (firstD c) (entries c)) (entryOf f c i .fields) (firstEntry c + 2 * i))
 
 -- an entry passes 9 and 13, with what is kept of 10; or it is refused
-abbrev pub turnOf : Pass → Pass → Turn
+abbrev pub turnOf : FilePass → FilePass → Turn
 turnOf Good kept = Kept kept
 turnOf (Refused n l) kept = RefusedTurn n l
 

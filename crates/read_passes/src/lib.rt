@@ -6,14 +6,14 @@ use columns::Fault;
 use columns::FileLine;
 
 // All is good, or the first refusal and its line.
-pub enum Pass {
+pub enum FilePass {
     Good,
     Refused { fault: Fault, line: FileLine },
 }
 
 // An entry passes 9 and 13, with what is kept of 10; or it is refused.
 pub enum Turn {
-    Kept(Pass),
+    Kept(FilePass),
     Refused { fault: Fault, line: FileLine },
 }
 

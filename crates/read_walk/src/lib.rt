@@ -4,7 +4,7 @@ use columns::format::PARAMETER_COLUMNS;
 use layouts::Stepped;
 use layouts_machine::runs_on;
 use layouts_machine::with_left;
-use read_entities::Walked;
+use read_entities::EntityWalked;
 use read_entities::marks::mark_step;
 use records::Got;
 use records_read::value_at;
@@ -108,7 +108,7 @@ pub fn walk(
     begun: Stepped,
     first: usize,
     n: usize,
-) -> Walked
+) -> EntityWalked
     requires { ⌜ Stands (now file) base parameterColumns lines × (from ≤ lines * parameterColumns) × (0 < c) × (0 < d) × (lineBytes * (first + 2 * n) ≤ length (now file)) ⌝ }
     ensures { λ r. ⌜ r ≡ walkedFrom (typesAt (now (file .entry)) first n) begun 0 0 (valuesAt parameterColumns c d (textOf (now (file .entry)) base parameterColumns lines) from) ⌝ }
     ensures { λ r. ⌜ Light (70400 * lines) r ⌝ }
@@ -121,7 +121,7 @@ pub fn walk(
         let g = value_at(file, base, PARAMETER_COLUMNS, lines, c, d, q);
         match g {
             Got::Refused { fault, .. } => {
-                return Walked::Wrong(fault);
+                return EntityWalked::Wrong(fault);
             }
             Got::Found {
                 value,
@@ -133,7 +133,7 @@ pub fn walk(
                 length = length_after(length, owed, value);
                 owed = owed_after(owed, value);
                 if last {
-                    return Walked::Done { state, length };
+                    return EntityWalked::Done { state, length };
                 }
                 q = next;
             }

@@ -14,8 +14,8 @@ use Rattle.cards.specs.declared.Counts.{Counts}
 use Rattle.cards.specs.Shared.{fileLine}
 use Rattle.model.specs.Model.{Carried, Model}
 use Rattle.model.specs.Read.{Before, before, lastPass, modelWith, readModel}
-use Rattle.read_passes.specs.declared.Pass.{Pass}
-use Rattle.read_passes.specs.declared.Pass.the-variants.{Good as GoodPass, Refused as RefusedPass}
+use Rattle.read_passes.specs.declared.FilePass.{FilePass}
+use Rattle.read_passes.specs.declared.FilePass.the-variants.{Good as GoodPass, Refused as RefusedPass}
 use Rattle.read_passes.specs.declared.BeforeAnswer.{BeforeAnswer}
 use Rattle.read_passes.specs.declared.BeforeAnswer.the-variants.{Good as GoodBefore, Refused as RefusedBefore}
 use Rattle.read_passes.specs.Passes.{passOf, beforeAnswer}
@@ -78,7 +78,7 @@ module _ (list : ℕ) (f : List ℕ) (b : Bool) (eb : b ≡ leb list mostList) w
             let el : fileLine q ≡ l = cc in
             rw (← en, ← el) (sym (refuses list f m q (before-refuses list f (sym eb ∙ e) m q eo)))
 
-    module _ (c : Counts) (p d : ℕ) (g : t ≡ GoodBefore c p d) (y : Pass) (ey : y ≡ passOf (lastPass list f c (delimited p d) (allEntries f c))) where
+    module _ (c : Counts) (p d : ℕ) (g : t ≡ GoodBefore c p d) (y : FilePass) (ey : y ≡ passOf (lastPass list f c (delimited p d) (allEntries f c))) where
       a : Answered f c p d
       a = answered f t et c p d g
 

@@ -19,7 +19,7 @@ use Rattle.directory.specs.Lines.{entryAt}
 use Rattle.directory.specs.Naming.{typesAt}
 use Rattle.model.specs.Model.{typeOf}
 use Rattle.model.specs.Read.{firstEntry, parametersOf}
-use Rattle.read_passes.specs.declared.Pass.the-variants.{Good, Refused}
+use Rattle.read_passes.specs.declared.FilePass.the-variants.{Good, Refused}
 use Rattle.read_passes.specs.Passes.{passOf}
 use Rattle.read_passes.specs.Listed.{entryOf, allTypes}
 use Rattle.read_passes.specs.Ready.{Ready}

@@ -17,8 +17,8 @@ use Rattle.cards.specs.Cards.{entries}
 use Rattle.cards.specs.Shared.{fileLine}
 use Rattle.sheets.specs.Sheet.{last, lineOf}
 use Rattle.model.specs.Read.{lastPass, before}
-use Rattle.read_passes.specs.declared.Pass.{Pass}
-use Rattle.read_passes.specs.declared.Pass.the-variants.{Good as GoodPass, Refused as RefusedPass}
+use Rattle.read_passes.specs.declared.FilePass.{FilePass}
+use Rattle.read_passes.specs.declared.FilePass.the-variants.{Good as GoodPass, Refused as RefusedPass}
 use Rattle.read_passes.specs.declared.BeforeAnswer.{BeforeAnswer}
 use Rattle.read_passes.specs.declared.BeforeAnswer.the-variants.{Good as GoodBefore, Refused as RefusedBefore}
 use Rattle.read_passes.specs.Passes.{passOf, beforeAnswer}
@@ -41,15 +41,15 @@ use Rattle.read_weights.proofs.Checking.{check-list, check-before, chec
 
 -- ---- bytes of a pass
 
-good-of : (n k : ℕ) (q : Pass) → rowsOf n q ≡ GoodRows k → q ≡ GoodPass
+good-of : (n k : ℕ) (q : FilePass) → rowsOf n q ≡ GoodRows k → q ≡ GoodPass
 good-of n k GoodPass h = refl
 good-of n k (RefusedPass w l) h = let z : _≡_ {A = ℕ} 0 1 = cc in absurd (omega arith)
 
-bytes-of : (n k : ℕ) (q : Pass) → rowsOf n q ≡ GoodRows k → k ≡ n
+bytes-of : (n k : ℕ) (q : FilePass) → rowsOf n q ≡ GoodRows k → k ≡ n
 bytes-of n k GoodPass h = cc
 bytes-of n k (RefusedPass w l) h = let z : _≡_ {A = ℕ} 0 1 = cc in absurd (omega arith)
 
-refused-of : (n : ℕ) (q : Pass) (w : Fault) (l : FileLine) → rowsOf n q ≡ RefusedRows w l → q ≡ RefusedPass w l
+refused-of : (n : ℕ) (q : FilePass) (w : Fault) (l : FileLine) → rowsOf n q ≡ RefusedRows w l → q ≡ RefusedPass w l
 refused-of n GoodPass w l h = let z : _≡_ {A = ℕ} 0 1 = cc in absurd (omega arith)
 refused-of n (RefusedPass v m) w l h =
     let ev : v ≡ w = cc in
@@ -76,7 +76,7 @@ module _ (list : ℕ) (f : List ℕ) (c : Counts) (p d : ℕ) where
       let s : rowsFrom list f c p d 0 (b / 2 - 0) ≡ rowsLength list f c p d = ap (rowsFrom list f c p d 0) z in
       omega arith
 
-  module _ (i n size : ℕ) {q : Pass} {t : ℕ} (inv : firstOf (entityAt list f c p d) i (n - i) ≡ q) (sum : size + rowsFrom list f c p d i (n - i) ≡ t) where
+  module _ (i n size : ℕ) {q : FilePass} {t : ℕ} (inv : firstOf (entityAt list f c p d) i (n - i) ≡ q) (sum : size + rowsFrom list f c p d i (n - i) ≡ t) where
     module _ {y : Rows} (h : i < n) (ey : y ≡ rowsOf (rowLength list f c p d i) (entityAt list f c p d i)) where
       pub pass-on : {k : ℕ} → y ≡ GoodRows k → firstOf (entityAt list f c p d) (i + 1) (n - (i + 1)) ≡ q
       pass-on {k} e = walk-on (entityAt list f c p d) i n q inv (entityAt list f c p d i) h refl (good-of (rowLength list f c p d i) k (entityAt list f c p d i) (sym ey ∙ e))
@@ -91,7 +91,7 @@ module _ (list : ℕ) (f : List ℕ) (c : Counts) (p d : ℕ) where
       pass-here {w} {l} e =
           ap (rowsOf t) (walk-here (entityAt list f c p d) i n q inv (entityAt list f c p d i) h refl (refused-of (rowLength list f c p d i) (entityAt list f c p d i) w l (sym ey ∙ e)))
 
-  pub pass-end : (i b size : ℕ) {q : Pass} {t : ℕ} {o o′ : List ℕ} {k : ℕ} → firstOf (entityAt list f c p d) i (b / 2 - i) ≡ q → size + rowsFrom list f c p d i (b / 2 - i) ≡ t → b ≡ c .d → b / 2 ≤ i
+  pub pass-end : (i b size : ℕ) {q : FilePass} {t : ℕ} {o o′ : List ℕ} {k : ℕ} → firstOf (entityAt list f c p d) i (b / 2 - i) ≡ q → size + rowsFrom list f c p d i (b / 2 - i) ≡ t → b ≡ c .d → b / 2 ≤ i
       → Wrote o 0 (lineOf (last (b / 2)) ++ (10 ∷ [])) o′ k → GoodRows (size + k) ≡ rowsOf t q
   pass-end i b size {q} {t} {k = k} inv sum eb h w =
       let z : b / 2 - i ≡ 0 = omega arith in

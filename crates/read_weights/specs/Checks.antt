@@ -10,7 +10,7 @@ use Rattle.cards.specs.Shared.{fileLine}
 use Rattle.records.specs.Record.{valuesAt}
 use Rattle.model.specs.Model.{Carried}
 use Rattle.model.specs.Read.{GlobalRead, globalRead, Listed, Before, firstEntry, parametersOf, carried, entityIn, before, readModel}
-use Rattle.read_passes.specs.declared.Pass.{Pass}
+use Rattle.read_passes.specs.declared.FilePass.{FilePass}
 use Rattle.read_passes.specs.Passes.{passOf}
 use Rattle.read_passes.specs.Listed.{entryOf, allTypes}
 use Rattle.read_entities.specs.declared.EntityAnswer.{EntityAnswer}
@@ -28,7 +28,7 @@ unfoldable pub recordAnswer : ℕ → List ℕ → Counts → ℕ → ℕ → �
 recordAnswer list f c p d typ form from lines = entityPassOf list (allTypes f c) typ form (valuesAt parameterColumns p d (textOf f (lineBytes * parameterLine c from) parameterColumns lines) 0)
 
 -- the last pass at entity i
-unfoldable pub entityAt : ℕ → List ℕ → Counts → ℕ → ℕ → ℕ → Pass
+unfoldable pub entityAt : ℕ → List ℕ → Counts → ℕ → ℕ → ℕ → FilePass
 entityAt list f c p d i = passOf (entityIn list f c (delimited p d) (allTypes f c) (firstEntry c + 2 * i) (entryOf f c i))
 
 -- what an entry carries: the values that stand in its record

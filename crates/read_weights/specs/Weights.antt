@@ -17,8 +17,8 @@ use Rattle.directory.specs.Lines.{labelAt}
 use Rattle.layouts.specs.Known.{known}
 use Rattle.sheets.specs.Plain.{sized}
 use Rattle.sheets.specs.Sheet.{entry, last, lineOf}
-use Rattle.read_passes.specs.declared.Pass.{Pass}
-use Rattle.read_passes.specs.declared.Pass.the-variants.{Good as GoodPass, Refused as RefusedPass}
+use Rattle.read_passes.specs.declared.FilePass.{FilePass}
+use Rattle.read_passes.specs.declared.FilePass.the-variants.{Good as GoodPass, Refused as RefusedPass}
 use Rattle.read_entities.specs.declared.EntityAnswer.{EntityAnswer}
 use Rattle.read_entities.specs.declared.EntityAnswer.the-variants.{Good as GoodEntity, Refused as RefusedEntity}
 use Rattle.read_entities.specs.Marks.{carriedIn}
@@ -61,7 +61,7 @@ speltRows list f c p d i k x from lines =
     (fileLine (k + 1))
 
 -- so many bytes, if nothing is refused
-abbrev pub rowsOf : ℕ → Pass → Rows
+abbrev pub rowsOf : ℕ → FilePass → Rows
 rowsOf n GoodPass = GoodRows n
 rowsOf n (RefusedPass fault line) = RefusedRows fault line
 

@@ -13,8 +13,8 @@ use Rattle.columns.specs.Refusal.{accepted, refused}
 use Rattle.values.specs.Value.{Item}
 use Rattle.directory.specs.declared.Fields.{Fields}
 use Rattle.directory.specs.Fields.{nought, inOrder}
-use Rattle.sheets.specs.declared.Verdict.{Verdict}
-use Rattle.sheets.specs.declared.Verdict.the-variants.{Good, Wrong}
+use Rattle.sheets.specs.declared.SheetVerdict.{SheetVerdict}
+use Rattle.sheets.specs.declared.SheetVerdict.the-variants.{Good, Wrong}
 use Rattle.sheets.specs.Plain.{sized}
 use Rattle.sheets.specs.Sheet.{Line, isStart, piecesOf, saidByAll, linesIn, Row, Sheet, startLines, globalLines, valueLines, rowLines, linesOf, sheetText, parts, partsOf, sheetOf}
 use Rattle.sheets.specs.Order.{begin, goLines, verdictOf, outcome, readSheet}
@@ -217,7 +217,7 @@ pub written-read : (t : List ℕ) (s : Sheet) → readSheet t ≡ accepted s →
 unfolding readSheet
 written-read t s h = pick (verdictOf t) refl h
   where
-    pick : (v : Verdict) → verdictOf t ≡ v → outcome (sheetOf (linesIn t)) v ≡ accepted s → Written t (length (s .rows)) s
+    pick : (v : SheetVerdict) → verdictOf t ≡ v → outcome (sheetOf (linesIn t)) v ≡ accepted s → Written t (length (s .rows)) s
     pick (Good n) e h =
         let g : sheetOf (linesIn t) ≡ s = cc in
         let w = good-written t n e in

@@ -6,9 +6,9 @@ use borrow.Author.Tests.{le-leb, lt-leb, lt-ltb, le-ltb, eq-eqb, ne-eqb}
 use Rattle.columns.specs.declared.Signed.{Signed}
 use Rattle.sheets.specs.declared.Said.{Said}
 use Rattle.sheets.specs.declared.Said.the-variants.{Start, Global, Entry, Value as Given, Last, Nothing}
-use Rattle.sheets.specs.declared.State.{State}
-use Rattle.sheets.specs.declared.Step.{Step}
-use Rattle.sheets.specs.declared.Step.the-variants.{On, Off}
+use Rattle.sheets.specs.declared.SheetState.{SheetState}
+use Rattle.sheets.specs.declared.SheetStep.{SheetStep}
+use Rattle.sheets.specs.declared.SheetStep.the-variants.{On, Off}
 use Rattle.values.specs.declared.Value.{Value}
 use Rattle.values.specs.Value.{isMissing}
 use Rattle.directory.specs.declared.Fields.{Fields}
@@ -16,7 +16,7 @@ use Rattle.sheets.specs.Order.{sheetLine, next, closed, startStep, globa
 use Rattle.sheets.specs.Reading.{stepSaid}
 
 -- values that end with a default are wrong before anything else
-module _ (st : State) (some : st .run .0 ≡ 0 → ⊥) where
+module _ (st : SheetState) (some : st .run .0 ≡ 0 → ⊥) where
   pub start-run : Off (st .run) ≡ startStep st
   unfolding startStep closed
   start-run = simp (ne-eqb _ _ some)
@@ -37,7 +37,7 @@ module _ (st : State) (some : st .run .0 ≡ 0 → ⊥) where
   unfolding noneStep closed
   none-run b e = rw e (simp (ne-eqb _ _ some))
 
-module _ (st : State) (no : st .run .0 ≡ 0) where
+module _ (st : SheetState) (no : st .run .0 ≡ 0) where
   pub start-late : 1 < st .section → Off (sheetLine (st .line + 1)) ≡ startStep st
   unfolding startStep closed
   start-late h = simp (eq-eqb _ _ no, lt-leb _ _ h)
@@ -103,7 +103,7 @@ module _ (st : State) (no : st .run .0 ≡ 0) where
     unfolding lastStep closed
     last-good n h d = simp (eq-eqb _ _ no, le-leb _ _ begun, le-leb _ _ h, eq-eqb _ _ d)
 
-module _ (st : State) where
+module _ (st : SheetState) where
   pub none-value : (b : Bool) → b ≡ true → Off (sheetLine (st .line + 1)) ≡ noneStep st b
   unfolding noneStep
   none-value b e = rw e
@@ -138,7 +138,7 @@ pub ruleset lasts = (last-run, last-early, last-late, last-other, last-good)
 pub ruleset nones = (none-run, none-none, none-value)
 
 -- ---- the step by what the line says
-module _ (st : State) (x : Said) (r : Step) where
+module _ (st : SheetState) (x : Said) (r : SheetStep) where
   pub step-start : x ≡ Start → r ≡ startStep st → r ≡ stepSaid st x
   step-start e q = rw e q
 

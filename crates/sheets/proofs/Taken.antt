@@ -7,21 +7,21 @@ use native.Mathlib.Omega.{arith}
 use lib.ListN.{length}
 use lib.Dec.{eqb}
 use borrow.Author.Tests.{le-leb, lt-ltb, eq-eqb}
-use Rattle.sheets.specs.declared.State.{State}
-use Rattle.sheets.specs.declared.Step.the-variants.{On}
-use Rattle.sheets.specs.declared.Verdict.{Verdict}
-use Rattle.sheets.specs.declared.Verdict.the-variants.{Good}
+use Rattle.sheets.specs.declared.SheetState.{SheetState}
+use Rattle.sheets.specs.declared.SheetStep.the-variants.{On}
+use Rattle.sheets.specs.declared.SheetVerdict.{SheetVerdict}
+use Rattle.sheets.specs.declared.SheetVerdict.the-variants.{Good}
 use Rattle.sheets.specs.Plain.{sized}
 use Rattle.values.specs.Value.{Item, isDefault}
 use Rattle.sheets.specs.Sheet.{Line, value, last, Row, Sheet, startLines, globalLines, valueLines, rowLines, linesOf}
 use Rattle.sheets.specs.Order.{begin, closed, startStep, globalStep, entryStep, valueStep, lastStep, stepLine, finish, goLines}
 use Rattle.sheets.specs.WellFormed.{endsDefault, Rising, no-more, higher, Closed, no-rows, a-row, Ordered}
 
-go-on : (st st′ : State) (i : Line) (is : List Line) → stepLine st i ≡ On st′ → goLines st (i ∷ is) ≡ goLines st′ is
+go-on : (st st′ : SheetState) (i : Line) (is : List Line) → stepLine st i ≡ On st′ → goLines st (i ∷ is) ≡ goLines st′ is
 unfolding goLines
 go-on st st′ i is e = rw (goLines, e)
 
-abbrev at : ℕ → ℕ → ℕ → ℕ → ℕ → State
+abbrev at : ℕ → ℕ → ℕ → ℕ → ℕ → SheetState
 at section g k run line = record { section = section; field = g; entries = k; run = record { 0 = run }; line = line }
 
 go-end : (g k line : ℕ) → goLines (at 4 g k 0 line) [] ≡ Good k
@@ -46,7 +46,7 @@ module _ (section g k line : ℕ) where
   last-on l h = simp (le-leb _ _ l, le-leb _ _ h, eq-eqb k k refl)
 
 -- b: whether the values so far may end with a default
-values-on : (g k : ℕ) (rest : List Line) (f : Verdict) → ((line : ℕ) → goLines (at 3 g k 0 line) rest ≡ f)
+values-on : (g k : ℕ) (rest : List Line) (f : SheetVerdict) → ((line : ℕ) → goLines (at 3 g k 0 line) rest ≡ f)
     → (vs : List (Bool × Item)) (run line : ℕ) (b : Bool) → (b ≡ false → run ≡ 0) → endsDefault b vs ≡ false → goLines (at 3 g k run line) (valueLines vs rest) ≡ f
 unfolding valueLines endsDefault valueStep
 values-on g k rest f q [] run line b h e = rw (h e) (q line)

@@ -9,10 +9,10 @@ use lib.Dec.{ltb, leb, eqb}
 use borrow.Author.Tests.{eq-eqb, ne-eqb, eqb-true, leb-true, ltb-true}
 use Rattle.columns.specs.declared.Signed.{Signed}
 use Rattle.directory.specs.declared.Fields.{Fields}
-use Rattle.sheets.specs.declared.State.{State}
-use Rattle.sheets.specs.declared.Step.{Step}
-use Rattle.sheets.specs.declared.Step.the-variants.{On, Off}
-use Rattle.sheets.specs.declared.Verdict.the-variants.{Good, Wrong}
+use Rattle.sheets.specs.declared.SheetState.{SheetState}
+use Rattle.sheets.specs.declared.SheetStep.{SheetStep}
+use Rattle.sheets.specs.declared.SheetStep.the-variants.{On, Off}
+use Rattle.sheets.specs.declared.SheetVerdict.the-variants.{Good, Wrong}
 use Rattle.sheets.specs.Plain.{sized}
 use Rattle.values.specs.Value.{Item, isDefault}
 use Rattle.sheets.specs.Sheet.{Line, start, global, entry, value, last, none, startLines, globalLines, valueLines, rowLines, linesOf, Parts, parts, with, partsOf, sheetOf}
@@ -23,13 +23,13 @@ use Rattle.columns.proofs.Tests.{both-left, both-right}
 use Rattle.columns.specs.declared.SheetLine.{SheetLine}
 
 -- ---- a step that goes on, taken back
-never-on : {A : Type 0} {n : SheetLine} {st : State} → Off n ≡ On st → A
+never-on : {A : Type 0} {n : SheetLine} {st : SheetState} → Off n ≡ On st → A
 never-on e = absurd (let z : _≡_ {A = ℕ} 0 1 = cc in omega arith)
 
 never-good : {A : Type 0} {n : SheetLine} {k : ℕ} → Wrong n ≡ Good k → A
 never-good e = absurd (let z : _≡_ {A = ℕ} 0 1 = cc in omega arith)
 
-closed-inv : (st st′ : State) (x : Step) → closed st x ≡ On st′ → (st .run .0 ≡ 0) × (x ≡ On st′)
+closed-inv : (st st′ : SheetState) (x : SheetStep) → closed st x ≡ On st′ → (st .run .0 ≡ 0) × (x ≡ On st′)
 unfolding closed
 closed-inv st st′ x h = pick (eqb (st .run .0) 0) refl h
   where
@@ -37,11 +37,11 @@ closed-inv st st′ x h = pick (eqb (st .run .0) 0) refl h
     pick true e h = (eqb-true (st .run .0) 0 e, h)
     pick false e h = never-on h
 
-cond-inv : (c : Bool) (a st′ : State) (n : SheetLine) → cond c (On a) (Off n) ≡ On st′ → (c ≡ true) × (st′ ≡ a)
+cond-inv : (c : Bool) (a st′ : SheetState) (n : SheetLine) → cond c (On a) (Off n) ≡ On st′ → (c ≡ true) × (st′ ≡ a)
 cond-inv true a st′ n h = (refl, cc)
 cond-inv false a st′ n h = never-on h
 
-module _ (st st′ : State) where
+module _ (st st′ : SheetState) where
   pub start-inv : startStep st ≡ On st′ → (st .run .0 ≡ 0) × (st .section ≤ 1) × (st′ ≡ next st 1 (st .field) (st .entries) 0)
   unfolding startStep
   start-inv h =
@@ -89,15 +89,15 @@ module _ (st st′ : State) where
   none-inv true h = never-on h
   none-inv false h = never-on (closed-inv st st′ _ h .1)
 
-pub go-inv : (st : State) (i : Line) (is : List Line) (n : ℕ) → goLines st (i ∷ is) ≡ Good n → (st′ : State) × (stepLine st i ≡ On st′) × (goLines st′ is ≡ Good n)
+pub go-inv : (st : SheetState) (i : Line) (is : List Line) (n : ℕ) → goLines st (i ∷ is) ≡ Good n → (st′ : SheetState) × (stepLine st i ≡ On st′) × (goLines st′ is ≡ Good n)
 unfolding goLines
 go-inv st i is n h = pick (stepLine st i) refl h
   where
-    pick : (x : Step) → stepLine st i ≡ x → elim x [ On st′ ↦ goLines st′ is | Off m ↦ Wrong m ] ≡ Good n → (st′ : State) × (stepLine st i ≡ On st′) × (goLines st′ is ≡ Good n)
+    pick : (x : SheetStep) → stepLine st i ≡ x → elim x [ On st′ ↦ goLines st′ is | Off m ↦ Wrong m ] ≡ Good n → (st′ : SheetState) × (stepLine st i ≡ On st′) × (goLines st′ is ≡ Good n)
     pick (On st′) e h = (st′, e, h)
     pick (Off m) e h = never-good h
 
-end-inv : (st : State) (n : ℕ) → goLines st [] ≡ Good n → (st .section ≡ 4) × (n ≡ st .entries)
+end-inv : (st : SheetState) (n : ℕ) → goLines st [] ≡ Good n → (st .section ≡ 4) × (n ≡ st .entries)
 unfolding goLines finish closed
 end-inv st n h = pick (eqb (st .section) 4) refl (eqb (st .run .0) 0) h
   where
@@ -106,7 +106,7 @@ end-inv st n h = pick (eqb (st .section) 4) refl (eqb (st .run .0) 0) h
     pick false e true h = never-good h
     pick false e false h = never-good h
 
-says : (st : State) (i : Line) (st′ : State) → stepLine st i ≡ On st′ → Says i
+says : (st : SheetState) (i : Line) (st′ : SheetState) → stepLine st i ≡ On st′ → Says i
 says st (start t) st′ e = tt
 says st (global m v) st′ e = tt
 says st (entry known x d label) st′ e = ap (λ (y : Signed). y .neg) (entry-inv st st′ x e .3)
@@ -115,20 +115,20 @@ says st (last m) st′ e = tt
 says st (none b) st′ e = none-inv st st′ b e
 
 -- every line says something
-pub all-said : (is : List Line) (st : State) (n : ℕ) → goLines st is ≡ Good n → AllSaid is
+pub all-said : (is : List Line) (st : SheetState) (n : ℕ) → goLines st is ≡ Good n → AllSaid is
 all-said [] st n h = none-said
 all-said (i ∷ is) st n h =
     let g = go-inv st i is n h in
     one-said (says st i (g .0) (g .1)) (all-said is (g .0) n (g .2))
 
 -- after Z nothing comes
-four : (is : List Line) (st : State) (n : ℕ) → goLines st is ≡ Good n → st .section ≡ 4 → (is ≡ []) × (n ≡ st .entries)
+four : (is : List Line) (st : SheetState) (n : ℕ) → goLines st is ≡ Good n → st .section ≡ 4 → (is ≡ []) × (n ≡ st .entries)
 four [] st n h s = (refl, end-inv st n h .1)
 four (i ∷ is) st n h s =
     let g = go-inv st i is n h in
     pick i (g .0) (g .1)
   where
-    pick : (i : Line) (st′ : State) → stepLine st i ≡ On st′ → (i ∷ is ≡ []) × (n ≡ st .entries)
+    pick : (i : Line) (st′ : SheetState) → stepLine st i ≡ On st′ → (i ∷ is ≡ []) × (n ≡ st .entries)
     pick (start t) st′ e = absurd (omega (arith, start-inv st st′ e .1))
     pick (global m v) st′ e = absurd (omega (arith, global-inv st st′ m e .2))
     pick (entry known x d label) st′ e = absurd (omega (arith, entry-inv st st′ x e .2))
@@ -140,10 +140,10 @@ four (i ∷ is) st n h s =
 abbrev linesAt : ℕ → Parts → List Line
 linesAt k p = startLines (p .starts) (globalLines (p .globals) (valueLines (p .values) (rowLines k (p .rows))))
 
-abbrev pending : State → Bool
+abbrev pending : SheetState → Bool
 pending st = cond (eqb (st .run .0) 0) false true
 
-record Whole (st : State) (is : List Line) (n : ℕ) (p : Parts) : Type 0 where
+record Whole (st : SheetState) (is : List Line) (n : ℕ) (p : Parts) : Type 0 where
   text : linesAt (st .entries) p ≡ is
   count : n ≡ st .entries + length (p .rows)
   starts : 2 ≤ st .section → p .starts ≡ []
@@ -154,7 +154,7 @@ record Whole (st : State) (is : List Line) (n : ℕ) (p : Parts) : Type 0 where
   ends : endsDefault (pending st) (p .values) ≡ false
   rows : Closed (p .rows)
 
-pending-none : (st : State) → st .run .0 ≡ 0 → pending st ≡ false
+pending-none : (st : SheetState) → st .run .0 ≡ 0 → pending st ≡ false
 pending-none st h = simp (eq-eqb _ _ h)
 
 pending-value : (b : Bool) (run line : ℕ) → cond (eqb (cond b (cond (eqb run 0) (line + 1) run) 0) 0) false true ≡ b
@@ -165,7 +165,7 @@ pending-value true run line = pick (eqb run 0) refl
     pick true e = simp (ne-eqb (line + 1) 0 (omega arith))
     pick false e = rw e
 
-module _ (st : State) (is : List Line) (n : ℕ) (p : Parts) where
+module _ (st : SheetState) (is : List Line) (n : ℕ) (p : Parts) where
   start-whole : (t : List ℕ) → st .run .0 ≡ 0 → st .section ≤ 1 → Whole (next st 1 (st .field) (st .entries) 0) is n p → Whole st (start t ∷ is) n (with (start t) p)
   unfolding startLines
   start-whole t r s w = record {
@@ -232,7 +232,7 @@ module _ (st : State) (is : List Line) (n : ℕ) (p : Parts) where
         rows = w .rows;
       }
 
-last-whole : (st : State) (n m : ℕ) → st .run .0 ≡ 0 → 1 ≤ st .section → m ≡ st .entries → n ≡ st .entries → Whole st (last m ∷ []) n (parts [] [] [] [])
+last-whole : (st : SheetState) (n m : ℕ) → st .run .0 ≡ 0 → 1 ≤ st .section → m ≡ st .entries → n ≡ st .entries → Whole st (last m ∷ []) n (parts [] [] [] [])
 unfolding startLines globalLines valueLines rowLines endsDefault
 last-whole st n m r s e d = record {
   text = rw e;
@@ -246,14 +246,14 @@ last-whole st n m r s e d = record {
   rows = no-rows;
 }
 
-whole : (is : List Line) (st : State) (n : ℕ) → goLines st is ≡ Good n → st .section ≤ 3 → Whole st is n (partsOf is)
+whole : (is : List Line) (st : SheetState) (n : ℕ) → goLines st is ≡ Good n → st .section ≤ 3 → Whole st is n (partsOf is)
 unfolding partsOf
 whole [] st n h s = absurd (omega (arith, end-inv st n h .0))
 whole (i ∷ is) st n h s =
     let g = go-inv st i is n h in
     pick i (g .0) (g .1) (g .2) (λ a. whole is a n)
   where
-    pick : (i : Line) (st′ : State) → stepLine st i ≡ On st′ → goLines st′ is ≡ Good n → ((a : State) → goLines a is ≡ Good n → a .section ≤ 3 → Whole a is n (partsOf is)) → Whole st (i ∷ is) n (with i (partsOf is))
+    pick : (i : Line) (st′ : SheetState) → stepLine st i ≡ On st′ → goLines st′ is ≡ Good n → ((a : SheetState) → goLines a is ≡ Good n → a .section ≤ 3 → Whole a is n (partsOf is)) → Whole st (i ∷ is) n (with i (partsOf is))
     pick (start t) st′ e q ih =
         let v = start-inv st st′ e in
         start-whole st is n (partsOf is) t (v .0) (v .1) (ih _ (rw (v .2) at q) (omega arith))

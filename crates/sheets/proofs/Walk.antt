@@ -10,10 +10,10 @@ use lib.Seq.{drop-drop}
 use lib.Dec.{eqb}
 use borrow.Author.Tests.{eq-eqb, ne-eqb}
 use Rattle.columns.specs.Columns.{columns}
-use Rattle.sheets.specs.declared.State.{State}
-use Rattle.sheets.specs.declared.Step.{Step}
-use Rattle.sheets.specs.declared.Step.the-variants.{On, Off}
-use Rattle.sheets.specs.declared.Verdict.the-variants.{Good, Wrong}
+use Rattle.sheets.specs.declared.SheetState.{SheetState}
+use Rattle.sheets.specs.declared.SheetStep.{SheetStep}
+use Rattle.sheets.specs.declared.SheetStep.the-variants.{On, Off}
+use Rattle.sheets.specs.declared.SheetVerdict.the-variants.{Good, Wrong}
 use Rattle.sheets.specs.Line.{run}
 use Rattle.values.specs.Value.{isDefault}
 use Rattle.values.proofs.OneSpelling.{missing}
@@ -28,7 +28,7 @@ use Rattle.sheets.proofs.Says.{pieces-lf, pieces-on, pieces-none, piece
 use Rattle.sheets.proofs.Takes.{start-inv, global-inv, entry-inv, value-inv, last-inv, none-inv}
 
 -- ---- the end
-module _ (st : State) where
+module _ (st : SheetState) where
   pub finish-good : st .section ≡ 4 → Good (st .entries) ≡ finish st
   unfolding finish
   finish-good h = simp (eq-eqb _ _ h)
@@ -42,8 +42,8 @@ module _ (st : State) where
     unfolding finish closed
     finish-soon k = simp (ne-eqb _ _ h, eq-eqb _ _ k)
 
-  module _ (b : Bool) (x : Step) (q : x ≡ noneStep st b) where
-    pub piece-on : (y : State) → x ≡ On y → Good (y .entries) ≡ pieceVerdict st b
+  module _ (b : Bool) (x : SheetStep) (q : x ≡ noneStep st b) where
+    pub piece-on : (y : SheetState) → x ≡ On y → Good (y .entries) ≡ pieceVerdict st b
     piece-on y e = rw (← q, e)
 
     pub piece-off : (w : SheetLine) → x ≡ Off w → Wrong w ≡ pieceVerdict st b
@@ -71,7 +71,7 @@ pieces-whole (b ∷ bs) h = pick (ℕ-discrete b 10) (pieces-whole bs)
     pick (yes e) ih = absurd (omega (arith, run-here 10 b bs e))
     pick (no e) ih = pieces-on b bs e ∙ rw (ih (omega (arith, run-on 10 b bs e)))
 
-pub none-off : (st : State) (b : Bool) → (w : SheetLine) × (noneStep st b ≡ Off w)
+pub none-off : (st : SheetState) (b : Bool) → (w : SheetLine) × (noneStep st b ≡ Off w)
 unfolding noneStep closed
 none-off st true = (sheetLine (st .line + 1), refl)
 none-off st false = pick (eqb (st .run .0) 0)
@@ -81,7 +81,7 @@ none-off st false = pick (eqb (st .run .0) 0)
     pick false = (st .run, refl)
 
 -- the step of a line by what was read of it
-pub step-said : (st : State) (x : Said) (l : List ℕ) → stepSaid st x ≡ stepLine st (lineFrom l x)
+pub step-said : (st : SheetState) (x : Said) (l : List ℕ) → stepSaid st x ≡ stepLine st (lineFrom l x)
 step-said st Start l = refl
 step-said st (Global n at v) l = refl
 step-said st (Entry known n x) l = refl
@@ -110,7 +110,7 @@ lines-first t at e lo hi en =
     ap saidByAll (pieces-first (drop at t) w) ∙ rw (r, c, drop-drop (suc (e - at)) at t, k) (lines-more (columns t at e) (piecesOf (drop (e + 1) t)) (pieces-some (drop (e + 1) t)))
 
 -- one line more, and at most one entry more
-sizes : (st y : State) (i : Line) → stepLine st i ≡ On y → (y .line ≡ st .line + 1) × (y .entries ≤ st .entries + 1)
+sizes : (st y : SheetState) (i : Line) → stepLine st i ≡ On y → (y .line ≡ st .line + 1) × (y .entries ≤ st .entries + 1)
 sizes st y (start t) e = rw (start-inv st y e .2) (omega arith)
 sizes st y (global m v) e = rw (global-inv st y m e .4) (omega arith)
 sizes st y (entry known x d label) e = rw (entry-inv st y x e .4) (omega arith)
@@ -118,5 +118,5 @@ sizes st y (value b v) e = rw (value-inv st y (isDefault v) e .1) (omega arith)
 sizes st y (last m) e = rw (last-inv st y m e .4) (omega arith)
 sizes st y (none b) e = absurd (none-inv st y b e)
 
-pub line-sizes : (st y : State) (d : Said) → stepSaid st d ≡ On y → (y .line ≡ st .line + 1) × (y .entries ≤ st .entries + 1)
+pub line-sizes : (st y : SheetState) (d : Said) → stepSaid st d ≡ On y → (y .line ≡ st .line + 1) × (y .entries ≤ st .entries + 1)
 line-sizes st y d e = sizes st y (lineFrom [] d) (sym (step-said st d []) ∙ e)

@@ -14,8 +14,8 @@ use Rattle.values.specs.Head.{headOf}
 use Rattle.values.specs.Value.{real, text, spelled}
 use Rattle.values.specs.Strict.{strictOf}
 use Rattle.directory.specs.Fields.{nought, fieldsOf}
-use Rattle.sheets.specs.declared.Verdict.{Verdict}
-use Rattle.sheets.specs.declared.Verdict.the-variants.{Good, Wrong}
+use Rattle.sheets.specs.declared.SheetVerdict.{SheetVerdict}
+use Rattle.sheets.specs.declared.SheetVerdict.the-variants.{Good, Wrong}
 use Rattle.sheets.specs.Plain.{sized, isPlain, isSigned, signedNumber, allDigits, isStatus, statusNumber}
 use Rattle.sheets.specs.Line.{run, isLabel, isEntryNumber, entryNumber, numbersOf, entryOf, labelOf, spell, spells, entryLine}
 use Rattle.sheets.specs.Sheet.{row, Sheet, startLines, globalLines, valueLines, rowLines, linesOf, lineOf, textOf, sheetText, isMark, isStart, startLine, isFieldNumber, isNumbered, globalLine, lastLine, byMark, saysOf, saidBy, into, piecesOf, lastPiece, saidByAll, linesIn, partsOf, sheetOf}
@@ -32,14 +32,14 @@ abbrev plain : String → List ℕ
 plain []ˢ = []
 plain (c ∷ˢ s) = code c ∷ plain s
 
-abbrev wrong : ℕ → Verdict
+abbrev wrong : ℕ → SheetVerdict
 wrong n = Wrong (sheetLine n)
 
 abbrev chairText : String
 chairText = "S>SET PIECE|G>3>5HCHAIR|G>4>7Hset.igs|E>1>116>0>0>0>0>0>0>0>01000000>0>0>0>   PIN01|V>15.E-1|V>0.|V>2.|Z>1|"
 
 -- a text and its verdict: the entry count, or the first wrong line
-abbrev table : List (String × Verdict)
+abbrev table : List (String × SheetVerdict)
 table =
     (chairText, Good 1)
     -- at least one S line; S, tab, nothing is good; a trailing blank is wrong; one past the last if the sheet ends too soon
@@ -91,7 +91,7 @@ table =
     ∷ ("S>A|V>1|Z>0|", wrong 2)
     ∷ []
 
-pub examples : map (λ (e : String × Verdict). verdictOf (bytes (e .0))) table ≡ map (λ (e : String × Verdict). e .1) table
+pub examples : map (λ (e : String × SheetVerdict). verdictOf (bytes (e .0))) table ≡ map (λ (e : String × SheetVerdict). e .1) table
 unfolding printable sameBytes lastDigits dec power powerAt numberOf headOf spelled strictOf isPlain isSigned signedNumber allDigits isStatus statusNumber run isLabel isEntryNumber entryNumber numbersOf entryOf labelOf isMark isStart startLine isFieldNumber isNumbered globalLine lastLine byMark saysOf saidBy into piecesOf lastPiece saidByAll linesIn closed startStep globalStep entryStep valueStep lastStep noneStep finish goLines verdictOf
 examples = refl
 

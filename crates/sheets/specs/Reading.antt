@@ -6,13 +6,13 @@ use Rattle.values.specs.Value.{isMissing}
 use Rattle.records.specs.Global.{firstField, lastField}
 use Rattle.sheets.specs.declared.Said.{Said}
 use Rattle.sheets.specs.declared.Said.the-variants.{Start, Global, Entry, Value as Given, Last, Nothing}
-use Rattle.sheets.specs.declared.State.{State}
-use Rattle.sheets.specs.declared.Step.{Step}
-use Rattle.sheets.specs.declared.Verdict.{Verdict}
+use Rattle.sheets.specs.declared.SheetState.{SheetState}
+use Rattle.sheets.specs.declared.SheetStep.{SheetStep}
+use Rattle.sheets.specs.declared.SheetVerdict.{SheetVerdict}
 use Rattle.sheets.specs.Order.{startStep, globalStep, entryStep, valueStep, lastStep, noneStep, verdict}
 
 -- the step of a line, without the line
-abbrev pub stepSaid : State → Said → Step
+abbrev pub stepSaid : SheetState → Said → SheetStep
 stepSaid st Start = startStep st
 stepSaid st (Global n at v) = globalStep st n
 stepSaid st (Entry known n x) = entryStep st n
@@ -21,7 +21,7 @@ stepSaid st (Last n) = lastStep st n
 stepSaid st (Nothing b) = noneStep st b
 
 -- the verdict where a piece stands behind the last line
-abbrev pub pieceVerdict : State → Bool → Verdict
+abbrev pub pieceVerdict : SheetState → Bool → SheetVerdict
 pieceVerdict st b = verdict (noneStep st b)
 
 -- what a line of n bytes says stands in it: a text, a value, an entry's label; a Global field has its number

@@ -54,7 +54,7 @@ pub const NO_RUN: usize = 0;
 
 // Where in the order of lines one stands: the section reached, the last G number, how many entries and lines there were, and the line of
 // the first of the defaults that the values end with so far.
-pub struct State {
+pub struct SheetState {
     pub section: u8,
     pub field: u32,
     pub entries: usize,
@@ -63,13 +63,13 @@ pub struct State {
 }
 
 // What a line does: the state after it, or the first wrong line.
-pub enum Step {
-    On(State),
+pub enum SheetStep {
+    On(SheetState),
     Off(SheetLine),
 }
 
 // The entry count, or the first wrong line.
-pub enum Verdict {
+pub enum SheetVerdict {
     Good(usize),
     Wrong(SheetLine),
 }

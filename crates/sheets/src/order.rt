@@ -5,9 +5,9 @@ use crate::IN_GLOBALS;
 use crate::IN_STARTS;
 use crate::NO_RUN;
 use crate::Said;
-use crate::State;
-use crate::Step;
-use crate::Verdict;
+use crate::SheetState;
+use crate::SheetStep;
+use crate::SheetVerdict;
 use columns::SheetLine;
 use columns::Signed;
 use values::Value;
@@ -17,18 +17,18 @@ ghost use Prim.Native.Nat.{_+_, _*_, _^_, _≤_, _<_};
 ghost use Rattle.sheets.specs.Order.{startStep, globalStep, entryStep, valueStep, lastStep, noneStep, finish};
 ghost use Rattle.sheets.specs.Reading.{stepSaid, pieceVerdict};
 
-fn start_step(st: State) -> Step
+fn start_step(st: SheetState) -> SheetStep
     requires { ⌜ st .line < 2 ^ 63 ⌝ }
     ensures { λ r. ⌜ r ≡ startStep st ⌝ }
 {
     let run = st.run;
     if run.0 != NO_RUN {
-        return Step::Off(run);
+        return SheetStep::Off(run);
     }
     if IN_STARTS < st.section {
-        return Step::Off(SheetLine(st.line + 1));
+        return SheetStep::Off(SheetLine(st.line + 1));
     }
-    Step::On(State {
+    SheetStep::On(SheetState {
         section: IN_STARTS,
         field: st.field,
         entries: st.entries,
@@ -38,24 +38,24 @@ fn start_step(st: State) -> Step
 }
 
 // G numbers rise.
-fn global_step(st: State, n: u32) -> Step
+fn global_step(st: SheetState, n: u32) -> SheetStep
     requires { ⌜ st .line < 2 ^ 63 ⌝ }
     ensures { λ r. ⌜ r ≡ globalStep st n ⌝ }
 {
     let run = st.run;
     if run.0 != NO_RUN {
-        return Step::Off(run);
+        return SheetStep::Off(run);
     }
     if st.section < IN_STARTS {
-        return Step::Off(SheetLine(st.line + 1));
+        return SheetStep::Off(SheetLine(st.line + 1));
     }
     if IN_GLOBALS < st.section {
-        return Step::Off(SheetLine(st.line + 1));
+        return SheetStep::Off(SheetLine(st.line + 1));
     }
     if n <= st.field {
-        return Step::Off(SheetLine(st.line + 1));
+        return SheetStep::Off(SheetLine(st.line + 1));
     }
-    Step::On(State {
+    SheetStep::On(SheetState {
         section: IN_GLOBALS,
         field: n,
         entries: st.entries,
@@ -65,27 +65,27 @@ fn global_step(st: State, n: u32) -> Step
 }
 
 // Directory numbers are 1, 3, 5 on.
-fn entry_step(st: State, x: Signed) -> Step
+fn entry_step(st: SheetState, x: Signed) -> SheetStep
     requires { ⌜ (st .line < 2 ^ 63) × (st .entries ≤ st .line) ⌝ }
     ensures { λ r. ⌜ r ≡ entryStep st x ⌝ }
 {
     let run = st.run;
     if run.0 != NO_RUN {
-        return Step::Off(run);
+        return SheetStep::Off(run);
     }
     if st.section < IN_STARTS {
-        return Step::Off(SheetLine(st.line + 1));
+        return SheetStep::Off(SheetLine(st.line + 1));
     }
     if IN_ENTRIES < st.section {
-        return Step::Off(SheetLine(st.line + 1));
+        return SheetStep::Off(SheetLine(st.line + 1));
     }
     if x.neg {
-        return Step::Off(SheetLine(st.line + 1));
+        return SheetStep::Off(SheetLine(st.line + 1));
     }
     if x.size as usize != 2 * st.entries + 1 {
-        return Step::Off(SheetLine(st.line + 1));
+        return SheetStep::Off(SheetLine(st.line + 1));
     }
-    Step::On(State {
+    SheetStep::On(SheetState {
         section: IN_ENTRIES,
         field: st.field,
         entries: st.entries + 1,
@@ -95,18 +95,18 @@ fn entry_step(st: State, x: Signed) -> Step
 }
 
 // Values may not end with a default: the first of such a run is remembered.
-pub fn value_step(st: State, default: bool) -> Step
+pub fn value_step(st: SheetState, default: bool) -> SheetStep
     requires { ⌜ st .line < 2 ^ 63 ⌝ }
     ensures { λ r. ⌜ r ≡ valueStep st default ⌝ }
 {
     let run = st.run;
     let line = st.line + 1;
     if st.section != IN_ENTRIES {
-        return Step::Off(SheetLine(line));
+        return SheetStep::Off(SheetLine(line));
     }
     if default {
         if run.0 == NO_RUN {
-            return Step::On(State {
+            return SheetStep::On(SheetState {
                 section: IN_ENTRIES,
                 field: st.field,
                 entries: st.entries,
@@ -114,7 +114,7 @@ pub fn value_step(st: State, default: bool) -> Step
                 line,
             });
         }
-        return Step::On(State {
+        return SheetStep::On(SheetState {
             section: IN_ENTRIES,
             field: st.field,
             entries: st.entries,
@@ -122,7 +122,7 @@ pub fn value_step(st: State, default: bool) -> Step
             line,
         });
     }
-    Step::On(State {
+    SheetStep::On(SheetState {
         section: IN_ENTRIES,
         field: st.field,
         entries: st.entries,
@@ -132,24 +132,24 @@ pub fn value_step(st: State, default: bool) -> Step
 }
 
 // The Z line counts the entries.
-fn last_step(st: State, n: usize) -> Step
+fn last_step(st: SheetState, n: usize) -> SheetStep
     requires { ⌜ st .line < 2 ^ 63 ⌝ }
     ensures { λ r. ⌜ r ≡ lastStep st n ⌝ }
 {
     let run = st.run;
     if run.0 != NO_RUN {
-        return Step::Off(run);
+        return SheetStep::Off(run);
     }
     if st.section < IN_STARTS {
-        return Step::Off(SheetLine(st.line + 1));
+        return SheetStep::Off(SheetLine(st.line + 1));
     }
     if IN_ENTRIES < st.section {
-        return Step::Off(SheetLine(st.line + 1));
+        return SheetStep::Off(SheetLine(st.line + 1));
     }
     if n != st.entries {
-        return Step::Off(SheetLine(st.line + 1));
+        return SheetStep::Off(SheetLine(st.line + 1));
     }
-    Step::On(State {
+    SheetStep::On(SheetState {
         section: AT_END,
         field: st.field,
         entries: st.entries,
@@ -158,23 +158,23 @@ fn last_step(st: State, n: usize) -> Step
     })
 }
 
-fn none_step(st: State, b: bool) -> Step
+fn none_step(st: SheetState, b: bool) -> SheetStep
     requires { ⌜ st .line < 2 ^ 63 ⌝ }
     ensures { λ r. ⌜ r ≡ noneStep st b ⌝ }
 {
     let line = st.line + 1;
     if b {
-        return Step::Off(SheetLine(line));
+        return SheetStep::Off(SheetLine(line));
     }
     let run = st.run;
     if run.0 != NO_RUN {
-        return Step::Off(run);
+        return SheetStep::Off(run);
     }
-    Step::Off(SheetLine(line))
+    SheetStep::Off(SheetLine(line))
 }
 
 // What a line does.
-pub fn step_line(st: State, x: Said) -> Step
+pub fn step_line(st: SheetState, x: Said) -> SheetStep
     requires { ⌜ (st .line < 2 ^ 63) × (st .entries ≤ st .line) ⌝ }
     ensures { λ r. ⌜ r ≡ stepSaid st x ⌝ }
 {
@@ -189,27 +189,27 @@ pub fn step_line(st: State, x: Said) -> Step
 }
 
 // The verdict where the sheet has ended.
-pub fn finish_of(st: State) -> Verdict
+pub fn finish_of(st: SheetState) -> SheetVerdict
     requires { ⌜ st .line < 2 ^ 63 ⌝ }
     ensures { λ r. ⌜ r ≡ finish st ⌝ }
 {
     if st.section == AT_END {
-        return Verdict::Good(st.entries);
+        return SheetVerdict::Good(st.entries);
     }
     let run = st.run;
     if run.0 != NO_RUN {
-        return Verdict::Wrong(run);
+        return SheetVerdict::Wrong(run);
     }
-    Verdict::Wrong(SheetLine(st.line + 1))
+    SheetVerdict::Wrong(SheetLine(st.line + 1))
 }
 
 // The verdict where a piece with no LF stands behind the last line; b tells whether it begins as a value line does.
-pub fn wrong_piece(st: State, b: bool) -> Verdict
+pub fn wrong_piece(st: SheetState, b: bool) -> SheetVerdict
     requires { ⌜ st .line < 2 ^ 63 ⌝ }
     ensures { λ r. ⌜ r ≡ pieceVerdict st b ⌝ }
 {
     match none_step(st, b) {
-        Step::On(x) => Verdict::Good(x.entries),
-        Step::Off(w) => Verdict::Wrong(w),
+        SheetStep::On(x) => SheetVerdict::Good(x.entries),
+        SheetStep::Off(w) => SheetVerdict::Wrong(w),
     }
 }

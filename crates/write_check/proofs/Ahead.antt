@@ -7,10 +7,10 @@ use Rattle.columns.specs.Laid.{laid}
 use Rattle.values.specs.declared.Value.{Value}
 use Rattle.values.specs.Value.{itemOf, isMissing}
 use Rattle.sheets.specs.declared.Said.the-variants.{Value as Given}
-use Rattle.sheets.specs.declared.State.{State}
-use Rattle.sheets.specs.declared.Step.{Step}
-use Rattle.sheets.specs.declared.Step.the-variants.{On}
-use Rattle.sheets.specs.declared.Verdict.{Verdict}
+use Rattle.sheets.specs.declared.SheetState.{SheetState}
+use Rattle.sheets.specs.declared.SheetStep.{SheetStep}
+use Rattle.sheets.specs.declared.SheetStep.the-variants.{On}
+use Rattle.sheets.specs.declared.SheetVerdict.{SheetVerdict}
 use Rattle.sheets.specs.Sheet.{Line, value}
 use Rattle.sheets.specs.Order.{valueStep, stepLine, goLines}
 use Rattle.sheets.proofs.Walk.{step-said}
@@ -19,17 +19,17 @@ use Rattle.file_canonical.specs.declared.Tally.{Tally}
 use Rattle.file_canonical.specs.declared.Lines.{Lines}
 use Rattle.file_canonical.specs.Counting.{withValue, tallied, within, behindValue, capped}
 use Rattle.file_canonical.proofs.Counted.{capped-same, value-same}
-use Rattle.write_lines.specs.declared.Pass.{Pass}
+use Rattle.write_lines.specs.declared.SheetPass.{SheetPass}
 use Rattle.write_lines.specs.Lines.{OfGlobal, OfRow, orElse, linesPass}
 use Rattle.write_lines.specs.Classes.{classesIn}
 use Rattle.write_check.specs.Ahead.{Ahead}
 use Rattle.write_check.proofs.Walking.{next-place}
 
-pub ahead-none : (st : State) (p : ℕ) (ls : List Line) → Ahead st p ls st p ls
+pub ahead-none : (st : SheetState) (p : ℕ) (ls : List Line) → Ahead st p ls st p ls
 ahead-none st p ls = record { verdict = refl; asked = λ g f. refl; classes = refl; counted = λ x. refl }
 
 -- one value line more
-module _ (ls rest : List Line) (r : Bool) (s : List ℕ) (v : Value) (line : ls ≡ value r (itemOf s v) ∷ rest) (st y : State) (x : Step) (p : x ≡ valueStep st (isMissing v)) (q : x ≡ On y) where
+module _ (ls rest : List Line) (r : Bool) (s : List ℕ) (v : Value) (line : ls ≡ value r (itemOf s v) ∷ rest) (st y : SheetState) (x : SheetStep) (p : x ≡ valueStep st (isMissing v)) (q : x ≡ On y) where
   go-value : goLines y rest ≡ goLines st ls
   unfolding goLines
   go-value =
@@ -49,7 +49,7 @@ module _ (ls rest : List Line) (r : Bool) (s : List ℕ) (v : Value) (line : ls 
   count-value at end e k =
       ap (λ (i : ℕ). within (tallied (withValue k i) rest)) e ∙ value-same k at r (itemOf s v) rest ∙ sym (ap (λ (u : List Line). within (tallied (withValue k at) u)) line)
 
-  pub ahead-on : (st₀ : State) (p₀ : ℕ) (ls₀ : List Line) (at end : ℕ) → end ≡ behindValue at (itemOf s v) → Ahead st₀ p₀ ls₀ st at ls → Ahead st₀ p₀ ls₀ y end rest
+  pub ahead-on : (st₀ : SheetState) (p₀ : ℕ) (ls₀ : List Line) (at end : ℕ) → end ≡ behindValue at (itemOf s v) → Ahead st₀ p₀ ls₀ st at ls → Ahead st₀ p₀ ls₀ y end rest
   ahead-on st₀ p₀ ls₀ at end e a = record {
     verdict = go-value ∙ a .verdict;
     asked = λ g f. pass-value g f ∙ a .asked g f;
@@ -58,17 +58,17 @@ module _ (ls rest : List Line) (r : Bool) (s : List ℕ) (v : Value) (line : ls 
   }
 
 -- what held before them holds behind them
-module _ (st st′ : State) (at end : ℕ) (ls rest : List Line) (a : Ahead st at ls st′ end rest) where
-  pub ahead-go : (f : Verdict) → goLines st ls ≡ f → goLines st′ rest ≡ f
+module _ (st st′ : SheetState) (at end : ℕ) (ls rest : List Line) (a : Ahead st at ls st′ end rest) where
+  pub ahead-go : (f : SheetVerdict) → goLines st ls ≡ f → goLines st′ rest ≡ f
   ahead-go f h = a .verdict ∙ h
 
-  pub ahead-asked : (g : OfGlobal) (f : OfRow) (p r : Pass) → orElse p (linesPass g f (st .line + 1) ls) ≡ r → orElse p (linesPass g f (st′ .line + 1) rest) ≡ r
+  pub ahead-asked : (g : OfGlobal) (f : OfRow) (p r : SheetPass) → orElse p (linesPass g f (st .line + 1) ls) ≡ r → orElse p (linesPass g f (st′ .line + 1) rest) ≡ r
   ahead-asked g f p r h = ap (orElse p) (a .asked g f) ∙ h
 
   pub ahead-laid : (o c : List ℕ) (k : ℕ) → laid o k (classesIn ls) ≡ c → laid o k (classesIn rest) ≡ c
   ahead-laid o c k h = ap (laid o k) (a .classes) ∙ h
 
 -- so many lines as were counted before them are counted behind them
-pub ahead-counted : (st st′ : State) (x : Tally) (end : ℕ) (ls rest : List Line) → Ahead st (x .at) ls st′ end rest → (y : Tally) → y ≡ capped (withValue x end) → (f : Lines)
+pub ahead-counted : (st st′ : SheetState) (x : Tally) (end : ℕ) (ls rest : List Line) → Ahead st (x .at) ls st′ end rest → (y : Tally) → y ≡ capped (withValue x end) → (f : Lines)
     → within (tallied x ls) ≡ f → within (tallied y rest) ≡ f
 ahead-counted st st′ x end ls rest a y e f h = ap (λ (z : Tally). within (tallied z rest)) e ∙ capped-same (withValue x end) rest ∙ a .counted x ∙ h

@@ -7,7 +7,7 @@ use lib.ListN.{length}
 use Rattle.columns.specs.declared.Fault.{Fault}
 use Rattle.columns.specs.declared.SheetLine.{SheetLine}
 use Rattle.columns.specs.Refusal.{Outcome, accepted, refused}
-use Rattle.sheets.specs.declared.Verdict.the-variants.{Good as GoodSheet}
+use Rattle.sheets.specs.declared.SheetVerdict.the-variants.{Good as GoodSheet}
 use Rattle.sheets.specs.Sheet.{linesIn, sheetOf}
 use Rattle.sheets.specs.Order.{sheetLine, verdictOf}
 use Rattle.model.specs.Model.{Model, modelOf}

@@ -12,8 +12,8 @@ use Rattle.sheets_rows.specs.Rows.{typesIn}
 use Rattle.sheets_rows.proofs.Rows.{values-first, rowType, types-sheet}
 use Rattle.model.specs.Model.{typeOf, fieldsIn, carriedOf, modelOf}
 use Rattle.model.specs.Write.{one, rowSize, firstGlobal, firstRow, globalRule, rowRules, rowReferences, rowEntityRules, rowTypes, sheetRules}
-use Rattle.write_lines.specs.declared.Pass.{Pass}
-use Rattle.write_lines.specs.declared.Pass.the-variants.{Good}
+use Rattle.write_lines.specs.declared.SheetPass.{SheetPass}
+use Rattle.write_lines.specs.declared.SheetPass.the-variants.{Good}
 use Rattle.write_lines.specs.Lines.{passOf, orElse, OfGlobal, OfRow, noRule, linesPass}
 use Rattle.write_lines.specs.Classes.{sheetTypes}
 use Rattle.write_lines.specs.Passes.{rulesPass, referencesPass, entitiesPass, sheetPass}
@@ -48,7 +48,7 @@ module _ (g : OfGlobal) (f : OfRow) where
   pass-globals (x ∷ gs) ls k =
       ap (orElse (passOf (g k x))) (pass-globals gs ls (k + 1) ∙ ap (orElse (passOf (eachAt one g (k + 1) gs))) (moved (k + 1 + length gs) (k + suc (length gs)) ls (omega arith)))
       ∙ sym (or-assoc (passOf (g k x)) (passOf (eachAt one g (k + 1) gs)) (linesPass g f (k + suc (length gs)) ls))
-      ∙ ap (λ (p : Pass). orElse p (linesPass g f (k + suc (length gs)) ls)) (sym (pass-each (g k x) (eachAt one g (k + 1) gs)))
+      ∙ ap (λ (p : SheetPass). orElse p (linesPass g f (k + suc (length gs)) ls)) (sym (pass-each (g k x) (eachAt one g (k + 1) gs)))
 
   pass-rows : (rs : List Row) (j k : ℕ) → linesPass g f k (rowLines j rs) ≡ passOf (eachAt rowSize f k rs)
   unfolding linesPass rowLines eachAt
@@ -75,7 +75,7 @@ none-asked [] k = refl
 none-asked (x ∷ gs) k = pass-each (accepted tt) (eachAt one noRule (k + 1) gs) ∙ none-asked gs (k + 1)
 
 pub pass-entries : (f : OfRow) (s : Sheet) → linesPass noRule f 1 (linesOf s) ≡ passOf (eachAt rowSize f (firstRow s) (s .rows))
-pass-entries f s = pass-sheet noRule f s ∙ ap (λ (p : Pass). orElse p (passOf (eachAt rowSize f (firstRow s) (s .rows)))) (none-asked (s .globals) (firstGlobal s))
+pass-entries f s = pass-sheet noRule f s ∙ ap (λ (p : SheetPass). orElse p (passOf (eachAt rowSize f (firstRow s) (s .rows)))) (none-asked (s .globals) (firstGlobal s))
 
 -- ---- the types
 

@@ -2,7 +2,7 @@
 use mathlib.Core.Path.{_≡_}
 use mathlib.Core.List.{List}
 use Prim.Native.Nat.{ℕ, _+_}
-use Rattle.sheets.specs.declared.State.{State}
+use Rattle.sheets.specs.declared.SheetState.{SheetState}
 use Rattle.sheets.specs.Sheet.{Line}
 use Rattle.sheets.specs.Order.{goLines}
 use Rattle.file_canonical.specs.declared.Tally.{Tally}
@@ -11,7 +11,7 @@ use Rattle.write_lines.specs.Lines.{OfGlobal, OfRow, linesPass}
 use Rattle.write_lines.specs.Classes.{classesIn}
 
 -- with another state and position, the lines `rest` have the verdict, the answers, the classes and the count that `ls` have with these
-pub record Ahead (st : State) (p : ℕ) (ls : List Line) (st′ : State) (p′ : ℕ) (rest : List Line) : Type 0 where
+pub record Ahead (st : SheetState) (p : ℕ) (ls : List Line) (st′ : SheetState) (p′ : ℕ) (rest : List Line) : Type 0 where
   pub verdict : goLines st′ rest ≡ goLines st ls
   pub asked : (g : OfGlobal) (f : OfRow) → linesPass g f (st′ .line + 1) rest ≡ linesPass g f (st .line + 1) ls
   pub classes : classesIn rest ≡ classesIn ls

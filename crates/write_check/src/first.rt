@@ -1,7 +1,7 @@
 // The first walk over a sheet: its lines in order (17), what each is asked by itself (8, 9, 13), the class of each entry for the table,
 // and how many lines the file has (19).
 use crate::Past;
-use crate::Walked;
+use crate::SheetWalked;
 use columns::SheetLine;
 use columns::format::OPENING_COLUMNS;
 use file_canonical::Tally;
@@ -11,9 +11,9 @@ use file_tally::with_values;
 use sheets::BEFORE_STARTS;
 use sheets::NO_FIELD;
 use sheets::NO_RUN;
-use sheets::State;
-use sheets::Step;
-use sheets::Verdict;
+use sheets::SheetState;
+use sheets::SheetStep;
+use sheets::SheetVerdict;
 use sheets::order;
 use sheets_read::end_of;
 use sheets_read::is_mark;
@@ -22,7 +22,7 @@ use sheets_read::line_at;
 use sheets_read::strict_at;
 use values::Strict;
 use values::is_missing;
-use write_lines::Pass;
+use write_lines::SheetPass;
 use write_lines::rules::rule_too;
 use write_lines::table::keep;
 ghost use mathlib.Core.Path.{_≡_};
@@ -39,7 +39,7 @@ ghost use Rattle.write_check.specs.Answers.{walkedSo, IfGood};
 ghost use Rattle.write_check.specs.Ahead.{Ahead};
 
 // Before the first line.
-const BEGIN: State = State {
+const BEGIN: SheetState = SheetState {
     section: BEFORE_STARTS,
     field: NO_FIELD,
     entries: 0,
@@ -59,7 +59,7 @@ const BEGUN: Tally = Tally {
 
 // Past the value lines from `from` on, as far as they are in order: they have no rule and no class. The first value stands at position p
 // of its record.
-fn past_values(t: &[u8], from: usize, begun: State, p: usize) -> Past
+fn past_values(t: &[u8], from: usize, begun: SheetState, p: usize) -> Past
     requires { ⌜ (from ≤ length (now t)) × (begun .line ≤ from) × (begun .entries ≤ begun .line) × (p ≤ 2 ^ 38) ⌝ }
     ensures { λ r. ⌜ Ahead begun p (linesAt (now (t .entry)) from) (r .state) (r .at) (linesAt (now (t .entry)) (r .next)) ⌝ }
     ensures { λ r. ⌜ (from ≤ r .next) × (r .next ≤ length (now (t .entry))) × (r .at ≤ 2 ^ 38) ⌝ }
@@ -80,12 +80,12 @@ fn past_values(t: &[u8], from: usize, begun: State, p: usize) -> Past
         let spelled = next + 2;
         match strict_at(t, spelled, end) {
             Strict::Is(value) => match order::value_step(state, is_missing(value)) {
-                Step::On(st) => {
+                SheetStep::On(st) => {
                     at = behind_value(at, &t[spelled..end], value);
                     state = st;
                     next = end + 1;
                 }
-                Step::Off(_) => {
+                SheetStep::Off(_) => {
                     return Past { state, next, at };
                 }
             },
@@ -98,10 +98,10 @@ fn past_values(t: &[u8], from: usize, begun: State, p: usize) -> Past
 }
 
 // What the walk tells behind the last line that it read.
-fn told(verdict: Verdict, pass: Pass, tally: Tally) -> Walked
+fn told(verdict: SheetVerdict, pass: SheetPass, tally: Tally) -> SheetWalked
     ensures { λ r. ⌜ r ≡ walkedSo verdict pass tally ⌝ }
 {
-    Walked {
+    SheetWalked {
         verdict,
         pass,
         tally,
@@ -109,7 +109,7 @@ fn told(verdict: Verdict, pass: Pass, tally: Tally) -> Walked
 }
 
 // All lines; the classes of all entries are laid over the table. A sheet whose lines are wrong is not asked further.
-pub fn walk(classes: &mut [u8], t: &[u8]) -> Walked
+pub fn walk(classes: &mut [u8], t: &[u8]) -> SheetWalked
     ensures { λ r. ⌜ r .verdict ≡ verdictOf (now (t .entry)) ⌝ }
     ensures { λ r. ⌜ IfGood (r .verdict) (r .pass ≡ rulesPass (now (t .entry))) ⌝ }
     ensures { λ r. ⌜ IfGood (r .verdict)
@@ -120,7 +120,7 @@ pub fn walk(classes: &mut [u8], t: &[u8]) -> Walked
     let n = t.len();
     let mut st = BEGIN;
     let mut tally = BEGUN;
-    let mut pass = Pass::Good;
+    let mut pass = SheetPass::Good;
     let mut at = 0;
     let mut k = 0;
     while at < n {
@@ -133,14 +133,14 @@ pub fn walk(classes: &mut [u8], t: &[u8]) -> Walked
         k = keep(classes, k, said);
         let more = tally_said(tally, said);
         match order::step_line(st, said) {
-            Step::On(next) => {
+            SheetStep::On(next) => {
                 let past = past_values(t, end + 1, next, more.at);
                 tally = with_values(more, past.at);
                 st = past.state;
                 at = past.next;
             }
-            Step::Off(line) => {
-                return told(Verdict::Wrong(line), pass, tally);
+            SheetStep::Off(line) => {
+                return told(SheetVerdict::Wrong(line), pass, tally);
             }
         }
     }

@@ -12,9 +12,9 @@ use columns::SheetLine;
 use file_canonical::Lines;
 use file_canonical::Tally;
 use file_tally::lines_of;
-use sheets::State;
-use sheets::Verdict;
-use write_lines::Pass;
+use sheets::SheetState;
+use sheets::SheetVerdict;
+use write_lines::SheetPass;
 use write_lines::table::TABLE;
 ghost use mathlib.Core.Path.{_≡_};
 ghost use Rattle.write_lines.specs.Classes.{Tabled};
@@ -23,16 +23,16 @@ ghost use Rattle.write_check.specs.Answers.{ruledOf};
 
 // Where the first walk stands behind value lines: the state, the place, and the position behind the last value in its record.
 pub struct Past {
-    pub state: State,
+    pub state: SheetState,
     pub next: usize,
     pub at: usize,
 }
 
 // What the first walk tells: the verdict on a sheet's lines and, where that is good, whether all is good that lines are asked by
 // themselves, and what its lines come to.
-pub struct Walked {
-    pub verdict: Verdict,
-    pub pass: Pass,
+pub struct SheetWalked {
+    pub verdict: SheetVerdict,
+    pub pass: SheetPass,
     pub tally: Tally,
 }
 
@@ -43,13 +43,13 @@ pub enum Ruled {
 }
 
 // The passes behind 17 over a sheet of n entries, the first of which found this.
-fn passes(list: u64, classes: &[u8], n: usize, t: &[u8], first: Pass) -> Pass
+fn passes(list: u64, classes: &[u8], n: usize, t: &[u8], first: SheetPass) -> SheetPass
     requires { ⌜ Tabled (now classes) n (now t) × (first ≡ rulesPass (now t)) ⌝ }
     ensures { λ r. ⌜ r ≡ sheetPass list (now (t .entry)) ⌝ }
 {
     match first {
-        Pass::Refused { fault, line } => Pass::Refused { fault, line },
-        Pass::Good => write_entities::named_rules(list, classes, n, t),
+        SheetPass::Refused { fault, line } => SheetPass::Refused { fault, line },
+        SheetPass::Good => write_entities::named_rules(list, classes, n, t),
     }
 }
 
@@ -69,16 +69,16 @@ pub fn check(list: u64, t: &[u8]) -> Ruled
     let first = walked.pass;
     let lines = lines_of(walked.tally);
     match verdict {
-        Verdict::Wrong(line) => Ruled::Refused {
+        SheetVerdict::Wrong(line) => Ruled::Refused {
             fault: Fault::SheetLine,
             line,
         },
-        Verdict::Good(n) => {
+        SheetVerdict::Good(n) => {
             marks::mark(&mut classes, n, t);
             let found = passes(list, &classes, n, t, first);
             match found {
-                Pass::Refused { fault, line } => Ruled::Refused { fault, line },
-                Pass::Good => Ruled::Good { entries: n, lines },
+                SheetPass::Refused { fault, line } => Ruled::Refused { fault, line },
+                SheetPass::Good => Ruled::Good { entries: n, lines },
             }
         }
     }

@@ -17,11 +17,11 @@ use Rattle.values.specs.declared.Strict.the-variants.{Not}
 use Rattle.values.specs.Value.{Item, itemOf}
 use Rattle.values.specs.Strict.{strictOf}
 use Rattle.directory.specs.declared.Fields.{Fields}
-use Rattle.layouts.specs.declared.State.{State}
+use Rattle.layouts.specs.declared.LayoutState.{LayoutState}
 use Rattle.layouts.specs.declared.Stepped.{Stepped}
 use Rattle.layouts.specs.declared.Stepped.the-variants.{Go, Bad}
-use Rattle.layouts.specs.declared.Verdict.{Verdict}
-use Rattle.layouts.specs.declared.Verdict.the-variants.{Good as GoodVerdict, Layout, LayoutReference}
+use Rattle.layouts.specs.declared.LayoutVerdict.{LayoutVerdict}
+use Rattle.layouts.specs.declared.LayoutVerdict.the-variants.{Good as GoodVerdict, Layout, LayoutReference}
 use Rattle.layouts.specs.Known.{known}
 use Rattle.layouts.specs.Named.{named}
 use Rattle.layouts.specs.Machine.{start, step, end}
@@ -45,8 +45,8 @@ use Rattle.sheets_rows.specs.Rows.{valuesFirst}
 use Rattle.sheets_rows.proofs.Rows.{no-values}
 use Rattle.write_entities.specs.declared.Judged.{Judged}
 use Rattle.write_entities.specs.declared.Values.{Values}
-use Rattle.write_lines.specs.declared.Pass.{Pass}
-use Rattle.write_lines.specs.declared.Pass.the-variants.{Good, Refused}
+use Rattle.write_lines.specs.declared.SheetPass.{SheetPass}
+use Rattle.write_lines.specs.declared.SheetPass.the-variants.{Good, Refused}
 use Rattle.write_lines.specs.Lines.{passOf, Skipped}
 use Rattle.write_lines.specs.Heads.{saidEntity}
 use Rattle.write_entities.specs.Judging.{rightToo, judgedSo, judged, valuesOf, verdictIf, answerOf}
@@ -62,7 +62,7 @@ pub right-no : (right reference : Bool) (g : Stepped) → right ≡ false → fa
 right-no right reference g e = rw e
 
 -- a step with as much of the class as it asks for
-pub stepped-for : (types : List ℕ) (g : Stepped) (v : Value) {s : State} (class : ℕ) {r : Stepped} → g ≡ Go s → step s v class ≡ step s v (named types v) → r ≡ step s v class → r ≡ stepped types g v
+pub stepped-for : (types : List ℕ) (g : Stepped) (v : Value) {s : LayoutState} (class : ℕ) {r : Stepped} → g ≡ Go s → step s v class ≡ step s v (named types v) → r ≡ step s v class → r ≡ stepped types g v
 stepped-for types g v class e q h = rw e (h ∙ q)
 
 pub ruleset values = (stepped-for, stepped-bad, right-yes, right-no)
@@ -123,7 +123,7 @@ module _ (inside : Bool) (g : Stepped) where
   pub verdict-out : inside ≡ false → GoodVerdict ≡ verdictIf inside g
   verdict-out e = rw e
 
-  pub verdict-go : (s : State) (w : Verdict) → inside ≡ true → g ≡ Go s → w ≡ end s → w ≡ verdictIf inside g
+  pub verdict-go : (s : LayoutState) (w : LayoutVerdict) → inside ≡ true → g ≡ Go s → w ≡ end s → w ≡ verdictIf inside g
   verdict-go s w e q h = rw (e, q) h
 
   pub verdict-bad : inside ≡ true → g ≡ Bad → Layout ≡ verdictIf inside g
@@ -131,7 +131,7 @@ module _ (inside : Bool) (g : Stepped) where
 
 pub ruleset verdicts = (not-true, not-false, verdict-out, verdict-go, verdict-bad)
 
-module _ (inside marked : Bool) (j : Judged) (place : ℕ) (g : Stepped) (w : Verdict) (b : Bool) (eg : g ≡ j .state) (ew : w ≡ verdictIf inside g) (eb : b ≡ equal marked inside) where
+module _ (inside marked : Bool) (j : Judged) (place : ℕ) (g : Stepped) (w : LayoutVerdict) (b : Bool) (eg : g ≡ j .state) (ew : w ≡ verdictIf inside g) (eb : b ≡ equal marked inside) where
   answer : answerOf inside marked j place ≡ passOf (fault w place then λ _. demand (b && j .right) Mark place)
   unfolding answerOf
   answer = rw (← eg, ← ew, ← eb)
@@ -200,7 +200,7 @@ module _ (list : ℕ) (types : List ℕ) (place : ℕ) (marked : Bool) (x : Fiel
       rw (judged-state types begin true vs, judged-right types begin true vs, check-part)
       (ap passOf (then-same (entityCheck list types entity place) _ _ (λ u h. rw (marks-begin types list (x .entity .size) (x .form .size) (map valueIn vs) (accepts-keeps types entity list place u h)))))
 
-  pub entity-told : (s : Said) (n : Signed) (inside : Bool) (g : Stepped) (j : Judged) (r : Pass) → s ≡ Entry marked n x → inside ≡ known list (x .entity .size) (x .form .size)
+  pub entity-told : (s : Said) (n : Signed) (inside : Bool) (g : Stepped) (j : Judged) (r : SheetPass) → s ≡ Entry marked n x → inside ≡ known list (x .entity .size) (x .form .size)
       → g ≡ marksBegun list (x .entity .size) (x .form .size) → j ≡ judged types g true vs → r ≡ answerOf inside marked j place → r ≡ saidEntity list types place vs s
   entity-told s n inside g j r e ei eg ej er = rw e (er ∙ rw (ei, ej, eg) answer-row)
 

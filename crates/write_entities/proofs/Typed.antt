@@ -14,8 +14,8 @@ use Rattle.values.specs.declared.Value.the-variants.{Default, Whole, Real, Text
 use Rattle.values.proofs.Value.{the-type as valueType}
 use Rattle.layouts.specs.declared.Kind.{Kind}
 use Rattle.layouts.specs.declared.Kind.the-variants.{R, Given, Weight, S, I, Flag, Count, Outer, Upper1, Upper2, Degree1, Degree2, P, Q, Bound, Rest}
-use Rattle.layouts.specs.declared.State.{State}
-use Rattle.layouts.specs.declared.Place.{Place}
+use Rattle.layouts.specs.declared.LayoutState.{LayoutState}
+use Rattle.layouts.specs.declared.LayoutPlace.{LayoutPlace}
 use Rattle.layouts.proofs.Kind.{the-type as kindType}
 use Rattle.layouts.specs.Table.{placeAt}
 use Rattle.layouts.specs.Machine.{kindAt, rests, moved, refer, takes, step}
@@ -75,19 +75,19 @@ asks-none (Q want) h = absurd (miss (0 ∷ 1 ∷ 2 ∷ 3 ∷ 4 ∷ 5 ∷ 6 ∷ 7
 asks-none (Bound want) h = absurd (miss (0 ∷ 1 ∷ 2 ∷ 3 ∷ 4 ∷ 5 ∷ 6 ∷ 7 ∷ 8 ∷ 9 ∷ 10 ∷ 11 ∷ 15 ∷ []) 14 tt h)
 asks-none Rest h = refl
 
-module _ (n : ℕ) (s : State) where
+module _ (n : ℕ) (s : LayoutState) where
   pub looks-few : n ≤ tableSize → true ≡ (leb n tableSize || asksType (kindAt s))
   looks-few h = rw (le-leb n tableSize h)
 
-  pub looks-many : tableSize < n → (p : Place) (b : Bool) → p ≡ placeAt (s .at) → b ≡ asksType (p .kind) → b ≡ (leb n tableSize || asksType (kindAt s))
-  looks-many h p b e q = rw (lt-leb n tableSize h) (q ∙ ap (λ (x : Place). asksType (x .kind)) e)
+  pub looks-many : tableSize < n → (p : LayoutPlace) (b : Bool) → p ≡ placeAt (s .at) → b ≡ asksType (p .kind) → b ≡ (leb n tableSize || asksType (kindAt s))
+  looks-many h p b e q = rw (lt-leb n tableSize h) (q ∙ ap (λ (x : LayoutPlace). asksType (x .kind)) e)
 
 pub ruleset looks = (asks-p, asks-q, asks-bound, asks-none, looks-few, looks-many)
 
 -- ---- a step takes any class of an entry where none is asked for
 
 module _ (c d : ℕ) (like : leb 1 c ≡ leb 1 d) where
-  same-refer : (free : Bool) (want : ℕ) (s : State) (v : Value) → ltb 0 want ≡ false → refer free want s v c ≡ refer free want s v d
+  same-refer : (free : Bool) (want : ℕ) (s : LayoutState) (v : Value) → ltb 0 want ≡ false → refer free want s v c ≡ refer free want s v d
   same-refer free want s Default h = refl
   same-refer free want s (Whole neg m) h =
       let z : want ≡ 0 = omega (arith, ltb-false 0 want h) in
@@ -95,7 +95,7 @@ module _ (c d : ℕ) (like : leb 1 c ≡ leb 1 d) where
   same-refer free want s (Real neg m eneg e double) h = refl
   same-refer free want s (Text start count) h = refl
 
-  same-takes : (k : Kind) (s : State) (v : Value) → asksType k ≡ false → takes k s v c ≡ takes k s v d
+  same-takes : (k : Kind) (s : LayoutState) (v : Value) → asksType k ≡ false → takes k s v c ≡ takes k s v d
   unfolding takes
   same-takes R s v h = refl
   same-takes Given s v h = refl
@@ -114,7 +114,7 @@ module _ (c d : ℕ) (like : leb 1 c ≡ leb 1 d) where
   same-takes (Bound want) s v h = same-refer (not (eqb (s .k2) 1)) want s v h
   same-takes Rest s v h = refl
 
-  same-step : (s : State) (v : Value) → asksType (kindAt s) ≡ false → step s v c ≡ step s v d
+  same-step : (s : LayoutState) (v : Value) → asksType (kindAt s) ≡ false → step s v c ≡ step s v d
   unfolding step
   same-step s v h = ap (moved (rests (kindAt s))) (same-takes (kindAt s) s v h)
 
@@ -127,7 +127,7 @@ module _ (classes : List ℕ) (n : ℕ) (t : List ℕ) (tab : Tabled classes n t
   some-like (Real neg m eneg e double) = refl
   some-like (Text start count) = refl
 
-  module _ (s : State) (v : Value) (b : Bool) (eb : b ≡ (leb n tableSize || asksType (kindAt s))) (r : ℕ) where
+  module _ (s : LayoutState) (v : Value) (b : Bool) (eb : b ≡ (leb n tableSize || asksType (kindAt s))) (r : ℕ) where
     pub named-class : b ≡ true → r ≡ named (sheetTypes t) v → step s v r ≡ step s v (named (sheetTypes t) v)
     named-class h e = ap (step s v) e
 

@@ -5,8 +5,8 @@ mod naming;
 use crate::naming::named_for;
 use columns::Fault;
 use columns::SheetLine;
+use layouts::LayoutVerdict;
 use layouts::Stepped;
-use layouts::Verdict;
 use layouts_lists::known;
 use read_entities::marks::mark_of;
 use read_entities::marks::marks_begun;
@@ -16,7 +16,7 @@ use sheets_read::is_value;
 use sheets_read::strict_at;
 use values::Strict;
 use values::Value;
-use write_lines::Pass;
+use write_lines::SheetPass;
 use write_lines::heads::head_at;
 use write_lines::refer::reference_of;
 use write_lines::refer::references;
@@ -49,7 +49,7 @@ pub struct Values {
 
 // What comes of a line and the value lines behind it, with the place behind them and how many they are.
 pub struct Asked {
-    pub found: Pass,
+    pub found: SheetPass,
     pub next: usize,
     pub lines: usize,
 }
@@ -139,41 +139,41 @@ fn judge(classes: &[u8], n: usize, t: &[u8], from: usize, begun: Stepped) -> Val
 }
 
 // The verdict of a layout, where the list knows the entity.
-fn verdict_if(inside: bool, g: Stepped) -> Verdict
+fn verdict_if(inside: bool, g: Stepped) -> LayoutVerdict
     ensures { λ r. ⌜ r ≡ verdictIf inside g ⌝ }
 {
     if !inside {
-        return Verdict::Good;
+        return LayoutVerdict::Good;
     }
     match g {
         Stepped::Go(s) => layouts_machine::end(s),
-        Stepped::Bad => Verdict::Layout,
+        Stepped::Bad => LayoutVerdict::Layout,
     }
 }
 
 // 14 and 15 come before 18.
-fn answer_of(inside: bool, marked: bool, j: Judged, line: SheetLine) -> Pass
+fn answer_of(inside: bool, marked: bool, j: Judged, line: SheetLine) -> SheetPass
     ensures { λ r. ⌜ r ≡ answerOf inside marked j (line .0) ⌝ }
 {
     let g = j.state;
     let verdict = verdict_if(inside, g);
     let right = same(marked, inside);
     match verdict {
-        Verdict::Layout => Pass::Refused {
+        LayoutVerdict::Layout => SheetPass::Refused {
             fault: Fault::Layout,
             line,
         },
-        Verdict::LayoutReference => Pass::Refused {
+        LayoutVerdict::LayoutReference => SheetPass::Refused {
             fault: Fault::LayoutReference,
             line,
         },
-        Verdict::Good => {
+        LayoutVerdict::Good => {
             if right {
                 if j.right {
-                    return Pass::Good;
+                    return SheetPass::Good;
                 }
             }
-            Pass::Refused {
+            SheetPass::Refused {
                 fault: Fault::Mark,
                 line,
             }
@@ -204,7 +204,7 @@ fn entity_of(
     } = said
     else {
         return Asked {
-            found: Pass::Good,
+            found: SheetPass::Good,
             next: from,
             lines: 0,
         };
@@ -232,20 +232,20 @@ fn refused_later(
     t: &[u8],
     from: usize,
     place: SheetLine,
-    found: Pass,
-) -> Pass
+    found: SheetPass,
+) -> SheetPass
     requires { ⌜ Tabled (now classes) n (now t) × (from ≤ length (now t)) × (place .0 ≤ from + 1) ⌝ }
     ensures { λ r. ⌜ r ≡ orElse (referencesFrom (sheetTypes (now (t .entry))) (now (t .entry)) (place .0) from) found ⌝ }
 {
     let named = references(classes, n, t, from, place);
     match named {
-        Pass::Refused { fault, line } => Pass::Refused { fault, line },
-        Pass::Good => found,
+        SheetPass::Refused { fault, line } => SheetPass::Refused { fault, line },
+        SheetPass::Good => found,
     }
 }
 
 // All 10, then each entity 14, 15, 18, of a sheet of n entries. Behind a refused entity only 10 is left to ask.
-pub fn named_rules(list: u64, classes: &[u8], n: usize, t: &[u8]) -> Pass
+pub fn named_rules(list: u64, classes: &[u8], n: usize, t: &[u8]) -> SheetPass
     requires { ⌜ Tabled (now classes) n (now t) ⌝ }
     ensures { λ r. ⌜ r ≡ orElse (referencesPass (now (t .entry))) (entitiesPass list (now (t .entry))) ⌝ }
 {
@@ -255,23 +255,23 @@ pub fn named_rules(list: u64, classes: &[u8], n: usize, t: &[u8]) -> Pass
     while at < size {
         let end = end_of(t, at);
         if end == size {
-            return Pass::Good;
+            return SheetPass::Good;
         }
         let said = head_at(t, at, end);
         let named = reference_of(classes, n, t, said, SheetLine(place));
         match named {
-            Pass::Refused { fault, line } => {
-                return Pass::Refused { fault, line };
+            SheetPass::Refused { fault, line } => {
+                return SheetPass::Refused { fault, line };
             }
-            Pass::Good => {
+            SheetPass::Good => {
                 let asked = entity_of(list, classes, n, t, end + 1, said, SheetLine(place));
                 let found = asked.found;
                 match found {
-                    Pass::Refused { fault, line } => {
-                        let first = Pass::Refused { fault, line };
+                    SheetPass::Refused { fault, line } => {
+                        let first = SheetPass::Refused { fault, line };
                         return refused_later(classes, n, t, end + 1, SheetLine(place + 1), first);
                     }
-                    Pass::Good => {
+                    SheetPass::Good => {
                         at = asked.next;
                         place += 1 + asked.lines;
                     }
@@ -279,5 +279,5 @@ pub fn named_rules(list: u64, classes: &[u8], n: usize, t: &[u8]) -> Pass
             }
         }
     }
-    Pass::Good
+    SheetPass::Good
 }

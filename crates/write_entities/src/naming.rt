@@ -2,7 +2,7 @@
 // in a sheet that has more entries than the table has classes that is told without a search.
 use columns::DirectoryNumber;
 use layouts::Kind;
-use layouts::State;
+use layouts::LayoutState;
 use layouts_rows::look;
 use references::ANY;
 use references::NO_ENTRY;
@@ -62,7 +62,7 @@ fn asks_type(k: Kind) -> bool
 }
 
 // Whether the class of what is named is to be looked up: in a table of classes that costs nothing.
-fn is_looked_up(n: usize, s: State) -> bool
+fn is_looked_up(n: usize, s: LayoutState) -> bool
     ensures { λ r. ⌜ r ≡ leb n tableSize || asksType (kindAt s) ⌝ }
 {
     if n <= TABLE {
@@ -74,7 +74,7 @@ fn is_looked_up(n: usize, s: State) -> bool
 }
 
 // The class of what a value names, as far as its place asks for it.
-pub fn named_for(classes: &[u8], n: usize, t: &[u8], s: State, v: Value) -> u8
+pub fn named_for(classes: &[u8], n: usize, t: &[u8], s: LayoutState, v: Value) -> u8
     requires { ⌜ Tabled (now classes) n (now t) ⌝ }
     ensures { λ r. ⌜ step s v r ≡ step s v (named (sheetTypes (now (t .entry))) v) ⌝ }
 {

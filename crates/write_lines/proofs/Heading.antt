@@ -28,8 +28,8 @@ use Rattle.sheets.specs.Line.{entryOf}
 use Rattle.sheets.specs.Sheet.{Line, isStart, startLine, globalLine, entryLineOf, valueOf, lastLine, byMark, saysOf, lineFrom, saidBy}
 use Rattle.model.specs.Write.{globalRule, rowRules, rowReferences, rowEntityRules}
 use Rattle.sheets_rows.specs.Rows.{valuesFirst}
-use Rattle.write_lines.specs.declared.Pass.{Pass}
-use Rattle.write_lines.specs.declared.Pass.the-variants.{Good}
+use Rattle.write_lines.specs.declared.SheetPass.{SheetPass}
+use Rattle.write_lines.specs.declared.SheetPass.the-variants.{Good}
 use Rattle.write_lines.specs.Lines.{passOf, noRule, lineCheck}
 use Rattle.write_lines.specs.Heads.{isHead, headOf, saidRule, saidReferences, saidEntity}
 
@@ -167,7 +167,7 @@ module _ (types : List ℕ) (place : ℕ) where
   quiet-references (Last n) q = refl
   quiet-references (Nothing b) q = refl
 
-  pub references-line : (l : List ℕ) (ls : List Line) (x : Said) (r : Pass) → x ≡ headOf l → r ≡ saidReferences types place x
+  pub references-line : (l : List ℕ) (ls : List Line) (x : Said) (r : SheetPass) → x ≡ headOf l → r ≡ saidReferences types place x
       → r ≡ lineCheck noRule (rowReferences types) place (saidBy l) ls
   unfolding saidBy
   references-line l ls x r ex er =
@@ -190,7 +190,7 @@ module _ (list : ℕ) (types : List ℕ) (place : ℕ) (ls : List Line) where
   quiet-entity (Last n) q = refl
   quiet-entity (Nothing b) q = refl
 
-  pub entity-line : (l : List ℕ) (x : Said) (r : Pass) → x ≡ headOf l → r ≡ saidEntity list types place (valuesFirst ls) x
+  pub entity-line : (l : List ℕ) (x : Said) (r : SheetPass) → x ≡ headOf l → r ≡ saidEntity list types place (valuesFirst ls) x
       → r ≡ lineCheck noRule (rowEntityRules list types) place (saidBy l) ls
   unfolding saidBy
   entity-line l x r ex er =

@@ -21,17 +21,17 @@ use Rattle.sheets.proofs.Plains.{columns-drop}
 use Rattle.sheets.proofs.Says.{none-of}
 use Rattle.sheets.proofs.Walk.{pieces-whole, lines-first, line-says}
 use Rattle.sheets.proofs.Valued.{value-long, value-given}
-use Rattle.write_lines.specs.declared.Pass.{Pass}
-use Rattle.write_lines.specs.declared.Pass.the-variants.{Good, Refused}
+use Rattle.write_lines.specs.declared.SheetPass.{SheetPass}
+use Rattle.write_lines.specs.declared.SheetPass.the-variants.{Good, Refused}
 use Rattle.write_lines.specs.Lines.{OfGlobal, OfRow, orElse, lineCheck, linesPass, Skipped}
 
 -- ---- passes one after another
 
-pub or-good : (p : Pass) → orElse p Good ≡ p
+pub or-good : (p : SheetPass) → orElse p Good ≡ p
 or-good Good = refl
 or-good (Refused n l) = refl
 
-pub or-assoc : (p q r : Pass) → orElse (orElse p q) r ≡ orElse p (orElse q r)
+pub or-assoc : (p q r : SheetPass) → orElse (orElse p q) r ≡ orElse p (orElse q r)
 or-assoc Good q r = refl
 or-assoc (Refused n l) q r = refl
 

@@ -12,8 +12,8 @@ use Rattle.sheets.specs.Line.{run}
 use Rattle.sheets.specs.Sheet.{linesIn}
 use Rattle.model.specs.Write.{rowReferences, rowEntityRules}
 use Rattle.sheets_rows.specs.Rows.{valuesFirst}
-use Rattle.write_lines.specs.declared.Pass.{Pass}
-use Rattle.write_lines.specs.declared.Pass.the-variants.{Good, Refused}
+use Rattle.write_lines.specs.declared.SheetPass.{SheetPass}
+use Rattle.write_lines.specs.declared.SheetPass.the-variants.{Good, Refused}
 use Rattle.write_lines.specs.Lines.{orElse, noRule, Skipped}
 use Rattle.write_lines.specs.Heads.{headOf, saidReferences, saidEntity}
 use Rattle.write_lines.specs.Classes.{sheetTypes}
@@ -23,7 +23,7 @@ use Rattle.write_lines.proofs.Heading.{references-line, entity-line}
 
 -- ---- behind a refused entity
 
-module _ (p q s : Pass) (e : p ≡ s) where
+module _ (p q s : SheetPass) (e : p ≡ s) where
   pub first-refused : (m : Fault) (l : SheetLine) → p ≡ Refused m l → Refused m l ≡ orElse s q
   first-refused m l h = rw (← e, h)
 
@@ -34,7 +34,7 @@ pub ruleset firsts = (first-refused, first-good)
 
 -- ---- the passes from a place on
 
-module _ (list : ℕ) (types t : List ℕ) (at place n : ℕ) (all : n ≡ length t) (r : Pass) where
+module _ (list : ℕ) (types t : List ℕ) (at place n : ℕ) (all : n ≡ length t) (r : SheetPass) where
   pub refer-end : referencesFrom types t place at ≡ r → n ≤ at → Good ≡ r
   refer-end inv h = sym (pass-end t at n all noRule (rowReferences types) place h) ∙ inv
 
@@ -48,11 +48,11 @@ module _ (list : ℕ) (types t : List ℕ) (at place n : ℕ) (all : n ≡ lengt
     pub names-piece : orElse (referencesFrom types t place at) (entitiesFrom list types t place at) ≡ r → end ≡ n → Good ≡ r
     names-piece inv h = rw (pass-piece t at n all noRule (rowReferences types) place end lt lo hi en h, pass-piece t at n all noRule (rowEntityRules list types) place end lt lo hi en h) at inv
 
-    module _ (h : end ≡ n → ⊥) (x : Said) (ex : x ≡ headOf (columns t at end)) (a : Pass) (ea : a ≡ saidReferences types place x) where
+    module _ (h : end ≡ n → ⊥) (x : Said) (ex : x ≡ headOf (columns t at end)) (a : SheetPass) (ea : a ≡ saidReferences types place x) where
       references-line-first : referencesFrom types t place at ≡ orElse a (referencesFrom types t (place + 1) (end + 1))
       references-line-first =
           pass-line t at n all noRule (rowReferences types) place end lt lo hi en h
-          ∙ ap (λ (p : Pass). orElse p (referencesFrom types t (place + 1) (end + 1))) (sym (references-line types place (columns t at end) (linesIn (drop (end + 1) t)) x a ex ea))
+          ∙ ap (λ (p : SheetPass). orElse p (referencesFrom types t (place + 1) (end + 1))) (sym (references-line types place (columns t at end) (linesIn (drop (end + 1) t)) x a ex ea))
 
       pub refer-on : referencesFrom types t place at ≡ r → a ≡ Good → referencesFrom types t (place + 1) (end + 1) ≡ r
       refer-on inv e = sym (references-line-first ∙ rw e) ∙ inv
@@ -64,11 +64,11 @@ module _ (list : ℕ) (types t : List ℕ) (at place n : ℕ) (all : n ≡ lengt
         pub names-here : {m : Fault} {l : SheetLine} → a ≡ Refused m l → Refused m l ≡ r
         names-here e = rw (references-line-first, e) at inv
 
-        module _ (e : a ≡ Good) (b : Pass) (eb : b ≡ saidEntity list types place (valuesFirst (linesIn (drop (end + 1) t))) x) where
+        module _ (e : a ≡ Good) (b : SheetPass) (eb : b ≡ saidEntity list types place (valuesFirst (linesIn (drop (end + 1) t))) x) where
           entities-line-first : entitiesFrom list types t place at ≡ orElse b (entitiesFrom list types t (place + 1) (end + 1))
           entities-line-first =
               pass-line t at n all noRule (rowEntityRules list types) place end lt lo hi en h
-              ∙ ap (λ (p : Pass). orElse p (entitiesFrom list types t (place + 1) (end + 1))) (sym (entity-line list types place (linesIn (drop (end + 1) t)) (columns t at end) x b ex eb))
+              ∙ ap (λ (p : SheetPass). orElse p (entitiesFrom list types t (place + 1) (end + 1))) (sym (entity-line list types place (linesIn (drop (end + 1) t)) (columns t at end) x b ex eb))
 
           both : orElse (referencesFrom types t (place + 1) (end + 1)) (orElse b (entitiesFrom list types t (place + 1) (end + 1))) ≡ r
           both = rw (references-line-first, e, entities-line-first) at inv
@@ -79,7 +79,7 @@ module _ (list : ℕ) (types t : List ℕ) (at place n : ℕ) (all : n ≡ lengt
               let z : place + (1 + lines) ≡ place + 1 + lines = omega arith in
               rw (z, s .same noRule (rowReferences types) (place + 1), s .same noRule (rowEntityRules list types) (place + 1)) (rw eg at both)
 
-          pub names-last : {m : Fault} {l : SheetLine} → b ≡ Refused m l → (q : Pass) → q ≡ orElse (referencesFrom types t (place + 1) (end + 1)) (Refused m l) → q ≡ r
+          pub names-last : {m : Fault} {l : SheetLine} → b ≡ Refused m l → (q : SheetPass) → q ≡ orElse (referencesFrom types t (place + 1) (end + 1)) (Refused m l) → q ≡ r
           names-last eg q eq = rw eq (rw eg at both)
 
 pub names-start : (list : ℕ) (t : List ℕ) → orElse (referencesFrom (sheetTypes t) t 1 0) (entitiesFrom list (sheetTypes t) t 1 0) ≡ orElse (referencesPass t) (entitiesPass list t)

@@ -19,9 +19,9 @@ use Rattle.directory.specs.declared.Fields.{Fields}
 use Rattle.directory.specs.Fields.{inOrder}
 use Rattle.references.specs.References.{classOf, classAt}
 use Rattle.references.proofs.Classes.{class-at}
-use Rattle.sheets.specs.declared.State.{State}
-use Rattle.sheets.specs.declared.Step.the-variants.{On}
-use Rattle.sheets.specs.declared.Verdict.the-variants.{Good}
+use Rattle.sheets.specs.declared.SheetState.{SheetState}
+use Rattle.sheets.specs.declared.SheetStep.the-variants.{On}
+use Rattle.sheets.specs.declared.SheetVerdict.the-variants.{Good}
 use Rattle.sheets.specs.Plain.{sized}
 use Rattle.sheets.specs.Line.{run, spell, spells, entryLine}
 use Rattle.sheets.specs.Folds.{signedFold, entryFold}
@@ -70,7 +70,7 @@ more-types (value reference v) ls = omega arith
 more-types (last n) ls = omega arith
 more-types (none b) ls = omega arith
 
-step-types : (st y : State) (l : Line) → stepLine st l ≡ On y → y .entries ≡ st .entries + length (typesIn (l ∷ []))
+step-types : (st y : SheetState) (l : Line) → stepLine st l ≡ On y → y .entries ≡ st .entries + length (typesIn (l ∷ []))
 unfolding typesIn
 step-types st y (start t) e = rw (start-inv st y e .2) (omega arith)
 step-types st y (global n v) e = rw (global-inv st y n e .4) (omega arith)
@@ -79,7 +79,7 @@ step-types st y (value reference v) e = rw (value-inv st y (isDefault v) e .1) (
 step-types st y (last n) e = rw (last-inv st y n e .4) (omega arith)
 step-types st y (none b) e = absurd (none-inv st y b e)
 
-go-past : (ls rest : List Line) (st : State) (n : ℕ) → goLines st (ls ++ rest) ≡ Good n → (y : State) × (goLines y rest ≡ Good n) × (y .entries ≡ st .entries + length (typesIn ls))
+go-past : (ls rest : List Line) (st : SheetState) (n : ℕ) → goLines st (ls ++ rest) ≡ Good n → (y : SheetState) × (goLines y rest ≡ Good n) × (y .entries ≡ st .entries + length (typesIn ls))
 unfolding typesIn
 go-past [] rest st n h = (st, h, omega arith)
 go-past (l ∷ ls) rest st n h =

@@ -13,7 +13,7 @@ use Rattle.layouts.specs.Named.{named}
 use Rattle.sheets.specs.declared.Said.{Said}
 use Rattle.sheets.specs.declared.Said.the-variants.{Start, Global, Entry, Value as Given, Last, Nothing}
 use Rattle.sheets.proofs.Said.{the-type as saidType}
-use Rattle.write_lines.specs.declared.Pass.the-variants.{Good}
+use Rattle.write_lines.specs.declared.SheetPass.the-variants.{Good}
 use Rattle.write_lines.specs.Heads.{saidRule, saidReferences, saidEntity}
 use Rattle.write_lines.specs.Classes.{saidClass}
 

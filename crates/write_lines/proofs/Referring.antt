@@ -17,7 +17,7 @@ use Rattle.directory.proofs.Asked.{rest-all, rest-on, rest-no, rest-done}
 use Rattle.sheets.specs.declared.Said.{Said}
 use Rattle.sheets.specs.declared.Said.the-variants.{Entry as EntryLine}
 use Rattle.sheets.specs.Order.{sheetLine}
-use Rattle.write_lines.specs.declared.Pass.the-variants.{Good, Refused}
+use Rattle.write_lines.specs.declared.SheetPass.the-variants.{Good, Refused}
 use Rattle.write_lines.specs.Heads.{saidReferences}
 use Rattle.write_lines.specs.Classes.{sheetTypes, someAt, Tabled}
 use Rattle.write_lines.proofs.Tables.{number-some}

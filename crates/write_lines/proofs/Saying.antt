@@ -22,8 +22,8 @@ use Rattle.sheets.specs.Line.{run}
 use Rattle.sheets.specs.Sheet.{saysOf, saidBy, linesIn}
 use Rattle.sheets.specs.Order.{sheetLine}
 use Rattle.model.specs.Write.{globalRule, rowRules}
-use Rattle.write_lines.specs.declared.Pass.{Pass}
-use Rattle.write_lines.specs.declared.Pass.the-variants.{Good, Refused}
+use Rattle.write_lines.specs.declared.SheetPass.{SheetPass}
+use Rattle.write_lines.specs.declared.SheetPass.the-variants.{Good, Refused}
 use Rattle.write_lines.specs.Lines.{passOf, orElse, lineCheck, linesPass}
 use Rattle.write_lines.specs.Heads.{saidRule}
 use Rattle.write_lines.specs.Passes.{rulesPass}
@@ -50,16 +50,16 @@ module _ (place : ℕ) (x : Said) where
     entry-refused m h = rw h at ruled
 
 -- the first refusal so far stays
-module _ (first : Pass) (place : ℕ) (x : Said) where
+module _ (first : SheetPass) (place : ℕ) (x : Said) where
   pub too-refused : (m : Fault) (l : SheetLine) → first ≡ Refused m l → Refused m l ≡ orElse first (saidRule place x)
   too-refused m l e = rw e
 
-  pub too-asked : (r : Pass) → first ≡ Good → r ≡ saidRule place x → r ≡ orElse first (saidRule place x)
+  pub too-asked : (r : SheetPass) → first ≡ Good → r ≡ saidRule place x → r ≡ orElse first (saidRule place x)
   too-asked r e er = rw e er
 
 -- ---- a walk over lines: r is the answer
 
-module _ (r : Pass) (t : List ℕ) (at place : ℕ) (first : Pass) (inv : orElse first (linesPass globalRule rowRules place (linesIn (drop at t))) ≡ r) (n : ℕ) (all : n ≡ length t) where
+module _ (r : SheetPass) (t : List ℕ) (at place : ℕ) (first : SheetPass) (inv : orElse first (linesPass globalRule rowRules place (linesIn (drop at t))) ≡ r) (n : ℕ) (all : n ≡ length t) where
   pub rules-end : n ≤ at → first ≡ r
   rules-end h = sym (or-good first) ∙ (rw (pass-end t at n all globalRule rowRules place h) at inv)
 
@@ -68,7 +68,7 @@ module _ (r : Pass) (t : List ℕ) (at place : ℕ) (first : Pass) (inv : orElse
     rules-piece h = sym (or-good first) ∙ (rw (pass-piece t at n all globalRule rowRules place end lt lo hi en h) at inv)
 
     -- a whole line
-    pub rules-said : (end ≡ n → ⊥) → (x : Said) (y : Pass) → x ≡ saysOf (columns t at end) → y ≡ orElse first (saidRule place x)
+    pub rules-said : (end ≡ n → ⊥) → (x : Said) (y : SheetPass) → x ≡ saysOf (columns t at end) → y ≡ orElse first (saidRule place x)
         → orElse y (linesPass globalRule rowRules (place + 1) (linesIn (drop (end + 1) t))) ≡ r
     rules-said h x y ex ey =
         let q : saidRule place x ≡ lineCheck globalRule rowRules place (saidBy (columns t at end)) (linesIn (drop (end + 1) t)) = rule-said place (columns t at end) (linesIn (drop (end + 1) t)) x ex in

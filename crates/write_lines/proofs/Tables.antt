@@ -17,7 +17,7 @@ use Rattle.references.proofs.Classes.{class-range, class-at, class-even, class-
 use Rattle.directory.specs.declared.Fields.{Fields}
 use Rattle.sheets.specs.declared.Said.{Said}
 use Rattle.sheets.specs.declared.Said.the-variants.{Start, Global, Entry, Value as Given, Last, Nothing}
-use Rattle.sheets.specs.declared.Verdict.the-variants.{Good}
+use Rattle.sheets.specs.declared.SheetVerdict.the-variants.{Good}
 use Rattle.sheets.specs.Line.{run}
 use Rattle.sheets.specs.Sheet.{Line, saysOf, lineFrom, saidBy, linesIn}
 use Rattle.sheets.specs.Order.{verdictOf}

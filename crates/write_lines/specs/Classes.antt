@@ -8,7 +8,7 @@ use lib.ListN.{length, getD}
 use Rattle.references.specs.References.{noEntry, otherEntry, classOf}
 use Rattle.sheets.specs.declared.Said.{Said}
 use Rattle.sheets.specs.declared.Said.the-variants.{Start, Global, Entry, Value as Given, Last, Nothing}
-use Rattle.sheets.specs.declared.Verdict.the-variants.{Good}
+use Rattle.sheets.specs.declared.SheetVerdict.the-variants.{Good}
 use Rattle.sheets.specs.Sheet.{Line, linesIn}
 use Rattle.sheets.specs.Order.{verdictOf}
 use Rattle.sheets_rows.specs.Rows.{typesIn}

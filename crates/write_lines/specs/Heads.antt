@@ -14,8 +14,8 @@ use Rattle.sheets.specs.declared.Said.{Said}
 use Rattle.sheets.specs.declared.Said.the-variants.{Start, Global, Entry, Value as Given, Last, Nothing}
 use Rattle.sheets.specs.Sheet.{saysOf, row}
 use Rattle.model.specs.Write.{rowEntityRules}
-use Rattle.write_lines.specs.declared.Pass.{Pass}
-use Rattle.write_lines.specs.declared.Pass.the-variants.{Good}
+use Rattle.write_lines.specs.declared.SheetPass.{SheetPass}
+use Rattle.write_lines.specs.declared.SheetPass.the-variants.{Good}
 use Rattle.write_lines.specs.Lines.{passOf}
 
 -- E (69), U (85) or G (71)
@@ -27,7 +27,7 @@ unfoldable pub headOf : List ℕ → Said
 headOf l = cond (isHead (getD l 0 0)) (saysOf l) (Nothing false)
 
 -- 8 of a G line; 9, 13 of an entry line
-abbrev pub saidRule : ℕ → Said → Pass
+abbrev pub saidRule : ℕ → Said → SheetPass
 saidRule place Start = Good
 saidRule place (Global n at v) = passOf (demand (globalFits n v) GlobalFault place)
 saidRule place (Entry known n x) = passOf (entryRules x place)
@@ -36,7 +36,7 @@ saidRule place (Last n) = Good
 saidRule place (Nothing b) = Good
 
 -- 10 of an entry line
-abbrev pub saidReferences : List ℕ → ℕ → Said → Pass
+abbrev pub saidReferences : List ℕ → ℕ → Said → SheetPass
 saidReferences types place Start = Good
 saidReferences types place (Global n at v) = Good
 saidReferences types place (Entry known n x) = passOf (referenceRule types x place)
@@ -45,7 +45,7 @@ saidReferences types place (Last n) = Good
 saidReferences types place (Nothing b) = Good
 
 -- 14, 15, 18 of an entry line with these values
-abbrev pub saidEntity : ℕ → List ℕ → ℕ → List (Bool × Item) → Said → Pass
+abbrev pub saidEntity : ℕ → List ℕ → ℕ → List (Bool × Item) → Said → SheetPass
 saidEntity list types place vs Start = Good
 saidEntity list types place vs (Global n at v) = Good
 saidEntity list types place vs (Entry known n x) = passOf (rowEntityRules list types place (row known x [] vs))

@@ -7,16 +7,16 @@ use Rattle.values.specs.Value.{Item}
 use Rattle.sheets.specs.Sheet.{Line, start, global, entry, value, last, none, Row, row}
 use Rattle.sheets.specs.Order.{sheetLine}
 use Rattle.sheets_rows.specs.Rows.{linesAt, valuesFirst}
-use Rattle.write_lines.specs.declared.Pass.{Pass}
-use Rattle.write_lines.specs.declared.Pass.the-variants.{Good, Refused}
+use Rattle.write_lines.specs.declared.SheetPass.{SheetPass}
+use Rattle.write_lines.specs.declared.SheetPass.the-variants.{Good, Refused}
 
 -- whether all is accepted, or the first refusal
-abbrev pub passOf : {A : Type 0} → Outcome A → Pass
+abbrev pub passOf : {A : Type 0} → Outcome A → SheetPass
 passOf (accepted a) = Good
 passOf (refused n p) = Refused n (sheetLine p)
 
 -- the first refusal of two checks
-abbrev pub orElse : Pass → Pass → Pass
+abbrev pub orElse : SheetPass → SheetPass → SheetPass
 orElse Good q = q
 orElse (Refused n l) q = Refused n l
 
@@ -33,7 +33,7 @@ abbrev pub noRule : OfGlobal
 noRule place g = accepted tt
 
 -- a line, and those behind it: an entry has the values that stand there
-abbrev pub lineCheck : OfGlobal → OfRow → ℕ → Line → List Line → Pass
+abbrev pub lineCheck : OfGlobal → OfRow → ℕ → Line → List Line → SheetPass
 lineCheck g f place (start t) ls = Good
 lineCheck g f place (global n v) ls = passOf (g place (n, v))
 lineCheck g f place (entry known n x label) ls = passOf (f place (row known x label (valuesFirst ls)))
@@ -42,7 +42,7 @@ lineCheck g f place (last n) ls = Good
 lineCheck g f place (none b) ls = Good
 
 -- the lines from a place on
-unfoldable pub linesPass : OfGlobal → OfRow → ℕ → List Line → Pass
+unfoldable pub linesPass : OfGlobal → OfRow → ℕ → List Line → SheetPass
 linesPass g f place [] = Good
 linesPass g f place (l ∷ ls) = orElse (lineCheck g f place l ls) (linesPass g f (place + 1) ls)
 

@@ -10,7 +10,7 @@ use Rattle.columns.specs.Columns.{columns}
 use Rattle.columns.specs.Letters.{tab, newline, letterE, letterU}
 use Rattle.sheets.specs.Line.{run}
 use Rattle.sheets.specs.Folds.{entryFold}
-use Rattle.sheets.specs.declared.Verdict.the-variants.{Good}
+use Rattle.sheets.specs.declared.SheetVerdict.the-variants.{Good}
 use Rattle.sheets.specs.Order.{verdictOf}
 use Rattle.references.specs.References.{noEntry, classAt}
 use Rattle.write_lines.specs.Classes.{sheetTypes}

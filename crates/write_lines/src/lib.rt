@@ -11,7 +11,7 @@ use columns::Fault;
 use columns::SheetLine;
 
 // All is good, or the first refusal and its line.
-pub enum Pass {
+pub enum SheetPass {
     Good,
     Refused { fault: Fault, line: SheetLine },
 }

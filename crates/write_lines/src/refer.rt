@@ -1,5 +1,5 @@
 // What the entries of a sheet name: an entry of it, of the type wanted (10).
-use crate::Pass;
+use crate::SheetPass;
 use crate::heads::head_at;
 use crate::table::class_at;
 use crate::table::some_at;
@@ -55,25 +55,25 @@ fn all_ask_ok(classes: &[u8], n: usize, t: &[u8], e: Entry) -> bool
 }
 
 // What a line says, at its place.
-pub fn reference_of(classes: &[u8], n: usize, t: &[u8], said: Said, line: SheetLine) -> Pass
+pub fn reference_of(classes: &[u8], n: usize, t: &[u8], said: Said, line: SheetLine) -> SheetPass
     requires { ⌜ Tabled (now classes) n (now t) ⌝ }
     ensures { λ r. ⌜ r ≡ saidReferences (sheetTypes (now (t .entry))) (line .0) said ⌝ }
 {
     let Said::Entry { fields, .. } = said else {
-        return Pass::Good;
+        return SheetPass::Good;
     };
     let e = directory_rules::entry_of(fields);
     if all_ask_ok(classes, n, t, e) {
-        return Pass::Good;
+        return SheetPass::Good;
     }
-    Pass::Refused {
+    SheetPass::Refused {
         fault: Fault::Reference,
         line,
     }
 }
 
 // All entries from `from` on, where the line has this place.
-pub fn references(classes: &[u8], n: usize, t: &[u8], from: usize, first: SheetLine) -> Pass
+pub fn references(classes: &[u8], n: usize, t: &[u8], from: usize, first: SheetLine) -> SheetPass
     requires { ⌜ Tabled (now classes) n (now t) × (from ≤ length (now t)) × (first .0 ≤ from + 1) ⌝ }
     ensures { λ r. ⌜ r ≡ referencesFrom (sheetTypes (now (t .entry))) (now (t .entry)) (first .0) from ⌝ }
 {
@@ -83,19 +83,19 @@ pub fn references(classes: &[u8], n: usize, t: &[u8], from: usize, first: SheetL
     while at < size {
         let end = end_of(t, at);
         if end == size {
-            return Pass::Good;
+            return SheetPass::Good;
         }
         let said = head_at(t, at, end);
         let found = reference_of(classes, n, t, said, SheetLine(place));
         match found {
-            Pass::Refused { fault, line } => {
-                return Pass::Refused { fault, line };
+            SheetPass::Refused { fault, line } => {
+                return SheetPass::Refused { fault, line };
             }
-            Pass::Good => {
+            SheetPass::Good => {
                 at = end + 1;
                 place += 1;
             }
         }
     }
-    Pass::Good
+    SheetPass::Good
 }

@@ -11,7 +11,7 @@ use Rattle.columns.specs.Refusal.{accepted, refused, number}
 use Rattle.columns.proofs.Writes.{wrote-length}
 use Rattle.cards.specs.declared.Counts.{Counts}
 use Rattle.cards.specs.Cards.{total}
-use Rattle.sheets.specs.declared.Verdict.the-variants.{Good as GoodSheet}
+use Rattle.sheets.specs.declared.SheetVerdict.the-variants.{Good as GoodSheet}
 use Rattle.sheets.specs.Sheet.{linesIn, sheetOf}
 use Rattle.sheets.specs.Order.{verdictOf}
 use Rattle.sheets.specs.WellFormed.{Each}
