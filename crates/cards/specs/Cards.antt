@@ -81,7 +81,11 @@ tells l at b n = eqb (getD l at 0) b && seven l (at + 1) n
 
 -- the T line: four of these, then blanks
 unfoldable pub totals : Counts → List ℕ → Bool
-totals c l = tells l 0 letterS (c .s) && (tells l fieldColumns letterG (c .g) && (tells l (2 * fieldColumns) letterD (c .d) && (tells l (3 * fieldColumns) letterP (c .p) && blank (columns l (4 * fieldColumns) textColumns))))
+totals c l =
+    tells l 0 letterS (c .s)
+    && (tells l fieldColumns letterG (c .g)
+    && (tells l (2 * fieldColumns) letterD (c .d)
+    && (tells l (3 * fieldColumns) letterP (c .p) && blank (columns l (4 * fieldColumns) textColumns))))
 
 -- the D lines are even in number, and T tells the counts
 unfoldable pub closes : Counts → List ℕ → Bool

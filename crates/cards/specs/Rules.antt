@@ -35,7 +35,9 @@ pub record LineIs (b n : ℕ) (l : List ℕ) : Type 0 where
 
 -- the letter of line i, from 0, in a file with these counts: S, G, D, P, T
 unfoldable pub letterAt : Counts → ℕ → ℕ
-letterAt c i = cond (ltb i (firstG c)) letterS (cond (ltb i (firstD c)) letterG (cond (ltb i (firstP c)) letterD (cond (ltb i (firstT c)) letterP letterT)))
+letterAt c i =
+    cond (ltb i (firstG c)) letterS
+    (cond (ltb i (firstD c)) letterG (cond (ltb i (firstP c)) letterD (cond (ltb i (firstT c)) letterP letterT)))
 
 -- its number in its section
 unfoldable pub numberAt : Counts → ℕ → ℕ

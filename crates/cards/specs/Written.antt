@@ -40,7 +40,10 @@ section b n (x ∷ xs) = lineOf x b n ∷ section b (n + 1) xs
 
 -- the columns of T
 unfoldable pub totalsOf : Counts → List ℕ
-totalsOf c = (letterS ∷ zeros (c .s)) ++ ((letterG ∷ zeros (c .g)) ++ ((letterD ∷ zeros (c .d)) ++ ((letterP ∷ zeros (c .p)) ++ replicate (textColumns - 4 * fieldColumns) space)))
+totalsOf c =
+    (letterS ∷ zeros (c .s))
+    ++ ((letterG ∷ zeros (c .g))
+    ++ ((letterD ∷ zeros (c .d)) ++ ((letterP ∷ zeros (c .p)) ++ replicate (textColumns - 4 * fieldColumns) space)))
 
 -- the counts of a file with these S, G, D and P lines
 abbrev pub countsOf : List (List ℕ) → List (List ℕ) → List (List ℕ) → List (List ℕ) → Counts
@@ -49,7 +52,8 @@ countsOf S G D P = counts (length S) (length G) (length D) (length P) 1
 -- all its lines
 unfoldable pub fileLines : List (List ℕ) → List (List ℕ) → List (List ℕ) → List (List ℕ) → List (List ℕ)
 fileLines S G D P =
-    section letterS 1 S ++ (section letterG 1 G ++ (section letterD 1 D ++ (section letterP 1 P ++ (lineOf (totalsOf (countsOf S G D P)) letterT 1 ∷ []))))
+    section letterS 1 S ++ (section letterG 1 G
+    ++ (section letterD 1 D ++ (section letterP 1 P ++ (lineOf (totalsOf (countsOf S G D P)) letterT 1 ∷ []))))
 
 -- the file, given the columns of its S, G, D and P lines
 unfoldable pub fileOf : List (List ℕ) → List (List ℕ) → List (List ℕ) → List (List ℕ) → List ℕ

@@ -37,7 +37,8 @@ joined (l ∷ ls) = l ++ joined ls
 unfoldable pub lineAt : List ℕ → ℕ → List ℕ
 lineAt f k = columns f (lineBytes * k) (lineBytes * k + lineBytes)
 
--- the first w columns of so many lines, the first of them at base, joined: position p of this text stands on line p / w of them, in column p % w
+-- the first w columns of so many lines, the first of them at base, joined: position p of this text stands on line p / w of them, in column
+-- p % w
 unfoldable pub textOf : List ℕ → ℕ → ℕ → ℕ → List ℕ
 textOf file base w zero = []
 textOf file base w (suc lines) = take w (drop base file) ++ textOf file (base + lineBytes) w lines

@@ -1,4 +1,5 @@
--- A fixed number field: right-justified with leading blanks only (a leading 0 is a digit); all blank is 0. With a sign where the paper allows one.
+-- A fixed number field: right-justified with leading blanks only (a leading 0 is a digit); all blank is 0. With a sign where the paper
+-- allows one.
 use mathlib.Core.Path.{_≡_}
 use Prim.Native.Nat.{ℕ, _+_, _-_, _*_}
 use mathlib.Core.Bool.{Bool, true, false, cond, _&&_}

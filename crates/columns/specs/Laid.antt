@@ -37,7 +37,8 @@ laid-laid o at [] b = rw add-zero
 laid-laid o at (x ∷ a) b = rw (add-suc, ← suc-add) (laid-laid (set o at x) (suc at) a b)
 
 -- where there is room: what is before, the bytes, and what is after
-pub laid-eq : (o : List ℕ) (at : ℕ) (bs : List ℕ) → at + length bs ≤ length o → laid o at bs ≡ take at o ++ (bs ++ drop (at + length bs) o)
+pub laid-eq : (o : List ℕ) (at : ℕ) (bs : List ℕ) → at + length bs ≤ length o
+    → laid o at bs ≡ take at o ++ (bs ++ drop (at + length bs) o)
 unfolding laid
 laid-eq o at bs h = sets-eq bs o at h ∙ append-assoc (take at o) bs (drop (at + length bs) o)
 

@@ -3,7 +3,9 @@ use mathlib.Core.Bool.{Bool, true, false}
 use mathlib.Core.List.{List, [], _∷_}
 use Prim.Native.Nat.{ℕ, _+_}
 use Rattle.columns.specs.declared.Fault.{Fault}
-use Rattle.columns.specs.declared.Fault.the-variants.{ListOrLength, Byte, Section, Sequence, Terminate, Spelling, Limit, Global, Directory, Reference, Ownership, FirstValue, Macro, Layout, LayoutReference, Room, SheetLine, Mark, TooLong}
+use Rattle.columns.specs.declared.Fault.the-variants.{ListOrLength, Byte, Section, Sequence, Terminate, Spelling, Limit, Global}
+use Rattle.columns.specs.declared.Fault.the-variants.{Directory, Reference, Ownership, FirstValue, Macro, Layout, LayoutReference}
+use Rattle.columns.specs.declared.Fault.the-variants.{Room, SheetLine, Mark, TooLong}
 
 -- "Refusal numbers and their order": the table
 abbrev pub number : Fault → ℕ

@@ -1,5 +1,5 @@
-// The ground floor: the refusals of document 01, its three kinds of numbers that count lines or entries, fixed columns.
-// `look` asks of columns what stands there. Crate `columns_fixed` reads numbers in fixed columns, `columns_emit` lays bytes, `columns_decimals` numbers.
+// The ground floor: the refusals of document 01, its three kinds of numbers that count lines or entries, fixed columns. `look` asks of
+// columns what stands there. Crate `columns_fixed` reads numbers in fixed columns, `columns_emit` lays bytes, `columns_decimals` numbers.
 pub mod format;
 pub mod look;
 

@@ -39,7 +39,8 @@ fn greater(a: u8, b: u8) -> u8
     if a < b { b } else { a }
 }
 
-// Whether the columns from `at` up to `end` are bytes from 32 to 126: no byte of them is passed over, so that many can be looked at together.
+// Whether the columns from `at` up to `end` are bytes from 32 to 126: no byte of them is passed over, so that many can be looked at
+// together.
 pub fn is_printable(s: &[u8], at: usize, end: usize) -> bool
     requires { ⌜ (at ≤ end) × (end ≤ length (now s)) ⌝ }
     ensures { λ r. ⌜ r ≡ printable (columns (now (s .entry)) at end) ⌝ }

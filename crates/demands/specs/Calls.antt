@@ -52,4 +52,5 @@ RoomFor list file o = (r : MeetsRules list file) → length (sheetBy r) ≤ leng
 
 -- so it is wherever reading doesn't answer 16
 abbrev pub RoomSeen : Type 0
-RoomSeen = (list : ℕ) (file o s : List ℕ) (a : Answer) → ReadCall list file o a s → (a .number ≡ 16 → ⊥) → RoomFor list file o
+RoomSeen =
+    (list : ℕ) (file o s : List ℕ) (a : Answer) → ReadCall list file o a s → (a .number ≡ 16 → ⊥) → RoomFor list file o

@@ -16,7 +16,9 @@ CanonicalRead = (list : ℕ) (m : Model) → Fits list m → lineTotal m ≤ mos
 
 -- the canonical file of a file that is read carries its model
 abbrev pub ModelKept : Type 0
-ModelKept = (list : ℕ) (f : List ℕ) (m : Model) → readModel list f ≡ accepted m → lineTotal m ≤ mostLines → readModel list (canonical m) ≡ accepted m
+ModelKept =
+    (list : ℕ) (f : List ℕ) (m : Model) → readModel list f ≡ accepted m → lineTotal m ≤ mostLines
+    → readModel list (canonical m) ≡ accepted m
 
 -- a sheet carries all of a file's model: two files with one sheet have one model, so one canonical file
 abbrev pub OneModel : Type 0
@@ -33,4 +35,5 @@ ReadsBack = (list : ℕ) (s g : List ℕ) → writes list s ≡ accepted g → r
 
 -- the sheet of a written file is written to that file
 abbrev pub WrittenAgain : Type 0
-WrittenAgain = (list : ℕ) (s g u : List ℕ) → writes list s ≡ accepted g → reads list g ≡ accepted u → writes list u ≡ accepted g
+WrittenAgain =
+    (list : ℕ) (s g u : List ℕ) → writes list s ≡ accepted g → reads list g ≡ accepted u → writes list u ≡ accepted g

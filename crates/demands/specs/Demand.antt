@@ -27,7 +27,8 @@ pub record AcceptsAndReturns (rd wr : Way) : Type 0 where
       → (g : List ℕ) × ((wr list s ≡ accepted g) × (rd list g ≡ accepted s))
   -- "a sheet is accepted exactly if the canonical file it describes keeps to that limit and reads back as that sheet"; that file is written
   pub exactly : (list : ℕ) (s g : List ℕ)
-      → Iff (wr list s ≡ accepted g) ((g ≡ canonical (described s)) × ((lineTotal (described s) ≤ mostLines) × (rd list g ≡ accepted s)))
+      → Iff (wr list s ≡ accepted g)
+      ((g ≡ canonical (described s)) × ((lineTotal (described s) ≤ mostLines) × (rd list g ≡ accepted s)))
 
 -- demand 2
 pub record KeepsDemand (rd wr : Way) : Type 0 where
@@ -44,11 +45,13 @@ Kept = KeepsDemand reads writes
 
 -- whoever keeps it accepts the files that `reads` accepts, with the same sheets
 abbrev pub OneReader : Type 0
-OneReader = (rd wr : Way) → KeepsDemand rd wr → (list : ℕ) (f s : List ℕ) → Iff (rd list f ≡ accepted s) (reads list f ≡ accepted s)
+OneReader =
+    (rd wr : Way) → KeepsDemand rd wr → (list : ℕ) (f s : List ℕ) → Iff (rd list f ≡ accepted s) (reads list f ≡ accepted s)
 
 -- and the sheets that `writes` accepts, with the same files
 abbrev pub OneWriter : Type 0
-OneWriter = (rd wr : Way) → KeepsDemand rd wr → (list : ℕ) (s g : List ℕ) → Iff (wr list s ≡ accepted g) (writes list s ≡ accepted g)
+OneWriter =
+    (rd wr : Way) → KeepsDemand rd wr → (list : ℕ) (s g : List ℕ) → Iff (wr list s ≡ accepted g) (writes list s ≡ accepted g)
 
 -- a sheet leaves nothing out: two files that meet the rules and are read alike carry one model
 abbrev pub NothingLeftOut : Type 0

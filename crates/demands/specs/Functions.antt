@@ -56,7 +56,8 @@ abbrev pub SheetWritten : Type 0
 SheetWritten = (list : ℕ) (file o s o′ s′ : List ℕ) (a a′ : Answer)
     → ReadCall list file o a s → a .number ≡ 0
     → WriteCall list (given a s) o′ a′ s′
-    → (a′ .number ≡ 0) ⊎ (((a′ .number ≡ 16) × (length o′ < a′ .length) × (a′ .length ≤ mostBytes)) ⊎ (a′ ≡ answer 19 0 0))
+    → (a′ .number ≡ 0) ⊎ (((a′ .number ≡ 16) × (length o′ < a′ .length) × (a′ .length ≤ mostBytes))
+    ⊎ (a′ ≡ answer 19 0 0))
 
 -- Of any sheet: what is written of it is read back as it, if there is room for it.
 abbrev pub WrittenRead : Type 0

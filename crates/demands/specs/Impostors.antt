@@ -52,7 +52,8 @@ pub record AlikeAtFirst (m m′ : Model) : Type 0 where
 
 -- whatever it pretends, it answers alike where the values behind the first entry alone differ
 abbrev pub FirstEntryOnly : Way → ℕ → Type 0
-FirstEntryOnly rd list = (m m′ : Model) → Fits list m → Fits list m′ → AlikeAtFirst m m′ → rd list (canonical m) ≡ rd list (canonical m′)
+FirstEntryOnly rd list =
+    (m m′ : Model) → Fits list m → Fits list m′ → AlikeAtFirst m m′ → rd list (canonical m) ≡ rd list (canonical m′)
 
 -- ---- invents the Z count
 
@@ -74,7 +75,8 @@ pub record InventsCount (rd : Way) : Type 0 where
 -- ---- right on canonical files only: for some other file that meets the rules it gives another sheet than that of what the file carries
 
 pub record CanonicalOnly (rd : Way) : Type 0 where
-  pub right : (list : ℕ) (m : Model) → Fits list m → lineTotal m ≤ mostLines → rd list (canonical m) ≡ accepted (sheetText (sheetOf list m))
+  pub right : (list : ℕ) (m : Model) → Fits list m → lineTotal m ≤ mostLines
+      → rd list (canonical m) ≡ accepted (sheetText (sheetOf list m))
   pub list : ℕ
   pub file : List ℕ
   pub meets : MeetsRules list file

@@ -22,7 +22,8 @@ use Rattle.references.specs.References.{classOf, classAt}
 use Rattle.directory.specs.Fields.{entryOf as directory-entryOf}
 use Rattle.directory.specs.Lines.{slots, slotIn, numberIn, numbersFrom, entryAt, labelAt}
 use Rattle.directory.specs.Rules.{statusOk, rangesOk, entryRules, referenceRule}
-use Rattle.cards.specs.Cards.{linesFrom, linesOf as cards-linesOf, lineOk, seven, placeOf, numberedOf, stepOf, pass, tells, totals, closes, closed as cards-closed, lengthOk, cardsOf}
+use Rattle.cards.specs.Cards.{linesFrom, linesOf as cards-linesOf, lineOk, seven, placeOf, numberedOf, stepOf, pass, tells, totals, closes}
+use Rattle.cards.specs.Cards.{closed as cards-closed, lengthOk, cardsOf}
 use Rattle.owners.specs.InFile.{numberOr0, sizeOr0, nameOf, ownerIn, fromIn, countIn, ownersIn}
 use Rattle.owners.specs.Owners.{nameIs, entryOwns, inRange as owners-inRange, lineOwned, ownersOf}
 use Rattle.layouts.specs.Entities.{everywhere, verdict, entityCheck, referencePlaces, marks}
@@ -31,9 +32,11 @@ use Rattle.layouts.specs.Known.{known}
 use Rattle.layouts.specs.Layout.{paper, bitOf}
 use Rattle.layouts.specs.Named.{named}
 use Rattle.sheets.specs.Line.{spell, spells, entryLine}
-use Rattle.sheets.specs.Sheet.{startLines as sheets-startLines, globalLines as sheets-globalLines, valueLines, rowLines, linesOf as sheets-linesOf, lineOf as sheets-lineOf, textOf as sheets-textOf, sheetText}
+use Rattle.sheets.specs.Sheet.{startLines as sheets-startLines, globalLines as sheets-globalLines, valueLines, rowLines}
+use Rattle.sheets.specs.Sheet.{linesOf as sheets-linesOf, lineOf as sheets-lineOf, textOf as sheets-textOf, sheetText}
 use Rattle.model.specs.Model.{marked, rowOf, sheetOf as model-sheetOf}
-use Rattle.model.specs.Read.{startsIn, noStray, given, globalIn, entryIn, entriesIn, referencesIn, entityIn, lastPass, before, readModel, reads}
+use Rattle.model.specs.Read.{startsIn, noStray, given, globalIn, entryIn, entriesIn, referencesIn, entityIn, lastPass, before, readModel}
+use Rattle.model.specs.Read.{reads}
 use Rattle.desk.specs.Answers.{answer, answerOf}
 
 abbrev line : List ℕ → List ℕ
@@ -63,5 +66,12 @@ sheet =
 -- under the list of no type it is read to that, for which there is no room; under the list of all types it is refused
 pub no-room : (reads 0 surface ≡ accepted sheet) × (answerOf 0 (reads 0 surface) ≡ answer 16 0 (length sheet))
     × (answerOf 0 (reads mostList surface) ≡ answer 15 3 0)
-unfolding columns printable blank sameBytes joined lineAt columns-textOf lastDigits dec signedDec firstNot upFrom digitsOf fieldOf isNumber signedOf eachAt headOf power powerAt numberOf spelled mayDelimit opened recordDelimiter openingOf kindOf records-inRange globalFits nextAt valueAt valuesFrom valuesAt positionOf startAt classOf classAt directory-entryOf slots slotIn numberIn numbersFrom entryAt labelAt statusOk rangesOk entryRules referenceRule linesFrom cards-linesOf lineOk seven placeOf numberedOf stepOf pass tells totals closes cards-closed lengthOk cardsOf numberOr0 sizeOr0 nameOf ownerIn fromIn countIn ownersIn nameIs entryOwns owners-inRange lineOwned ownersOf verdict entityCheck marks known paper bitOf named spell spells entryLine sheets-startLines sheets-globalLines valueLines rowLines sheets-linesOf sheets-lineOf sheets-textOf sheetText marked rowOf model-sheetOf startsIn noStray given globalIn entryIn entriesIn referencesIn entityIn lastPass before readModel reads toRight answerOf everywhere referencePlaces placesOf asked
+unfolding columns printable blank sameBytes joined lineAt columns-textOf lastDigits dec signedDec firstNot upFrom digitsOf fieldOf isNumber
+    signedOf eachAt headOf power powerAt numberOf spelled mayDelimit opened recordDelimiter openingOf kindOf records-inRange globalFits
+    nextAt valueAt valuesFrom valuesAt positionOf startAt classOf classAt directory-entryOf slots slotIn numberIn numbersFrom entryAt
+    labelAt statusOk rangesOk entryRules referenceRule linesFrom cards-linesOf lineOk seven placeOf numberedOf stepOf pass tells totals
+    closes cards-closed lengthOk cardsOf numberOr0 sizeOr0 nameOf ownerIn fromIn countIn ownersIn nameIs entryOwns owners-inRange lineOwned
+    ownersOf verdict entityCheck marks known paper bitOf named spell spells entryLine sheets-startLines sheets-globalLines valueLines
+    rowLines sheets-linesOf sheets-lineOf sheets-textOf sheetText marked rowOf model-sheetOf startsIn noStray given globalIn entryIn
+    entriesIn referencesIn entityIn lastPass before readModel reads toRight answerOf everywhere referencePlaces placesOf asked
 no-room = (refl, refl, refl)

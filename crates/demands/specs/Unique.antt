@@ -1,5 +1,6 @@
--- "Show that no second result fits": for every input a public function's contract determines its result, and each byte and slot that was lent to it.
--- The contract is the one that the source states: `Post` is made from the function's `ensures`, so what is shown here cannot part from the source.
+-- "Show that no second result fits": for every input a public function's contract determines its result, and each byte and slot that was
+-- lent to it. The contract is the one that the source states: `Post` is made from the function's `ensures`, so what is shown here cannot
+-- part from the source.
 use mathlib.Core.Path.{_≡_}
 use mathlib.Core.List.{List}
 use Prim.Native.Nat.{ℕ}
@@ -25,11 +26,12 @@ use Rattle.desk_name.proofs.name.Reads as name-reads
 use Rattle.desk_show.proofs.show.Kinds as show-kinds
 use Rattle.desk_show.proofs.show.Reads as show-reads
 
--- Of a function with these parameters and this result: two results, each with last values of all that was lent by `&mut`, that both are as `Post`
--- has it for the same arguments, are the same, and so are the last values.
+-- Of a function with these parameters and this result: two results, each with last values of all that was lent by `&mut`, that both are as
+-- `Post` has it for the same arguments, are the same, and so are the last values.
 abbrev pub NoSecond : {n : ℕ} (ps : List (PK n)) (r : RK n) → Out n ps r → Type 0
 NoSecond {n} ps r Post = (κs : Lfts n) (a : Dens κs ps) (z z′ : resT r κs .Denot) (left left′ : Lasts (endedOf n ps r) κs a)
-    → Post κs a z (atExit (endedOf n ps r) κs a left) → Post κs a z′ (atExit (endedOf n ps r) κs a left′) → (z ≡ z′) × (left ≡ left′)
+    → Post κs a z (atExit (endedOf n ps r) κs a left) → Post κs a z′ (atExit (endedOf n ps r) κs a left′)
+    → (z ≡ z′) × (left ≡ left′)
 
 -- ---- the entry points
 
@@ -50,9 +52,12 @@ ShowDetermined = NoSecond show-kinds.ps show-kinds.r show-reads.Post
 
 -- the name lookup answers a part of what was lent: where it stands and its bytes are determined
 abbrev pub NameDetermined : Type 0
-NameDetermined = (κs : Lfts 2) (a : Dens κs name-kinds.ps) (z z′ : resT name-kinds.r κs .Denot) (left left′ : Lasts (endedOf 2 name-kinds.ps name-kinds.r) κs a)
+NameDetermined =
+    (κs : Lfts 2) (a : Dens κs name-kinds.ps) (z z′ : resT name-kinds.r κs .Denot)
+    (left left′ : Lasts (endedOf 2 name-kinds.ps name-kinds.r) κs a)
     → name-reads.Post κs a z (atExit (endedOf 2 name-kinds.ps name-kinds.r) κs a left)
-    → name-reads.Post κs a z′ (atExit (endedOf 2 name-kinds.ps name-kinds.r) κs a left′) → (z .ptr ≡ z′ .ptr) × (z .now ≡ z′ .now) × (left ≡ left′)
+    → name-reads.Post κs a z′ (atExit (endedOf 2 name-kinds.ps name-kinds.r) κs a left′)
+    → (z .ptr ≡ z′ .ptr) × (z .now ≡ z′ .now) × (left ≡ left′)
 
 -- ---- the forms of a contract
 
@@ -66,4 +71,6 @@ AnsweredOnce = (A B : Type 0) (room : ℕ) (o : Outcome (List A)) (left : Outcom
 
 -- bytes laid over a list
 abbrev pub WroteOnce : Type 0
-WroteOnce = (o : List ℕ) (at : ℕ) (bs o′ o″ : List ℕ) (r r′ : ℕ) → Wrote o at bs o′ r → Wrote o at bs o″ r′ → (r ≡ r′) × (o′ ≡ o″)
+WroteOnce =
+    (o : List ℕ) (at : ℕ) (bs o′ o″ : List ℕ) (r r′ : ℕ) → Wrote o at bs o′ r → Wrote o at bs o″ r′
+    → (r ≡ r′) × (o′ ≡ o″)

@@ -1,6 +1,6 @@
--- "Show that no second result fits", of the two functions that lay a part of the file and tell where the sheet goes on: what they lay, how many lines it
--- takes, and the lines of the sheet from there on are determined. The place itself is by those lines alone: where two places have the same lines behind
--- them, as in a last piece that no LF ends, either fits.
+-- "Show that no second result fits", of the two functions that lay a part of the file and tell where the sheet goes on: what they lay, how
+-- many lines it takes, and the lines of the sheet from there on are determined. The place itself is by those lines alone: where two places
+-- have the same lines behind them, as in a last piece that no LF ends, either fits.
 use mathlib.Core.Path.{_≡_}
 use mathlib.Core.List.{List}
 use Prim.Native.Nat.{ℕ}
@@ -22,13 +22,17 @@ abbrev pub linesBehind : List ℕ → Block → List Line
 linesBehind t b = linesIn (drop (b .next) t)
 
 abbrev pub GlobalsDetermined : Type 0
-GlobalsDetermined = (κs : Lfts 2) (a : Dens κs put-globals-kinds.ps) (z z′ : Block) (left left′ : Lasts (endedOf 2 put-globals-kinds.ps put-globals-kinds.r) κs a)
+GlobalsDetermined =
+    (κs : Lfts 2) (a : Dens κs put-globals-kinds.ps) (z z′ : Block)
+    (left left′ : Lasts (endedOf 2 put-globals-kinds.ps put-globals-kinds.r) κs a)
     → put-globals-reads.Post κs a z (atExit (endedOf 2 put-globals-kinds.ps put-globals-kinds.r) κs a left)
     → put-globals-reads.Post κs a z′ (atExit (endedOf 2 put-globals-kinds.ps put-globals-kinds.r) κs a left′)
     → (z .lines ≡ z′ .lines) × (linesBehind (now (a .1 .1 .0)) z ≡ linesBehind (now (a .1 .1 .0)) z′) × (left ≡ left′)
 
 abbrev pub BlockDetermined : Type 0
-BlockDetermined = (κs : Lfts 2) (a : Dens κs put-block-kinds.ps) (z z′ : Block) (left left′ : Lasts (endedOf 2 put-block-kinds.ps put-block-kinds.r) κs a)
+BlockDetermined =
+    (κs : Lfts 2) (a : Dens κs put-block-kinds.ps) (z z′ : Block)
+    (left left′ : Lasts (endedOf 2 put-block-kinds.ps put-block-kinds.r) κs a)
     → put-block-reads.Post κs a z (atExit (endedOf 2 put-block-kinds.ps put-block-kinds.r) κs a left)
     → put-block-reads.Post κs a z′ (atExit (endedOf 2 put-block-kinds.ps put-block-kinds.r) κs a left′)
     → (z .lines ≡ z′ .lines) × (linesBehind (now (a .1 .1 .0)) z ≡ linesBehind (now (a .1 .1 .0)) z′) × (left ≡ left′)

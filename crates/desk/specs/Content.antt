@@ -54,7 +54,8 @@ ReadsSheet = (list : ℕ) (f : List ℕ) (r : MeetsRules list f) → reads list 
 
 -- so a model is a file's exactly if the file meets the rules and carries it
 abbrev pub ExactlyTheModel : Type 0
-ExactlyTheModel = (list : ℕ) (f : List ℕ) (m : Model) → Iff (readModel list f ≡ accepted m) ((r : MeetsRules list f) × (modelOf r ≡ m))
+ExactlyTheModel =
+    (list : ℕ) (f : List ℕ) (m : Model) → Iff (readModel list f ≡ accepted m) ((r : MeetsRules list f) × (modelOf r ≡ m))
 
 -- and a text is a file's sheet exactly if the file meets the rules and the text is the sheet of what it carries
 abbrev pub ExactlyTheSheet : Type 0

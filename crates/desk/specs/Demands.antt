@@ -44,21 +44,25 @@ ExactlyTheRules = (list : ℕ) (f : List ℕ) → Iff (Accepts (reads list f)) (
 -- "each parameter line then belongs to exactly one entity"
 abbrev pub OneOwner : Type 0
 OneOwner = (list : ℕ) (f : List ℕ) (r : MeetsRules list f) (k : ℕ) → 1 ≤ k → k ≤ r .counts .p
-    → (i : ℕ) × ((i < entries (r .counts)) × (InRange (r .entry i) k × ((j : ℕ) → j < entries (r .counts) → InRange (r .entry j) k → j ≡ i)))
+    → (i : ℕ) × ((i < entries (r .counts))
+    × (InRange (r .entry i) k × ((j : ℕ) → j < entries (r .counts) → InRange (r .entry j) k → j ≡ i)))
 
 -- "its sheet, written and read again with the same list, gives that sheet if the written file keeps to 200,000 lines"
 abbrev pub ThereAndBack : Type 0
 ThereAndBack = (list : ℕ) (f : List ℕ) (m : Model) → readModel list f ≡ accepted m → lineTotal m ≤ mostLines
-    → (writes list (sheetText (sheetOf list m)) ≡ accepted (canonical m)) × (reads list (canonical m) ≡ accepted (sheetText (sheetOf list m)))
+    → (writes list (sheetText (sheetOf list m)) ≡ accepted (canonical m))
+    × (reads list (canonical m) ≡ accepted (sheetText (sheetOf list m)))
 
 -- the model that a text's lines tell, and the canonical file that it describes
 abbrev pub described : List ℕ → Model
 described s = modelOf (sheetOfLines (linesIn s))
 
--- "a sheet is accepted exactly if the canonical file it describes keeps to that limit and reads back as that sheet"; that file is what is written
+-- "a sheet is accepted exactly if the canonical file it describes keeps to that limit and reads back as that sheet"; that file is what is
+-- written
 abbrev pub SheetsExactly : Type 0
 SheetsExactly = (list : ℕ) (s g : List ℕ)
-    → Iff (writes list s ≡ accepted g) ((g ≡ canonical (described s)) × ((lineTotal (described s) ≤ mostLines) × (reads list g ≡ accepted s)))
+    → Iff (writes list s ≡ accepted g)
+    ((g ≡ canonical (described s)) × ((lineTotal (described s) ≤ mostLines) × (reads list g ≡ accepted s)))
 
 -- ---- demand 3
 
@@ -83,7 +87,8 @@ pub data RowsAlike (small large : ℕ) : Row → Row → Type 0 where
 -- all entries of the two sheets, in order
 pub data AllAlike (small large : ℕ) : List Row → List Row → Type 0 where
   none : AllAlike small large [] []
-  more : {r q : Row} {rs qs : List Row} → RowsAlike small large r q → AllAlike small large rs qs → AllAlike small large (r ∷ rs) (q ∷ qs)
+  more : {r q : Row} {rs qs : List Row} → RowsAlike small large r q → AllAlike small large rs qs
+      → AllAlike small large (r ∷ rs) (q ∷ qs)
 
 -- the two sheets
 pub record SheetsAlike (small large : ℕ) (s t : Sheet) : Type 0 where
@@ -91,8 +96,8 @@ pub record SheetsAlike (small large : ℕ) (s t : Sheet) : Type 0 where
   pub globals : s .globals ≡ t .globals
   pub rows : AllAlike small large (s .rows) (t .rows)
 
--- a. "if the larger accepts a file so does the smaller"; b. "their sheets differ only in the letters that mark an entity only the larger knows, and
--- its references"; the model is the same
+-- a. "if the larger accepts a file so does the smaller"; b. "their sheets differ only in the letters that mark an entity only the larger
+-- knows, and its references"; the model is the same
 abbrev pub SmallerAccepts : Type 0
 SmallerAccepts = (small large : ℕ) → OneInside small large → (f : List ℕ) (m : Model) → readModel large f ≡ accepted m
     → (readModel small f ≡ accepted m) × SheetsAlike small large (sheetOf small m) (sheetOf large m)
@@ -100,8 +105,12 @@ SmallerAccepts = (small large : ℕ) → OneInside small large → (f : List ℕ
 -- c. "each written back with its own list gives the same bytes, or each is refused for length"
 abbrev pub SameBytes : Type 0
 SameBytes = (small large : ℕ) → OneInside small large → (f : List ℕ) (m : Model) → readModel large f ≡ accepted m
-    → ((lineTotal m ≤ mostLines) × ((writes small (sheetText (sheetOf small m)) ≡ accepted (canonical m)) × (writes large (sheetText (sheetOf large m)) ≡ accepted (canonical m))))
-    ⊎ ((mostLines < lineTotal m) × ((writes small (sheetText (sheetOf small m)) ≡ refused TooLong 0) × (writes large (sheetText (sheetOf large m)) ≡ refused TooLong 0)))
+    → ((lineTotal m ≤ mostLines)
+    × ((writes small (sheetText (sheetOf small m)) ≡ accepted (canonical m))
+    × (writes large (sheetText (sheetOf large m)) ≡ accepted (canonical m))))
+    ⊎ ((mostLines < lineTotal m)
+    × ((writes small (sheetText (sheetOf small m)) ≡ refused TooLong 0)
+    × (writes large (sheetText (sheetOf large m)) ≡ refused TooLong 0)))
 
 -- what the last pass says of an entry, whose place is this
 abbrev pub entityUnder : ℕ → List ℕ → Before → ℕ → Listed → Outcome Carried
@@ -130,13 +139,15 @@ pub record EarlierEntry (small large : ℕ) (f : List ℕ) (n : Fault) (p : ℕ)
   pub smaller : LastStops small f reached i n p
   pub larger : LastStops large f reached j m q
 
--- d. "if the smaller refuses, the larger gives the same refusal, or 14 or 15 at an earlier directory entry, the last pass over entities counting as
--- later than all before it": where the smaller refuses before the last pass the larger refuses alike
+-- d. "if the smaller refuses, the larger gives the same refusal, or 14 or 15 at an earlier directory entry, the last pass over entities
+-- counting as later than all before it": where the smaller refuses before the last pass the larger refuses alike
 abbrev pub LargerRefuses : Type 0
 LargerRefuses = (small large : ℕ) → OneInside small large → (f : List ℕ) (n : Fault) (p : ℕ) → reads small f ≡ refused n p
-    → (reads large f ≡ refused n p) ⊎ ((m : Fault) × (q : ℕ) × (reads large f ≡ refused m q) × Late m × EarlierEntry small large f n p m q)
+    → (reads large f ≡ refused n p)
+    ⊎ ((m : Fault) × (q : ℕ) × (reads large f ≡ refused m q) × Late m × EarlierEntry small large f n p m q)
 
 -- where all before the last pass is accepted, a refusal is that of one entry
 abbrev pub RefusedAtEntry : Type 0
 RefusedAtEntry = (list : ℕ) (f : List ℕ) (b : Before) → list ≤ mostList → before f ≡ accepted b → (n : Fault) (p : ℕ)
-    → (reads list f ≡ refused n p → (i : ℕ) × LastStops list f b i n p) × ((i : ℕ) → LastStops list f b i n p → reads list f ≡ refused n p)
+    → (reads list f ≡ refused n p → (i : ℕ) × LastStops list f b i n p)
+    × ((i : ℕ) → LastStops list f b i n p → reads list f ≡ refused n p)

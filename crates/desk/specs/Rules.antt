@@ -35,7 +35,8 @@ pub data Spells (w c d : ℕ) (t : List ℕ) : ℕ → List Item → ℕ → Typ
 -- the Global section opens with these delimiters and spells these fields; later columns are blank
 pub data GlobalIs (t : List ℕ) (c d : ℕ) : List Item → Type 0 where
   no-fields : {next : ℕ} → openingOf t ≡ Opened c d next true → blank (drop next t) ≡ true → GlobalIs t c d []
-  fields : {next end : ℕ} {vs : List Item} → openingOf t ≡ Opened c d next false → Spells textColumns c d t next vs end → blank (drop end t) ≡ true
+  fields : {next end : ℕ} {vs : List Item} → openingOf t ≡ Opened c d next false → Spells textColumns c d t next vs end
+      → blank (drop end t) ≡ true
       → GlobalIs t c d vs
 
 -- what the D lines of entry i say: its numbers, the number of its first parameter line, and how many there are
@@ -62,7 +63,8 @@ pub record EntryMeets (list : ℕ) (f : List ℕ) (counts : Counts) (c d : ℕ) 
   -- its parameter lines spell its type number and its values
   pub values : List Item
   pub end : ℕ
-  pub spells : Spells parameterColumns c d (textOf f (lineBytes * parameterLine counts (e .pointer)) parameterColumns (e .lines)) 0 (whole false (typeOf (e .fields)) ∷ values) end
+  pub spells : Spells parameterColumns c d (textOf f (lineBytes * parameterLine counts (e .pointer)) parameterColumns (e .lines)) 0
+      (whole false (typeOf (e .fields)) ∷ values) end
   -- a known entity keeps to its layout
   pub layout : known list (typeOf (e .fields)) (e .fields .form .size) ≡ true → Keeps types (entityOf (e .fields) values)
 
@@ -89,4 +91,5 @@ pub record MeetsRules (list : ℕ) (f : List ℕ) : Type 0 where
   pub types-are : (i : ℕ) → i < entries counts → getD types i 0 ≡ entryType (entry i)
   pub entry-meets : (i : ℕ) → i < entries counts → EntryMeets list f counts parameter closing types i (entry i)
   -- every P line lies in the range of the entry that it names
-  pub owned : (k : ℕ) → 1 ≤ k → k ≤ counts .p → (i : ℕ) × ((i < entries counts) × ((ownerIn f counts k ≡ 2 * i + 1) × InRange (entry i) k))
+  pub owned : (k : ℕ) → 1 ≤ k → k ≤ counts .p
+      → (i : ℕ) × ((i < entries counts) × ((ownerIn f counts k ≡ 2 * i + 1) × InRange (entry i) k))

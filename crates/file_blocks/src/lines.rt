@@ -85,7 +85,8 @@ pub fn put_entry_lines(
 fn put_totals(out: &mut [u8], at: usize, c: Counts) -> usize
     requires { ⌜ (at < 2 ^ 59) × (c .s ≤ 9999999) × (c .g ≤ 9999999) × (c .d ≤ 9999999) × (c .p ≤ 9999999) ⌝ }
     ensures { λ r. ⌜ Wrote (now (out .entry)) at
-        ((letterS ∷ zeros (c .s)) ++ ((letterG ∷ zeros (c .g)) ++ ((letterD ∷ zeros (c .d)) ++ (letterP ∷ zeros (c .p))))) (now (out .exit)) r ⌝ }
+        ((letterS ∷ zeros (c .s)) ++ ((letterG ∷ zeros (c .g)) ++ ((letterD ∷ zeros (c .d)) ++ (letterP ∷ zeros (c .p)))))
+        (now (out .exit)) r ⌝ }
     ensures { λ r. ⌜ r ≡ at + 32 ⌝ }
 {
     let e = put_count(out, at, START, wide(c.s));

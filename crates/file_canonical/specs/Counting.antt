@@ -57,7 +57,8 @@ withValue x end = tally (x .s) (x .global) (x .field) (x .d) (x .p) end
 abbrev pub tallyLine : Tally → Line → Tally
 tallyLine x (start t) = withStart x
 tallyLine x (global n v) = withGlobal x n (behind textColumns (x .global + skipped (x .field) n) v)
-tallyLine x (entry known n f label) = withEntry x (lineCount parameterColumns (x .at)) (behind parameterColumns 0 (whole false (f .entity .size)))
+tallyLine x (entry known n f label) =
+    withEntry x (lineCount parameterColumns (x .at)) (behind parameterColumns 0 (whole false (f .entity .size)))
 tallyLine x (value reference v) = withValue x (behind parameterColumns (x .at) v)
 tallyLine x (last n) = x
 tallyLine x (none b) = x
@@ -66,7 +67,8 @@ tallyLine x (none b) = x
 abbrev pub tallySaid : Tally → Said → Tally
 tallySaid x Start = withStart x
 tallySaid x (Global n at v) = withGlobal x n (pieceEnd textColumns (x .global + skipped (x .field) n) v)
-tallySaid x (Entry known n f) = withEntry x (lineCount parameterColumns (x .at)) (pieceEnd parameterColumns 0 (Whole false (f .entity .size)))
+tallySaid x (Entry known n f) =
+    withEntry x (lineCount parameterColumns (x .at)) (pieceEnd parameterColumns 0 (Whole false (f .entity .size)))
 tallySaid x (Given reference v) = withValue x (pieceEnd parameterColumns (x .at) v)
 tallySaid x (Last n) = x
 tallySaid x (Nothing b) = x

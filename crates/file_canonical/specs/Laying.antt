@@ -153,7 +153,8 @@ pub record EntryHasRoom (t : List ℕ) (x : EntryPlace) (k end typ : ℕ) : Type
 pub record EntryLaid (o t : List ℕ) (x : EntryPlace) (k end : ℕ) (f : Fields) (o′ : List ℕ) (y : EntryPlace) : Type 0 where
   pub wrote :
       Wrote (laid o (x .p) (joined (section letterP (x .from .0) (blockLines (numberOf k) (f .entity .size) (valuesBehind t end))))) (x .d)
-      (joined (section letterD (numberOf k) (entryLines f (x .from .0) (blockCount t end (f .entity .size)) (labelBefore t end)))) o′ (y .d)
+      (joined (section letterD (numberOf k) (entryLines f (x .from .0) (blockCount t end (f .entity .size)) (labelBefore t end)))) o′
+      (y .d)
   pub p : y .p ≡ x .p + lineBytes * blockCount t end (f .entity .size)
   pub from : y .from .0 ≡ x .from .0 + blockCount t end (f .entity .size)
   pub lines : linesAt t (y .at) ≡ behindValues (linesAt t (end + 1))

@@ -21,7 +21,8 @@ fn start_end(t: &[u8], at: usize) -> usize
 // Lays the S lines of a sheet with so many start lines, and tells where the sheet goes on.
 pub fn put_starts(out: &mut [u8], t: &[u8], s: usize) -> usize
     requires { ⌜ (length (startsFirst (linesIn (now t))) ≡ s) × (s ≤ 9999998) ⌝ }
-    ensures { λ r. ⌜ Wrote (now (out .entry)) 0 (startBytes 1 (startsFirst (linesIn (now (t .entry))))) (now (out .exit)) (lineBytes * s) ⌝ }
+    ensures { λ r. ⌜ Wrote (now (out .entry)) 0 (startBytes 1 (startsFirst (linesIn (now (t .entry))))) (now (out .exit))
+        (lineBytes * s) ⌝ }
     ensures { λ r. ⌜ linesAt (now (t .entry)) r ≡ behindStarts (linesIn (now (t .entry))) ⌝ }
     ensures { λ r. ⌜ r ≤ length (now (t .entry)) ⌝ }
 {

@@ -51,7 +51,8 @@ fn put_values(out: &mut [u8], base: usize, t: &[u8], at: usize, p: usize) -> Flo
         × (base ≤ 2 ^ 40)
         × (p + length (parted parameterColumns p (itemsAt (now t) at)) ≤ 2 ^ 40)
         × Unbroken (linesAt (now t) at) ⌝ }
-    ensures { λ r. ⌜ Put base parameterColumns (now (out .entry)) p (parted parameterColumns p (itemsAt (now (t .entry)) at)) (now (out .exit)) (r .end) ⌝ }
+    ensures { λ r. ⌜ Put base parameterColumns (now (out .entry)) p (parted parameterColumns p (itemsAt (now (t .entry)) at))
+        (now (out .exit)) (r .end) ⌝ }
     ensures { λ r. ⌜ linesAt (now (t .entry)) (r .next) ≡ behindValues (linesAt (now (t .entry)) at) ⌝ }
     ensures { λ r. ⌜ (at ≤ r .next) × (r .next ≤ length (now (t .entry))) ⌝ }
 {
@@ -111,7 +112,8 @@ pub fn put_block(
         × (from .0 + lineCount parameterColumns (length (recordText typ (itemsAt (now t) at))) ≤ 9999999) ⌝ }
     requires { ⌜ Unbroken (linesAt (now t) at) ⌝ }
     ensures { λ r. ⌜ now (out .exit)
-        ≡ laid (now (out .entry)) base (joined (section letterP (from .0) (blockLines (number .0) typ (itemsAt (now (t .entry)) at)))) ⌝ }
+        ≡ laid (now (out .entry)) base (joined (section letterP (from .0) (blockLines (number .0) typ (itemsAt (now (t .entry)) at)))) ⌝
+            }
     ensures { λ r. ⌜ r .lines ≡ lineCount parameterColumns (length (recordText typ (itemsAt (now (t .entry)) at))) ⌝ }
     ensures { λ r. ⌜ linesAt (now (t .entry)) (r .next) ≡ behindValues (linesAt (now (t .entry)) at) ⌝ }
     ensures { λ r. ⌜ (at ≤ r .next) × (r .next ≤ length (now (t .entry))) ⌝ }

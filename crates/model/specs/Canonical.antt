@@ -67,7 +67,8 @@ parameterLines n (e ∷ es) = blockOf n e ++ parameterLines (n + 2) es
 
 -- how many lines the file has, its T line among them
 unfoldable pub lineTotal : Model → ℕ
-lineTotal m = length (startLines m) + length (globalLines m) + length (directoryLines 1 1 (m .entries)) + length (parameterLines 1 (m .entries)) + 1
+lineTotal m =
+    length (startLines m) + length (globalLines m) + length (directoryLines 1 1 (m .entries)) + length (parameterLines 1 (m .entries)) + 1
 
 -- S, G, D, P and T
 unfoldable pub canonical : Model → List ℕ

@@ -1,4 +1,5 @@
--- What every model meets that is read of a file or told by a sheet under a list: both can spell it, and it keeps the rules. No order of checks is in it.
+-- What every model meets that is read of a file or told by a sheet under a list: both can spell it, and it keeps the rules. No order of
+-- checks is in it.
 use mathlib.Core.Path.{_≡_}
 use mathlib.Core.Bool.{true}
 use mathlib.Core.List.{List}

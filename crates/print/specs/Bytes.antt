@@ -30,7 +30,8 @@ valueBytes (v ∷ vs) = (lineOf (value (v .0) (v .1)) ++ (newline ∷ [])) ++ va
 -- an entry with its directory number and its label, and its values, marked under the type list as the walk over them says
 unfoldable pub entityBytes : ℕ → List ℕ → ℕ → Fields → List ℕ → List Item → List ℕ
 entityBytes list types number x label vs =
-    (lineOf (entry (known list (typeOf x) (x .form .size)) (sized false number) x label) ++ (newline ∷ [])) ++ valueBytes (markedFrom types (marksBegun list (typeOf x) (x .form .size)) vs)
+    (lineOf (entry (known list (typeOf x) (x .form .size)) (sized false number) x label) ++ (newline ∷ []))
+    ++ valueBytes (markedFrom types (marksBegun list (typeOf x) (x .form .size)) vs)
 
 -- field n alone: a default has no line
 unfoldable pub givenBytes : ℕ → Item → List ℕ

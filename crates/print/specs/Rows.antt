@@ -36,7 +36,8 @@ rowBytes list f first n parameters c d i = readBytes list f first n parameters c
 -- so many from entry i on
 unfoldable pub rowsBytes : ℕ → List ℕ → ℕ → ℕ → ℕ → ℕ → ℕ → ℕ → ℕ → List ℕ
 rowsBytes list f first n parameters c d i zero = []
-rowsBytes list f first n parameters c d i (suc left) = rowBytes list f first n parameters c d i ++ rowsBytes list f first n parameters c d (i + 1) left
+rowsBytes list f first n parameters c d i (suc left) =
+    rowBytes list f first n parameters c d i ++ rowsBytes list f first n parameters c d (i + 1) left
 
 -- ---- records that are not refused
 

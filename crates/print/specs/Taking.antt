@@ -55,6 +55,7 @@ pub record GivenStands (f : List ℕ) (base lines first n owed : ℕ) (v : Value
 pub record GivenPut (f : List ℕ) (base lines first n : ℕ) (g : Stepped) (owed : ℕ) (v : Value) (o : List ℕ) (at : ℕ)
     (o′ : List ℕ) (r : Behind) : Type 0 where
   pub laid :
-      Wrote o at (valueBytes (markedFrom (typesAt f first n) g (owing owed (itemOf (textOf f base parameterColumns lines) v ∷ [])))) o′ (r .next)
+      Wrote o at (valueBytes (markedFrom (typesAt f first n) g (owing owed (itemOf (textOf f base parameterColumns lines) v ∷ [])))) o′
+      (r .next)
   pub marks : r .marks ≡ run (typesAt f first n) g (owing owed (itemOf (textOf f base parameterColumns lines) v ∷ []))
   pub near : r .next ≤ at + 1100 * owed + 1100

@@ -22,9 +22,11 @@ fieldBytes c d t from ended = cond ended [] (globalBytes (given firstField (valu
 unfoldable pub wholeBytes : ℕ → List ℕ → ℕ → ℕ → ℕ → ℕ → ℕ → ℕ → ℕ → Bool → List ℕ
 wholeBytes list f s g n parameters c d from ended =
     startBytes (map (startText f) (upFrom 0 s))
-    ++ (fieldBytes c d (textOf f (lineBytes * s) textColumns g) from ended ++ (rowsBytes list f (s + g) n parameters c d 0 n ++ (lineOf (last n) ++ (newline ∷ []))))
+    ++ (fieldBytes c d (textOf f (lineBytes * s) textColumns g) from ended
+    ++ (rowsBytes list f (s + g) n parameters c d 0 n ++ (lineOf (last n) ++ (newline ∷ []))))
 
 -- carried entries, the first of them the k-th
 unfoldable pub entriesBytes : ℕ → List ℕ → ℕ → List Carried → List ℕ
 entriesBytes list types k [] = []
-entriesBytes list types k (e ∷ es) = entityBytes list types (2 * k + 1) (e .fields) (e .label) (e .values) ++ entriesBytes list types (k + 1) es
+entriesBytes list types k (e ∷ es) =
+    entityBytes list types (2 * k + 1) (e .fields) (e .label) (e .values) ++ entriesBytes list types (k + 1) es

@@ -19,7 +19,8 @@ pub fn put_text(
     count: usize,
 ) -> usize
     requires { ⌜ Stands (now file) base w lines × (start + count ≤ lines * w) × (at < 2 ^ 60) ⌝ }
-    ensures { λ r. ⌜ Wrote (now (out .entry)) at (take count (drop start (textOf (now (file .entry)) base w lines))) (now (out .exit)) r ⌝ }
+    ensures { λ r. ⌜ Wrote (now (out .entry)) at (take count (drop start (textOf (now (file .entry)) base w lines)))
+        (now (out .exit)) r ⌝ }
     ensures { λ r. ⌜ r ≡ at + count ⌝ }
 {
     let mut next = at;

@@ -51,7 +51,9 @@ pub fn put_value_line(
     v: Value,
 ) -> usize
     requires { ⌜ Stands (now file) base parameterColumns lines × Writable (lines * parameterColumns) v × (at < 2 ^ 59) ⌝ }
-    ensures { λ r. ⌜ Wrote (now (out .entry)) at (lineOf (Line.value reference (itemOf (textOf (now (file .entry)) base parameterColumns lines) v)) ++ (newline ∷ [])) (now (out .exit)) r ⌝ }
+    ensures { λ r. ⌜ Wrote (now (out .entry)) at
+        (lineOf (Line.value reference (itemOf (textOf (now (file .entry)) base parameterColumns lines) v)) ++ (newline ∷ []))
+        (now (out .exit)) r ⌝ }
     ensures { λ r. ⌜ r ≤ at + 1100 ⌝ }
 {
     let a = put_value_head(out, at, reference, v);
@@ -71,7 +73,8 @@ fn put_real_line(
     double: bool,
 ) -> usize
     requires { ⌜ at < 2 ^ 59 ⌝ }
-    ensures { λ r. ⌜ Wrote (now (out .entry)) at (lineOf (Line.value reference (real neg m eneg e double)) ++ (newline ∷ [])) (now (out .exit)) r ⌝ }
+    ensures { λ r. ⌜ Wrote (now (out .entry)) at (lineOf (Line.value reference (real neg m eneg e double)) ++ (newline ∷ []))
+        (now (out .exit)) r ⌝ }
     ensures { λ r. ⌜ r ≤ at + 1100 ⌝ }
 {
     let a = columns_emit::put(out, at, value_mark(reference));
@@ -91,7 +94,9 @@ pub fn put_mostly_real(
     v: Value,
 ) -> usize
     requires { ⌜ Stands (now file) base parameterColumns lines × Writable (lines * parameterColumns) v × (at < 2 ^ 59) ⌝ }
-    ensures { λ r. ⌜ Wrote (now (out .entry)) at (lineOf (Line.value reference (itemOf (textOf (now (file .entry)) base parameterColumns lines) v)) ++ (newline ∷ [])) (now (out .exit)) r ⌝ }
+    ensures { λ r. ⌜ Wrote (now (out .entry)) at
+        (lineOf (Line.value reference (itemOf (textOf (now (file .entry)) base parameterColumns lines) v)) ++ (newline ∷ []))
+        (now (out .exit)) r ⌝ }
     ensures { λ r. ⌜ r ≤ at + 1100 ⌝ }
 {
     match v {
@@ -117,7 +122,9 @@ pub fn put_global_line(
     v: Value,
 ) -> usize
     requires { ⌜ Stands (now file) base textColumns lines × Writable (lines * textColumns) v × (at < 2 ^ 59) ⌝ }
-    ensures { λ r. ⌜ Wrote (now (out .entry)) at (lineOf (Line.global n (itemOf (textOf (now (file .entry)) base textColumns lines) v)) ++ (newline ∷ [])) (now (out .exit)) r ⌝ }
+    ensures { λ r. ⌜ Wrote (now (out .entry)) at
+        (lineOf (Line.global n (itemOf (textOf (now (file .entry)) base textColumns lines) v)) ++ (newline ∷ [])) (now (out .exit)) r ⌝
+            }
     ensures { λ r. ⌜ r ≤ at + 1100 ⌝ }
 {
     let a = put_global_head(out, at, n, v);

@@ -58,7 +58,8 @@ fn met_of(g: Got) -> Met
 
 // The value from position q of an entity's record on, which is not refused.
 pub fn met_at(file: &[u8], base: usize, lines: usize, c: u8, d: u8, q: usize) -> Met
-    requires { ⌜ Stands (now file) base parameterColumns lines × (q ≤ lines * parameterColumns) × (0 < c) × (0 < d) × Unrefused (valuesAt parameterColumns c d (textOf (now file) base parameterColumns lines) q) ⌝ }
+    requires { ⌜ Stands (now file) base parameterColumns lines × (q ≤ lines * parameterColumns) × (0 < c) × (0 < d)
+        × Unrefused (valuesAt parameterColumns c d (textOf (now file) base parameterColumns lines) q) ⌝ }
     ensures { λ r. ⌜ r ≡ metOf (valueAt parameterColumns c d (textOf (now (file .entry)) base parameterColumns lines) q) ⌝ }
     ensures { λ r. ⌜ (q < r .next) × (r .next ≤ lines * parameterColumns) × Writable (lines * parameterColumns) (r .value) ⌝ }
 {

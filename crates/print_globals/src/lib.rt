@@ -32,7 +32,8 @@ fn put_given(
     v: Value,
 ) -> usize
     requires { ⌜ Stands (now file) base textColumns lines × Writable (lines * textColumns) v × (at < 2 ^ 59) ⌝ }
-    ensures { λ r. ⌜ Wrote (now (out .entry)) at (givenBytes n (itemOf (textOf (now (file .entry)) base textColumns lines) v)) (now (out .exit)) r ⌝ }
+    ensures { λ r. ⌜ Wrote (now (out .entry)) at (givenBytes n (itemOf (textOf (now (file .entry)) base textColumns lines) v))
+        (now (out .exit)) r ⌝ }
     ensures { λ r. ⌜ r ≤ at + 1100 ⌝ }
 {
     if is_missing(v) {
@@ -44,7 +45,8 @@ fn put_given(
 // How many values the record has from position from on; none if it is refused.
 fn count_from(file: &[u8], base: usize, lines: usize, c: u8, d: u8, from: usize) -> usize
     requires { ⌜ Stands (now file) base textColumns lines × (from ≤ lines * textColumns) × (0 < c) × (0 < d) ⌝ }
-    ensures { λ r. ⌜ itemsFrom textColumns c d (textOf (now (file .entry)) base textColumns lines) from r ≡ valuesIn (valuesAt textColumns c d (textOf (now (file .entry)) base textColumns lines) from) ⌝ }
+    ensures { λ r. ⌜ itemsFrom textColumns c d (textOf (now (file .entry)) base textColumns lines) from r
+        ≡ valuesIn (valuesAt textColumns c d (textOf (now (file .entry)) base textColumns lines) from) ⌝ }
     ensures { λ r. ⌜ r ≤ lines * textColumns ⌝ }
 {
     match check_from(file, base, TEXT_COLUMNS, lines, c, d, from) {
@@ -65,7 +67,9 @@ pub fn put_globals(
     from: usize,
 ) -> usize
     requires { ⌜ Stands (now file) base textColumns lines × (from ≤ lines * textColumns) × (0 < c) × (0 < d) × (at < 2 ^ 58) ⌝ }
-    ensures { λ r. ⌜ Wrote (now (out .entry)) at (globalBytes (given firstField (valuesIn (valuesAt textColumns c d (textOf (now (file .entry)) base textColumns lines) from)))) (now (out .exit)) r ⌝ }
+    ensures { λ r. ⌜ Wrote (now (out .entry)) at
+        (globalBytes (given firstField (valuesIn (valuesAt textColumns c d (textOf (now (file .entry)) base textColumns lines) from))))
+        (now (out .exit)) r ⌝ }
     ensures { λ r. ⌜ r ≤ at + 79200 * lines ⌝ }
 {
     let mut left = count_from(file, base, lines, c, d, from);

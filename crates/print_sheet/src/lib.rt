@@ -27,7 +27,8 @@ fn put_fields(
     last: bool,
 ) -> usize
     requires { ⌜ Stands (now file) base textColumns lines × (from ≤ lines * textColumns) × (0 < c) × (0 < d) × (at < 2 ^ 58) ⌝ }
-    ensures { λ r. ⌜ Wrote (now (out .entry)) at (fieldBytes c d (textOf (now (file .entry)) base textColumns lines) from last) (now (out .exit)) r ⌝ }
+    ensures { λ r. ⌜ Wrote (now (out .entry)) at (fieldBytes c d (textOf (now (file .entry)) base textColumns lines) from last)
+        (now (out .exit)) r ⌝ }
     ensures { λ r. ⌜ r ≤ at + 79200 * lines ⌝ }
 {
     if last {
@@ -54,7 +55,8 @@ pub fn put_sheet(
 ) -> usize
     requires { ⌜ Printable (now file) (s + g) n parameters c d × (from ≤ g * textColumns) × (at < 2 ^ 55) ⌝ }
     requires { ⌜ RowsRead (now file) (s + g) n parameters c d ⌝ }
-    ensures { λ r. ⌜ Wrote (now (out .entry)) at (wholeBytes list (now (file .entry)) s g n parameters c d from last) (now (out .exit)) r ⌝ }
+    ensures { λ r. ⌜ Wrote (now (out .entry)) at (wholeBytes list (now (file .entry)) s g n parameters c d from last)
+        (now (out .exit)) r ⌝ }
     ensures { λ r. ⌜ r ≤ at + 2 ^ 52 ⌝ }
 {
     let base = LINE_BYTES * s;

@@ -43,7 +43,9 @@ fn put_entry_line(
     x: Fields,
 ) -> usize
     requires { ⌜ (lineBytes * k + 2 * lineBytes ≤ length (now file)) × (at < 2 ^ 59) ⌝ }
-    ensures { λ r. ⌜ Wrote (now (out .entry)) at (lineOf (Line.entry (known list (x .entity .size) (x .form .size)) (sized false (number .0)) x (labelAt (now (file .entry)) k)) ++ (newline ∷ [])) (now (out .exit)) r ⌝ }
+    ensures { λ r. ⌜ Wrote (now (out .entry)) at
+        (lineOf (Line.entry (known list (x .entity .size) (x .form .size)) (sized false (number .0)) x (labelAt (now (file .entry)) k))
+        ++ (newline ∷ [])) (now (out .exit)) r ⌝ }
     ensures { λ r. ⌜ r ≤ at + 388 ⌝ }
 {
     let entity = x.entity;
@@ -70,8 +72,11 @@ pub fn put_entity(
     first: usize,
     n: usize,
 ) -> usize
-    requires { ⌜ ValuesStand (now file) base lines c d first n × (lineBytes * k + 2 * lineBytes ≤ length (now file)) × (at < 2 ^ 57) ⌝ }
-    ensures { λ r. ⌜ Wrote (now (out .entry)) at (entityBytes list (typesAt (now (file .entry)) first n) (number .0) x (labelAt (now (file .entry)) k) (carriedIn (valuesAt parameterColumns c d (textOf (now (file .entry)) base parameterColumns lines) 0))) (now (out .exit)) r ⌝ }
+    requires { ⌜ ValuesStand (now file) base lines c d first n × (lineBytes * k + 2 * lineBytes ≤ length (now file))
+        × (at < 2 ^ 57) ⌝ }
+    ensures { λ r. ⌜ Wrote (now (out .entry)) at
+        (entityBytes list (typesAt (now (file .entry)) first n) (number .0) x (labelAt (now (file .entry)) k)
+        (carriedIn (valuesAt parameterColumns c d (textOf (now (file .entry)) base parameterColumns lines) 0))) (now (out .exit)) r ⌝ }
     ensures { λ r. ⌜ r ≤ at + 388 + 70400 * lines ⌝ }
 {
     let entity = x.entity;
@@ -121,7 +126,8 @@ fn put_spelt(
 ) -> usize
     requires { ⌜ Printable (now file) first n parameters c d × (i < n) × (at < 2 ^ 57) ⌝ }
     requires { ⌜ SpeltReads (now file) parameters c d (pointer .0) count ⌝ }
-    ensures { λ r. ⌜ Wrote (now (out .entry)) at (speltBytes list (now (file .entry)) first n parameters c d i x (pointer .0) count) (now (out .exit)) r ⌝ }
+    ensures { λ r. ⌜ Wrote (now (out .entry)) at (speltBytes list (now (file .entry)) first n parameters c d i x (pointer .0) count)
+        (now (out .exit)) r ⌝ }
     ensures { λ r. ⌜ r ≤ at + 15000000000 ⌝ }
 {
     let b = before(pointer);
@@ -206,7 +212,9 @@ pub fn put_rows(
 ) -> usize
     requires { ⌜ Printable (now file) first n parameters c d × (at < 2 ^ 56) ⌝ }
     requires { ⌜ RowsRead (now file) first n parameters c d ⌝ }
-    ensures { λ r. ⌜ Wrote (now (out .entry)) at (rowsBytes list (now (file .entry)) first n parameters c d 0 n ++ (lineOf (Line.last n) ++ (newline ∷ []))) (now (out .exit)) r ⌝ }
+    ensures { λ r. ⌜ Wrote (now (out .entry)) at
+        (rowsBytes list (now (file .entry)) first n parameters c d 0 n ++ (lineOf (Line.last n) ++ (newline ∷ [])))
+        (now (out .exit)) r ⌝ }
     ensures { λ r. ⌜ r ≤ at + 15000000000 * n + 23 ⌝ }
 {
     let mut next = at;

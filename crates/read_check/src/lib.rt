@@ -1,5 +1,5 @@
-// All checks of a file in the paper's order: `last_pass` goes over its entities; `weigh` asks the list, all that is asked before, and the last
-// pass; `check` is its answer alone.
+// All checks of a file in the paper's order: `last_pass` goes over its entities; `weigh` asks the list, all that is asked before, and the
+// last pass; `check` is its answer alone.
 use cards::Counts;
 use columns::Fault;
 use columns::FileLine;
@@ -22,7 +22,8 @@ ghost use Rattle.read_weights.specs.Weights.{rowsLength, rowsOf, weightOf, Few,
 // The last pass: each entity in turn, and behind them the Z line.
 pub fn last_pass(list: u64, file: &[u8], c: Counts, parameter: u8, closing: u8) -> Rows
     requires { ⌜ Ready (now file) c × (0 < parameter) × (0 < closing) ⌝ }
-    ensures { λ r. ⌜ r ≡ rowsOf (rowsLength list (now (file .entry)) c parameter closing) (passOf (lastPass list (now (file .entry)) c (delimited parameter closing) (allEntries (now (file .entry)) c))) ⌝ }
+    ensures { λ r. ⌜ r ≡ rowsOf (rowsLength list (now (file .entry)) c parameter closing)
+        (passOf (lastPass list (now (file .entry)) c (delimited parameter closing) (allEntries (now (file .entry)) c))) ⌝ }
     ensures { λ r. ⌜ Few (2 ^ 51) r ⌝ }
 {
     let n = wide(c.d) / 2;

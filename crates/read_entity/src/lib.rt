@@ -102,9 +102,12 @@ pub fn entity_pass(
     first: usize,
     n: usize,
 ) -> Weighed
-    requires { ⌜ Stands (now file) base parameterColumns lines × (0 < c) × (0 < d) × (lineBytes * (first + 2 * n) ≤ length (now file)) ⌝ }
-    ensures { λ r. ⌜ r .answer ≡ entityPassOf list (typesAt (now (file .entry)) first n) typ form (valuesAt parameterColumns c d (textOf (now (file .entry)) base parameterColumns lines) 0) ⌝ }
-    ensures { λ r. ⌜ r .length ≡ carriedLength (carriedIn (valuesAt parameterColumns c d (textOf (now (file .entry)) base parameterColumns lines) 0)) ⌝ }
+    requires { ⌜ Stands (now file) base parameterColumns lines × (0 < c) × (0 < d)
+        × (lineBytes * (first + 2 * n) ≤ length (now file)) ⌝ }
+    ensures { λ r. ⌜ r .answer ≡ entityPassOf list (typesAt (now (file .entry)) first n) typ form
+        (valuesAt parameterColumns c d (textOf (now (file .entry)) base parameterColumns lines) 0) ⌝ }
+    ensures { λ r. ⌜ r .length ≡ carriedLength
+        (carriedIn (valuesAt parameterColumns c d (textOf (now (file .entry)) base parameterColumns lines) 0)) ⌝ }
     ensures { λ r. ⌜ r .length ≤ 70400 * lines ⌝ }
 {
     let g = value_at(file, base, PARAMETER_COLUMNS, lines, c, d, 0);

@@ -76,7 +76,8 @@ fn fields_len(
 
 // How long the sheet is, what stands behind its G lines taking so many bytes.
 pub fn measure(list: u64, file: &[u8], c: Counts, parameter: u8, closing: u8, rows: usize) -> usize
-    requires { ⌜ (Good c parameter closing ≡ checkOf list (now file)) × (rows ≡ rowsLength list (now file) c parameter closing) × (rows ≤ 2 ^ 51) ⌝ }
+    requires { ⌜ (Good c parameter closing ≡ checkOf list (now file)) × (rows ≡ rowsLength list (now file) c parameter closing)
+        × (rows ≤ 2 ^ 51) ⌝ }
     ensures { λ r. ⌜ r ≡ length (sheetIn list (now (file .entry))) ⌝ }
 {
     let s = wide(c.s);

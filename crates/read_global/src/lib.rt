@@ -125,8 +125,10 @@ fn done_pass(
     n: usize,
     end: usize,
 ) -> FilePass
-    requires { ⌜ Holds (now file) c × (from ≤ c .g * textColumns) × (n ≤ 16000000) × (end ≤ c .g * textColumns) × (0 < parameter) × (0 < closing) ⌝ }
-    ensures { λ r. ⌜ r ≡ orElse (passOf (noStray c (globalText (now (file .entry)) c) end)) (passOf (fieldsFit c parameter closing (globalText (now (file .entry)) c) from n)) ⌝ }
+    requires { ⌜ Holds (now file) c × (from ≤ c .g * textColumns) × (n ≤ 16000000) × (end ≤ c .g * textColumns)
+        × (0 < parameter) × (0 < closing) ⌝ }
+    ensures { λ r. ⌜ r ≡ orElse (passOf (noStray c (globalText (now (file .entry)) c) end))
+        (passOf (fieldsFit c parameter closing (globalText (now (file .entry)) c) from n)) ⌝ }
 {
     let found = no_stray(file, c, end);
     match found {

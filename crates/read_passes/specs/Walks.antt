@@ -62,7 +62,8 @@ valueFits p d t from k = globalFits (firstField + k) (seen (gotItem t (valueAt t
 
 -- rule 8 of the first n values
 unfoldable pub fieldsFit : Counts → ℕ → ℕ → List ℕ → ℕ → ℕ → Outcome (Unit {0})
-fieldsFit c p d t from n = let k = firstNot (valueFits p d t from) 0 n in demand (eqb k n) Global (globalLine c (startAt textColumns p d t from k))
+fieldsFit c p d t from n =
+    let k = firstNot (valueFits p d t from) 0 n in demand (eqb k n) Global (globalLine c (startAt textColumns p d t from k))
 
 -- the record behind the opening
 unfoldable pub valuesOutcome : Counts → List ℕ → ℕ → ℕ → ℕ → Outcome GlobalRead

@@ -109,8 +109,10 @@ pub fn walk(
     first: usize,
     n: usize,
 ) -> EntityWalked
-    requires { ⌜ Stands (now file) base parameterColumns lines × (from ≤ lines * parameterColumns) × (0 < c) × (0 < d) × (lineBytes * (first + 2 * n) ≤ length (now file)) ⌝ }
-    ensures { λ r. ⌜ r ≡ walkedFrom (typesAt (now (file .entry)) first n) begun 0 0 (valuesAt parameterColumns c d (textOf (now (file .entry)) base parameterColumns lines) from) ⌝ }
+    requires { ⌜ Stands (now file) base parameterColumns lines × (from ≤ lines * parameterColumns) × (0 < c) × (0 < d)
+        × (lineBytes * (first + 2 * n) ≤ length (now file)) ⌝ }
+    ensures { λ r. ⌜ r ≡ walkedFrom (typesAt (now (file .entry)) first n) begun 0 0
+        (valuesAt parameterColumns c d (textOf (now (file .entry)) base parameterColumns lines) from) ⌝ }
     ensures { λ r. ⌜ Light (70400 * lines) r ⌝ }
 {
     let mut q = from;

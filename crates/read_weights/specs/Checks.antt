@@ -25,7 +25,9 @@ delimited p d = globalRead p d []
 
 -- what is said of the entity of this type and form whose record stands in so many P lines from P line `from` on
 unfoldable pub recordAnswer : ℕ → List ℕ → Counts → ℕ → ℕ → ℕ → ℕ → ℕ → ℕ → EntityAnswer
-recordAnswer list f c p d typ form from lines = entityPassOf list (allTypes f c) typ form (valuesAt parameterColumns p d (textOf f (lineBytes * parameterLine c from) parameterColumns lines) 0)
+recordAnswer list f c p d typ form from lines =
+    entityPassOf list (allTypes f c) typ form
+    (valuesAt parameterColumns p d (textOf f (lineBytes * parameterLine c from) parameterColumns lines) 0)
 
 -- the last pass at entity i
 unfoldable pub entityAt : ℕ → List ℕ → Counts → ℕ → ℕ → ℕ → FilePass

@@ -34,7 +34,8 @@ use Rattle.read_weights.specs.declared.Weight.the-variants.{Good as Good
 
 -- what the record carries that stands in so many P lines from P line `from` on
 unfoldable pub recordCarried : List ℕ → Counts → ℕ → ℕ → ℕ → ℕ → List Item
-recordCarried f c p d from lines = carriedIn (valuesAt parameterColumns p d (textOf f (lineBytes * parameterLine c from) parameterColumns lines) 0)
+recordCarried f c p d from lines =
+    carriedIn (valuesAt parameterColumns p d (textOf f (lineBytes * parameterLine c from) parameterColumns lines) 0)
 
 -- the bytes of entry i
 unfoldable pub rowLength : ℕ → List ℕ → Counts → ℕ → ℕ → ℕ → ℕ
@@ -42,7 +43,8 @@ rowLength list f c p d i = length (rowBytes list f (firstD c) (entries c) (first
 
 -- of so many entries from i on, and of the Z line
 unfoldable pub rowsFrom : ℕ → List ℕ → Counts → ℕ → ℕ → ℕ → ℕ → ℕ
-rowsFrom list f c p d i n = length (rowsBytes list f (firstD c) (entries c) (firstP c) p d i n ++ (lineOf (last (entries c)) ++ (newline ∷ [])))
+rowsFrom list f c p d i n =
+    length (rowsBytes list f (firstD c) (entries c) (firstP c) p d i n ++ (lineOf (last (entries c)) ++ (newline ∷ [])))
 
 -- of all
 abbrev pub rowsLength : ℕ → List ℕ → Counts → ℕ → ℕ → ℕ
@@ -57,7 +59,8 @@ answerRows (RefusedEntity fault) n line = RefusedRows fault line
 unfoldable pub speltRows : ℕ → List ℕ → Counts → ℕ → ℕ → ℕ → ℕ → Fields → ℕ → ℕ → Rows
 speltRows list f c p d i k x from lines =
     answerRows (recordAnswer list f c p d (x .entity .size) (x .form .size) from lines)
-    (length (lineOf (entry (known list (x .entity .size) (x .form .size)) (sized false (2 * i + 1)) x (labelAt f k)) ++ (newline ∷ [])) + carriedLength (recordCarried f c p d from lines))
+    (length (lineOf (entry (known list (x .entity .size) (x .form .size)) (sized false (2 * i + 1)) x (labelAt f k)) ++ (newline ∷ [])) +
+    carriedLength (recordCarried f c p d from lines))
     (fileLine (k + 1))
 
 -- so many bytes, if nothing is refused

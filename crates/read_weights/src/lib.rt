@@ -1,5 +1,5 @@
-// Reading: what the checks of a file say in the paper's order, and what stands behind them in the sheet. `entity_at` reads the parameters of an
-// entity and measures its lines in the sheet on the way. Crate `read_check` has the last pass over all of them and all checks.
+// Reading: what the checks of a file say in the paper's order, and what stands behind them in the sheet. `entity_at` reads the parameters
+// of an entity and measures its lines in the sheet on the way. Crate `read_check` has the last pass over all of them and all checks.
 use cards::Counts;
 use columns::Fault;
 use columns::FileLine;
@@ -69,7 +69,8 @@ fn record_answer(
 ) -> Weighed
     requires { ⌜ Ready (now file) c × (0 < parameter) × (0 < closing) × (1 ≤ pointer .0) × (pointer .0 + lines ≤ c .p + 1) ⌝ }
     ensures { λ r. ⌜ r .answer ≡ recordAnswer list (now (file .entry)) c parameter closing typ form (pointer .0) lines ⌝ }
-    ensures { λ r. ⌜ (r .length ≡ carriedLength (recordCarried (now (file .entry)) c parameter closing (pointer .0) lines)) × (r .length ≤ 70400 * lines) ⌝ }
+    ensures { λ r. ⌜ (r .length ≡ carriedLength (recordCarried (now (file .entry)) c parameter closing (pointer .0) lines))
+        × (r .length ≤ 70400 * lines) ⌝ }
 {
     let total = wide(c.d) / 2;
     let first = cards::entry_line(c, 0);
@@ -123,7 +124,8 @@ fn row_at(
     pointer: ParameterLine,
     lines: u32,
 ) -> Rows
-    requires { ⌜ Ready (now file) c × (0 < parameter) × (0 < closing) × (i < entries c) × (k ≡ entryLine c i) × (1 ≤ pointer .0) × (pointer .0 + lines ≤ c .p + 1) ⌝ }
+    requires { ⌜ Ready (now file) c × (0 < parameter) × (0 < closing) × (i < entries c) × (k ≡ entryLine c i) × (1 ≤ pointer .0)
+        × (pointer .0 + lines ≤ c .p + 1) ⌝ }
     ensures { λ r. ⌜ r ≡ speltRows list (now (file .entry)) c parameter closing i k fields (pointer .0) lines ⌝ }
     ensures { λ r. ⌜ Few 15000000000 r ⌝ }
 {
@@ -138,7 +140,8 @@ fn row_at(
 // Entity i; its entry is spelt, as all are.
 pub fn entity_at(list: u64, file: &[u8], c: Counts, parameter: u8, closing: u8, i: usize) -> Rows
     requires { ⌜ Ready (now file) c × (0 < parameter) × (0 < closing) × (i < entries c) ⌝ }
-    ensures { λ r. ⌜ r ≡ rowsOf (rowLength list (now (file .entry)) c parameter closing i) (entityAt list (now (file .entry)) c parameter closing i) ⌝ }
+    ensures { λ r. ⌜ r ≡ rowsOf (rowLength list (now (file .entry)) c parameter closing i)
+        (entityAt list (now (file .entry)) c parameter closing i) ⌝ }
     ensures { λ r. ⌜ Few 15000000000 r ⌝ }
 {
     let k = cards::entry_line(c, i);

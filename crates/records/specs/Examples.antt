@@ -1,4 +1,5 @@
--- Worked examples: texts in lines of w columns, with ',' and ';', and the values that they hold or their refusal; openings; a record as it is written.
+-- Worked examples: texts in lines of w columns, with ',' and ';', and the values that they hold or their refusal; openings; a record as it
+-- is written.
 use mathlib.Core.Path.{_≡_, refl}
 use mathlib.Core.Bool.{true, false}
 use mathlib.Core.List.{List, [], _∷_, map}
@@ -68,14 +69,18 @@ openings =
 
 -- what is computed is what is expected
 pub record Examples : Type 0 where
-  pub read : map (λ (e : ℕ × String × Values). valuesAt (e .0) 44 59 (codes (e .1)) 0) records ≡ map (λ (e : ℕ × String × Values). e .2) records
+  pub read : map (λ (e : ℕ × String × Values). valuesAt (e .0) 44 59 (codes (e .1)) 0) records
+      ≡ map (λ (e : ℕ × String × Values). e .2) records
   pub opened : map (λ (e : String × Opening). openingOf (codes (e .0))) openings ≡ map (λ (e : String × Opening). e .1) openings
   -- a value that has no room goes to the next line, and so does a count with its H and first character; a string's text flows on
-  pub written : inLines 8 (flow 8 0 (whole false 116 ∷ (real false 15 true 1 false ∷ (default ∷ (real true 2 false 0 true ∷ (text (codes "a;,") ∷ []))))))
+  pub written : inLines 8
+      (flow 8 0 (whole false 116
+      ∷ (real false 15 true 1 false ∷ (default ∷ (real true 2 false 0 true ∷ (text (codes "a;,") ∷ []))))))
       ≡ codes "116,    " ∷ (codes "15.E-1,," ∷ (codes "-2.D0,  " ∷ (codes "3Ha;,;  " ∷ [])))
   pub kept : trimmed (default ∷ (whole false 1 ∷ (default ∷ (default ∷ [])))) ≡ default ∷ (whole false 1 ∷ [])
 
 -- all of them
 pub examples : Examples
-unfolding valuesAt valuesFrom valueAt nextAt headOf numberOf powerAt power mayDelimit opened recordDelimiter openingOf inLines lineCount cut toLeft flow piece gap firm spelled dec lastDigits
+unfolding valuesAt valuesFrom valueAt nextAt headOf numberOf powerAt power mayDelimit opened recordDelimiter openingOf inLines lineCount cut
+    toLeft flow piece gap firm spelled dec lastDigits
 examples = record { read = refl; opened = refl; written = refl; kept = refl }

@@ -1,5 +1,5 @@
--- The values of a record. Its text t is columns 1 to w of its lines, joined: position p stands on line p / w, so what "stands on one line" is read
--- in the rest of the line of its first character. c parts the values, d ends the record.
+-- The values of a record. Its text t is columns 1 to w of its lines, joined: position p stands on line p / w, so what "stands on one line"
+-- is read in the rest of the line of its first character. c parts the values, d ends the record.
 use mathlib.Core.Bool.{true, false, cond}
 use mathlib.Core.List.{List, [], _∷_}
 use Prim.Native.Nat.{ℕ, zero, suc, _+_, _-_, _%_}
@@ -72,7 +72,8 @@ valueAt w c d t p = byNext w c d t (nextAt c d t p)
 
 -- ---- all of a record
 
--- the values and the position behind the record, or the first refusal: where its value starts, and the first position that cannot continue it
+-- the values and the position behind the record, or the first refusal: where its value starts, and the first position that cannot continue
+-- it
 pub data Values : Type 0 where
   values : List Item → ℕ → Values
   wrong : Fault → (start at : ℕ) → Values

@@ -18,8 +18,11 @@ use Rattle.sheets.specs.declared.SheetVerdict.{SheetVerdict}
 use Rattle.sheets.specs.declared.SheetVerdict.the-variants.{Good, Wrong}
 use Rattle.sheets.specs.Plain.{sized, isPlain, isSigned, signedNumber, allDigits, isStatus, statusNumber}
 use Rattle.sheets.specs.Line.{run, isLabel, isEntryNumber, entryNumber, numbersOf, entryOf, labelOf, spell, spells, entryLine}
-use Rattle.sheets.specs.Sheet.{row, Sheet, startLines, globalLines, valueLines, rowLines, linesOf, lineOf, textOf, sheetText, isMark, isStart, startLine, isFieldNumber, isNumbered, globalLine, lastLine, byMark, saysOf, saidBy, into, piecesOf, lastPiece, saidByAll, linesIn, partsOf, sheetOf}
-use Rattle.sheets.specs.Order.{sheetLine, closed, startStep, globalStep, entryStep, valueStep, lastStep, noneStep, finish, goLines, verdictOf, readSheet}
+use Rattle.sheets.specs.Sheet.{row, Sheet, startLines, globalLines, valueLines, rowLines, linesOf, lineOf, textOf, sheetText}
+use Rattle.sheets.specs.Sheet.{isMark, isStart, startLine, isFieldNumber, isNumbered, globalLine, lastLine, byMark, saysOf, saidBy}
+use Rattle.sheets.specs.Sheet.{into, piecesOf, lastPiece, saidByAll, linesIn, partsOf, sheetOf}
+use Rattle.sheets.specs.Order.{sheetLine, closed, startStep, globalStep, entryStep, valueStep, lastStep, noneStep, finish, goLines}
+use Rattle.sheets.specs.Order.{verdictOf, readSheet}
 
 abbrev byte : ℕ → ℕ
 byte c = cond (eqb c 62) 9 (cond (eqb c 124) 10 c)
@@ -92,7 +95,10 @@ table =
     ∷ []
 
 pub examples : map (λ (e : String × SheetVerdict). verdictOf (bytes (e .0))) table ≡ map (λ (e : String × SheetVerdict). e .1) table
-unfolding printable sameBytes lastDigits dec power powerAt numberOf headOf spelled strictOf isPlain isSigned signedNumber allDigits isStatus statusNumber run isLabel isEntryNumber entryNumber numbersOf entryOf labelOf isMark isStart startLine isFieldNumber isNumbered globalLine lastLine byMark saysOf saidBy into piecesOf lastPiece saidByAll linesIn closed startStep globalStep entryStep valueStep lastStep noneStep finish goLines verdictOf
+unfolding printable sameBytes lastDigits dec power powerAt numberOf headOf spelled strictOf isPlain isSigned signedNumber allDigits isStatus
+    statusNumber run isLabel isEntryNumber entryNumber numbersOf entryOf labelOf isMark isStart startLine isFieldNumber isNumbered
+    globalLine lastLine byMark saysOf saidBy into piecesOf lastPiece saidByAll linesIn closed startStep globalStep entryStep valueStep
+    lastStep noneStep finish goLines verdictOf
 examples = refl
 
 -- the chair's sheet: one entry of type 116
@@ -101,15 +107,20 @@ chair = record {
   starts = plain "SET PIECE" ∷ [];
   globals = (3, text (plain "CHAIR")) ∷ (4, text (plain "set.igs")) ∷ [];
   rows =
-      row true (fieldsOf (sized false 116 ∷ nought ∷ nought ∷ nought ∷ nought ∷ nought ∷ nought ∷ nought ∷ sized false 1000000 ∷ [])) (plain "   PIN01")
+      row true (fieldsOf (sized false 116 ∷ nought ∷ nought ∷ nought ∷ nought ∷ nought ∷ nought ∷ nought
+      ∷ sized false 1000000 ∷ [])) (plain "   PIN01")
       ((false, real false 15 true 1 false) ∷ (false, real false 0 false 0 false) ∷ (false, real false 2 false 0 false) ∷ [])
       ∷ [];
 }
 
 pub chair-text : sheetText chair ≡ bytes chairText
-unfolding chair lastDigits dec signedDec toRight spelled spell spells entryLine startLines globalLines valueLines rowLines linesOf lineOf textOf sheetText
+unfolding chair lastDigits dec signedDec toRight spelled spell spells entryLine startLines globalLines valueLines rowLines linesOf lineOf
+    textOf sheetText
 chair-text = refl
 
 pub chair-read : readSheet (bytes chairText) ≡ accepted chair
-unfolding chair printable sameBytes lastDigits dec power powerAt numberOf headOf spelled strictOf isPlain isSigned signedNumber allDigits isStatus statusNumber run isLabel isEntryNumber entryNumber numbersOf entryOf labelOf isMark isStart startLine isFieldNumber isNumbered globalLine lastLine byMark saysOf saidBy into piecesOf lastPiece saidByAll linesIn partsOf sheetOf closed startStep globalStep entryStep valueStep lastStep noneStep finish goLines verdictOf readSheet
+unfolding chair printable sameBytes lastDigits dec power powerAt numberOf headOf spelled strictOf isPlain isSigned signedNumber allDigits
+    isStatus statusNumber run isLabel isEntryNumber entryNumber numbersOf entryOf labelOf isMark isStart startLine isFieldNumber isNumbered
+    globalLine lastLine byMark saysOf saidBy into piecesOf lastPiece saidByAll linesIn partsOf sheetOf closed startStep globalStep entryStep
+    valueStep lastStep noneStep finish goLines verdictOf readSheet
 chair-read = refl

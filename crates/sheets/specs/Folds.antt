@@ -22,7 +22,8 @@ unread = 2147483649
 -- a digit may come first; after that it may come if there is no 0 in front and the number stays within the limit. What is misspelt stays so
 unfoldable pub digitAfter : ℕ → ℕ → ℕ
 digitAfter n b =
-    cond (isDigit b) (cond (eqb n unread) (b - digit0) (cond (ltb 0 n && leb (n * 10 + (b - digit0)) mostInteger) (n * 10 + (b - digit0)) misspelt)) misspelt
+    cond (isDigit b) (cond (eqb n unread) (b - digit0)
+    (cond (ltb 0 n && leb (n * 10 + (b - digit0)) mostInteger) (n * 10 + (b - digit0)) misspelt)) misspelt
 
 unfoldable pub sizeFrom : ℕ → List ℕ → ℕ
 sizeFrom n [] = n

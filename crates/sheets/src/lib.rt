@@ -1,5 +1,5 @@
-// Sheet lines in and out: what each line says, and the order of lines.
-// `order` is the machine over the lines. Crate `sheets_numbers` reads the numbers of a sheet, `sheets_read` its lines, `sheets_lay` writes lines.
+// Sheet lines in and out: what each line says, and the order of lines. `order` is the machine over the lines. Crate `sheets_numbers` reads
+// the numbers of a sheet, `sheets_read` its lines, `sheets_lay` writes lines.
 use columns::SheetLine;
 use columns::Signed;
 use directory::Fields;

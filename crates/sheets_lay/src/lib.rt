@@ -144,7 +144,8 @@ pub fn put_entry(
     label: &[u8],
 ) -> usize
     requires { ⌜ at < 2 ^ 59 ⌝ }
-    ensures { λ r. ⌜ Wrote (now (out .entry)) at (lineOf (Line.entry known (sized false (number .0)) fields (now (label .entry))) ++ (newline ∷ [])) (now (out .exit)) r ⌝ }
+    ensures { λ r. ⌜ Wrote (now (out .entry)) at
+        (lineOf (Line.entry known (sized false (number .0)) fields (now (label .entry))) ++ (newline ∷ [])) (now (out .exit)) r ⌝ }
     ensures { λ r. ⌜ r ≤ at + length (now (label .entry)) + 380 ⌝ }
 {
     let m = mark_of(known);

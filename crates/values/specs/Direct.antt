@@ -23,7 +23,9 @@ longer (c ∷ cs) v k = cond (isDigit c && ltb v (10 ^ 16)) (longer cs (v * 10 +
 -- the number that the text at `at` begins with, with no 0 before it; it ends where it starts if there is none
 abbrev pub decimal : List ℕ → ℕ → Decimal
 decimal [] at = record { value = 0; end = at }
-decimal (c ∷ cs) at = cond (isDigit c) (cond (eqb c digit0) (record { value = 0; end = at + 1 }) (longer cs (c - digit0) (at + 1))) (record { value = 0; end = at })
+decimal (c ∷ cs) at =
+    cond (isDigit c) (cond (eqb c digit0) (record { value = 0; end = at + 1 }) (longer cs (c - digit0) (at + 1)))
+    (record { value = 0; end = at })
 
 -- ---- the limits
 
@@ -46,7 +48,8 @@ asReal neg m eneg e double = cond (isNormal neg m eneg e) (Is (Real neg m eneg e
 
 -- an exponent, which starts at k and is x
 abbrev pub byExponent : ℕ → ℕ → Decimal → Bool → ℕ → Bool → Bool → Strict
-byExponent n k x neg m eneg double = cond (eqb (x .end) k) Not (cond (eqb (x .end) n && (double || ltb 0 (x .value))) (asReal neg m eneg (x .value) double) Not)
+byExponent n k x neg m eneg double =
+    cond (eqb (x .end) k) Not (cond (eqb (x .end) n && (double || ltb 0 (x .value))) (asReal neg m eneg (x .value) double) Not)
 
 -- behind the letter of an exponent
 unfoldable pub behindLetter : List ℕ → Bool → ℕ → Bool → ℕ → Strict
@@ -69,7 +72,8 @@ behindCount l neg count i =
 -- behind the first digits, which end at i
 unfoldable pub behindDigits : List ℕ → Bool → ℕ → ℕ → Strict
 behindDigits l neg v i =
-    cond (eqb i (length l)) (asWhole neg v) (cond (eqb (getD l i 0) point) (behindPoint l neg v (i + 1)) (cond (eqb (getD l i 0) letterH) (behindCount l neg v (i + 1)) Not))
+    cond (eqb i (length l)) (asWhole neg v)
+    (cond (eqb (getD l i 0) point) (behindPoint l neg v (i + 1)) (cond (eqb (getD l i 0) letterH) (behindCount l neg v (i + 1)) Not))
 
 -- a sign or none, and x, which starts at a
 abbrev pub byDigits : List ℕ → Bool → ℕ → Decimal → Strict

@@ -46,7 +46,8 @@ tens (suc n) v = cond (eqb (v % 10) 0) (suc (tens n (v / 10))) 0
 
 -- an exponent of one to three digits, ten to up less down; else the first place that cannot go on with it
 abbrev pub powerOf : Bool → ℕ → ℕ → Bool → ℕ → ℕ → Power
-powerOf neg count x double from end = cond (leb 1 count && leb count 3) (cond neg (Of 0 x double end) (Of x 0 double end)) (Wrong (from + min count 3))
+powerOf neg count x double from end =
+    cond (leb 1 count && leb count 3) (cond neg (Of 0 x double end) (Of x 0 double end)) (Wrong (from + min count 3))
 
 -- the exponent behind its letter: a sign or none, and digits
 unfoldable pub power : List ℕ → ℕ → Bool → Power

@@ -29,7 +29,8 @@ numeral l Bad = Not
 
 -- a string, its head the first len characters: just count characters follow, no zero leads the count, all are bytes of 32..126
 abbrev pub string : List ℕ → ℕ → ℕ → Strict
-string l count len = cond (eqb (len + count) (length l) && (eqb len (length (head count)) && printable (drop len l))) (Is (Text len count)) Not
+string l count len =
+    cond (eqb (len + count) (length l) && (eqb len (length (head count)) && printable (drop len l))) (Is (Text len count)) Not
 
 -- by what the text begins with
 abbrev pub byHead : List ℕ → Head → Strict

@@ -1,11 +1,11 @@
-// One value of free format: an integer, a real, a string or a default.
-// Crate `values_read` reads a number or a string's head from the rest of a line, `values_spell` writes a value in its one spelling, `values_strict` reads
-// that spelling alone.
+// One value of free format: an integer, a real, a string or a default. Crate `values_read` reads a number or a string's head from the rest
+// of a line, `values_spell` writes a value in its one spelling, `values_strict` reads that spelling alone.
 
 ghost use mathlib.Core.Path.{_≡_};
 ghost use Rattle.values.specs.Value.{isMissing};
 
-// A value as it is read. A real is m times ten to plus or minus e; a string is where its characters stand in the record's text, and how many.
+// A value as it is read. A real is m times ten to plus or minus e; a string is where its characters stand in the record's text, and how
+// many.
 pub enum Value {
     Default,
     Whole {

@@ -246,8 +246,8 @@ pub fn strict(l: &[u8]) -> Strict
     Strict::Not
 }
 
-// How much of a value's spelling stands before a string's characters; of any other value all. An H ends a string's count, of one to three digits, and no
-// other spelling has one.
+// How much of a value's spelling stands before a string's characters; of any other value all. An H ends a string's count, of one to three
+// digits, and no other spelling has one.
 pub fn front_of(l: &[u8]) -> usize
     requires { ⌜ strictOf (now l) ≡ Is (meant (now l)) ⌝ }
     ensures { λ r. ⌜ r ≡ length (front (meant (now (l .entry)))) ⌝ }

@@ -40,7 +40,8 @@ vectorAt p at =
 -- it stands behind `at`, its parts in order, inside a pack of n bytes
 abbrev pub Lies : ℕ → ℕ → Packed → Type 0
 Lies at n Broken = Unit {0}
-Lies at n (Vector op list number place name input output end) = (at < name) × (name ≤ input) × (input ≤ output) × (output ≤ end) × (end ≤ n)
+Lies at n (Vector op list number place name input output end) =
+    (at < name) × (name ≤ input) × (input ≤ output) × (output ≤ end) × (end ≤ n)
 
 -- tried, passed
 abbrev pub tally : ℕ → ℕ → Score
@@ -56,4 +57,5 @@ pub data Tried (p : List ℕ) (room : ℕ) : ℕ → ℕ → ℕ → Score → T
   broken : {at n k : ℕ} → at < length p → vectorAt p at ≡ Broken → Tried p room at n k (tally n k)
   one : {at n k op list number place name input output end : ℕ} {r : Score} → at < length p
       → vectorAt p at ≡ Vector op list number place name input output end
-      → Tried p room end (n + 1) (k + scored op list number place (part p input output) (part p output end) room) r → Tried p room at n k r
+      → Tried p room end (n + 1) (k + scored op list number place (part p input output) (part p output end) room) r
+      → Tried p room at n k r

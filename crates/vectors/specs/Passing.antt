@@ -48,7 +48,8 @@ unfoldable pub wantsRoom : ℕ → ℕ → List ℕ → ℕ → ℕ → Bool
 wantsRoom op list input len room =
     let o = ran op list input in
     cond (eqb len 0) true
-    (leb len room && (isAnswer (answerOf (len - 1) o) (number Room) 0 len && untouched (leftIn (ready (len - 1)) o ++ ready (room - (len - 1)))))
+    (leb len room && (isAnswer (answerOf (len - 1) o) (number Room) 0 len
+    && untouched (leftIn (ready (len - 1)) o ++ ready (room - (len - 1)))))
 
 -- a vector passes, with a buffer of so many bytes at hand
 unfoldable pub passes : ℕ → ℕ → ℕ → ℕ → List ℕ → List ℕ → ℕ → Bool

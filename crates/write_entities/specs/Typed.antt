@@ -6,7 +6,8 @@ use Rattle.references.specs.References.{any, noEntry}
 use Rattle.values.specs.declared.Value.{Value}
 use Rattle.values.specs.declared.Value.the-variants.{Default, Whole, Real, Text}
 use Rattle.layouts.specs.declared.Kind.{Kind}
-use Rattle.layouts.specs.declared.Kind.the-variants.{R, Given, Weight, S, I, Flag, Count, Outer, Upper1, Upper2, Degree1, Degree2, P, Q, Bound, Rest}
+use Rattle.layouts.specs.declared.Kind.the-variants.{R, Given, Weight, S, I, Flag, Count, Outer, Upper1, Upper2, Degree1, Degree2, P, Q}
+use Rattle.layouts.specs.declared.Kind.the-variants.{Bound, Rest}
 use Rattle.write_lines.specs.Classes.{someAt}
 
 -- a place that asks what it names for a type
