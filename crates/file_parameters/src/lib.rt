@@ -112,8 +112,8 @@ pub fn put_block(
         × (from .0 + lineCount parameterColumns (length (recordText typ (itemsAt (now t) at))) ≤ 9999999) ⌝ }
     requires { ⌜ Unbroken (linesAt (now t) at) ⌝ }
     ensures { λ r. ⌜ now (out .exit)
-        ≡ laid (now (out .entry)) base (joined (section letterP (from .0) (blockLines (number .0) typ (itemsAt (now (t .entry)) at)))) ⌝
-            }
+        ≡ laid (now (out .entry)) base
+        (joined (section letterP (from .0) (blockLines (number .0) typ (itemsAt (now (t .entry)) at)))) ⌝ }
     ensures { λ r. ⌜ r .lines ≡ lineCount parameterColumns (length (recordText typ (itemsAt (now (t .entry)) at))) ⌝ }
     ensures { λ r. ⌜ linesAt (now (t .entry)) (r .next) ≡ behindValues (linesAt (now (t .entry)) at) ⌝ }
     ensures { λ r. ⌜ (at ≤ r .next) × (r .next ≤ length (now (t .entry))) ⌝ }

@@ -123,8 +123,8 @@ pub fn put_global_line(
 ) -> usize
     requires { ⌜ Stands (now file) base textColumns lines × Writable (lines * textColumns) v × (at < 2 ^ 59) ⌝ }
     ensures { λ r. ⌜ Wrote (now (out .entry)) at
-        (lineOf (Line.global n (itemOf (textOf (now (file .entry)) base textColumns lines) v)) ++ (newline ∷ [])) (now (out .exit)) r ⌝
-            }
+        (lineOf (Line.global n (itemOf (textOf (now (file .entry)) base textColumns lines) v)) ++ (newline ∷ []))
+        (now (out .exit)) r ⌝ }
     ensures { λ r. ⌜ r ≤ at + 1100 ⌝ }
 {
     let a = put_global_head(out, at, n, v);

@@ -48,8 +48,8 @@ fn put_start_line(out: &mut [u8], at: usize, file: &[u8], k: usize) -> usize
 // Those of the first s lines.
 pub fn put_starts(out: &mut [u8], at: usize, file: &[u8], s: usize) -> usize
     requires { ⌜ (lineBytes * s ≤ length (now file)) × (s ≤ mostLines) × (at < 2 ^ 59) ⌝ }
-    ensures { λ r. ⌜ Wrote (now (out .entry)) at (startBytes (map (startText (now (file .entry))) (upFrom 0 s))) (now (out .exit)) r ⌝
-        }
+    ensures { λ r. ⌜ Wrote (now (out .entry)) at
+        (startBytes (map (startText (now (file .entry))) (upFrom 0 s))) (now (out .exit)) r ⌝ }
     ensures { λ r. ⌜ r ≤ at + 75 * s ⌝ }
 {
     let mut next = at;
