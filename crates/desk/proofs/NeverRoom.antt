@@ -50,7 +50,7 @@ use Rattle.layouts.specs.declared.LayoutVerdict.{LayoutVerdict}
 use Rattle.layouts.specs.declared.LayoutVerdict.the-variants.{Good, Layout, LayoutReference}
 use Rattle.layouts.specs.Known.{known}
 use Rattle.layouts.specs.Entities.{Entity, fault, verdict, entityCheck}
-use Rattle.sheets.specs.declared.SheetVerdict.{LayoutVerdict as SheetVerdict}
+use Rattle.sheets.specs.declared.SheetVerdict.{SheetVerdict}
 use Rattle.sheets.specs.declared.SheetVerdict.the-variants.{Good as GoodSheet, Wrong as WrongSheet}
 use Rattle.sheets.specs.Sheet.{Sheet, linesIn, sheetOf}
 use Rattle.sheets.specs.Order.{readSheet, verdictOf, outcome as sheetOutcome}
