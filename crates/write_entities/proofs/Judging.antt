@@ -51,7 +51,7 @@ use Rattle.write_lines.specs.Lines.{passOf, Skipped}
 use Rattle.write_lines.specs.Heads.{saidEntity}
 use Rattle.write_entities.specs.Judging.{rightToo, judgedSo, judged, valuesOf, verdictIf, answerOf}
 use Rattle.write_lines.proofs.Lines.{lines-piece, lines-none, line-read, skipped-none}
-use Rattle.write_lines.proofs.Others.{no-values, entity-other}
+use Rattle.write_lines.proofs.Others.{entity-other}
 
 -- ---- one value
 
