@@ -4,17 +4,19 @@ use mathlib.Core.Bool.{Bool, true, false, cond, _||_}
 use mathlib.Core.List.{List, [], _∷_, _++_, map, append-assoc}
 use Prim.Native.Nat.{ℕ, zero, suc, _+_, _-_, _*_, _/_, _%_, _≤_, _<_}
 use native.Mathlib.Omega.{arith}
-use native.Mathlib.Decide.{ℕ-discrete}
+use native.Mathlib.Decide.{decLt, ℕ-discrete}
 use lib.ListN.{length, getD, drop, length-append}
 use lib.Seq.{take-append-seam, drop-append-add, drop-drop, getD-drop}
 use lib.Dec.{eqb}
-use borrow.Author.Tests.{ne-eqb, eqb-true}
+use borrow.Author.Tests.{eqb-true, le-leb, lt-leb}
 use Rattle.columns.specs.declared.Signed.{Signed}
 use Rattle.columns.specs.Columns.{columns}
-use Rattle.columns.specs.Decimal.{signedDec}
+use Rattle.columns.specs.Decimal.{dec, signedDec}
 use Rattle.columns.proofs.Columns.{columns-rest}
+use Rattle.columns.proofs.Decimals.{dec-byte, dec-some, print-signed}
 use Rattle.columns.proofs.Tests.{both-left, both-right}
 use Rattle.values.specs.Value.{isDefault}
+use Rattle.values.proofs.Digits.{dec-value}
 use Rattle.directory.specs.declared.Fields.{Fields}
 use Rattle.directory.specs.Fields.{inOrder}
 use Rattle.references.specs.References.{classOf, classAt}
@@ -22,19 +24,20 @@ use Rattle.references.proofs.Classes.{class-at}
 use Rattle.sheets.specs.declared.SheetState.{SheetState}
 use Rattle.sheets.specs.declared.SheetStep.the-variants.{On}
 use Rattle.sheets.specs.declared.SheetVerdict.the-variants.{Good}
-use Rattle.sheets.specs.Plain.{sized}
+use Rattle.columns.specs.Format.{mostInteger}
+use Rattle.sheets.specs.Plain.{sized, plainOf}
 use Rattle.sheets.specs.Line.{run, spell, spells, entryLine}
-use Rattle.sheets.specs.Folds.{signedFold, entryFold}
+use Rattle.sheets.specs.Folds.{plainFold}
 use Rattle.sheets.specs.Sheet.{Line, start, global, entry, value, last, none, into, piecesOf, saidBy, saidByAll, linesIn, lineOf, textOf}
 use Rattle.sheets.specs.Order.{begin, stepLine, goLines, verdictOf}
-use Rattle.sheets.proofs.Digits.{signed-round}
-use Rattle.sheets.proofs.Folds.{signed-fold}
-use Rattle.sheets.proofs.Round.{Fits, eight, plain, cons, no-spell, run-field}
+use Rattle.sheets.proofs.Digits.{plain-round, plain-back}
+use Rattle.sheets.proofs.Folds.{tells-good, plain-fold}
+use Rattle.sheets.proofs.Round.{No, Fits, eight, plain, cons, no-plain, no-dec, run-field}
 use Rattle.sheets.proofs.Says.{pieces-lf, pieces-on, pieces-some, lines-more, AllWell, no-lines, a-line, w-start, w-global, w-entry, w-value, w-last, own, text-back}
 use Rattle.sheets.proofs.Takes.{start-inv, global-inv, entry-inv, value-inv, last-inv, none-inv, go-inv, all-said}
 use Rattle.sheets_rows.specs.Rows.{typesIn}
 use Rattle.write_lines.specs.Classes.{sheetTypes}
-use Rattle.write_lines.specs.Shown.{beginsEntry, EntryAt, tabbedNumber}
+use Rattle.write_lines.specs.Shown.{beginsEntry, EntryAt, plainAt, plainClass}
 
 -- ---- a text is cut behind any LF of it
 
@@ -126,31 +129,32 @@ never h =
     let z : _≡_ {A = ℕ} 0 1 = ap (λ (b : Bool). cond b 1 0) h in
     omega arith
 
-spelt-plain : (left : ℕ) (x : Signed) → (left ≡ 3 → ⊥) → entryFold left (spell left x) ≡ signedFold (signedDec x)
-unfolding entryFold spell
-spelt-plain left x h = simp (ne-eqb _ _ h)
+plain-dec : (n : ℕ) → n ≤ mostInteger → plainFold (dec n) ≡ n
+plain-dec n h = plain-fold (dec n) .same (plain-round n h) ∙ dec-value n
 
-number-read : {left : ℕ} {x : Signed} → Fits left x → (left ≡ 3 → ⊥) → entryFold left (spell left x) ≡ x
-number-read (eight n h) d = absurd (d refl)
-number-read (plain {left} {x} h p) d =
-    let r = signed-round (x .neg) (x .size) (p .small) (p .minus) in
-    spelt-plain left x h ∙ signed-fold (signedDec x) .same (r .0) ∙ r .1
+-- what reads as a plain number was spelt without a minus
+plain-signed : (b : Bool) (n : ℕ) → plainFold (signedDec (sized b n)) ≤ mostInteger → plainFold (signedDec (sized b n)) ≡ n
+unfolding signedDec
+plain-signed true n h =
+    let e : dec (plainOf (45 ∷ dec n)) ≡ 45 ∷ dec n = plain-back (45 ∷ dec n) (tells-good (plain-fold (45 ∷ dec n)) h .0) .0 in
+    absurd (omega (arith, dec-byte (plainOf (45 ∷ dec n)) 0 (dec-some _), ap (λ (l : List ℕ). getD l 0 0) e))
+plain-signed false n h = tells-good (plain-fold (dec n)) h .1 ∙ dec-value n
 
--- a number and the tab behind it, as they are read
-module _ (t : List ℕ) (i left : ℕ) (x : Signed) (rest : List ℕ) (f : Fits left x) (d : left ≡ 3 → ⊥) (e : drop i t ≡ spell left x ++ (9 ∷ rest)) (end : ℕ) (en : end ≡ i + run 9 (columns t i (length t))) where
-  tab-at : end ≡ i + length (spell left x)
-  tab-at = en ∙ ap (λ (l : List ℕ). i + run 9 l) (columns-rest t i ∙ e) ∙ ap (λ (k : ℕ). i + k) (run-field (no-spell 9 (omega arith) f) rest)
+-- a text up to the tab behind it
+module _ (t : List ℕ) (i : ℕ) (f rest : List ℕ) (no : No 9 f) (e : drop i t ≡ f ++ (9 ∷ rest)) (end : ℕ) (en : end ≡ i + run 9 (columns t i (length t))) where
+  tab-at : end ≡ i + length f
+  tab-at = en ∙ ap (λ (l : List ℕ). i + run 9 l) (columns-rest t i ∙ e) ∙ ap (λ (k : ℕ). i + k) (run-field no rest)
 
-  number-there : entryFold left (columns t i end) ≡ x
+  text-there : columns t i end ≡ f
   unfolding columns
-  number-there =
-      let k : end - i ≡ length (spell left x) = omega (arith, tab-at) in
-      rw (k, e, take-append-seam (spell left x) (9 ∷ rest)) (number-read f d)
+  text-there =
+      let k : end - i ≡ length f = omega (arith, tab-at) in
+      rw (k, e) (take-append-seam f (9 ∷ rest))
 
   rest-there : drop (end + 1) t ≡ rest
   rest-there =
-      let k : end + 1 ≡ i + (length (spell left x) + 1) = omega (arith, tab-at) in
-      rw k (sym (drop-drop (length (spell left x) + 1) i t) ∙ rw e (drop-append-add (spell left x) (9 ∷ rest) 1))
+      let k : end + 1 ≡ i + (length f + 1) = omega (arith, tab-at) in
+      rw k (sym (drop-drop (length f + 1) i t) ∙ rw e (drop-append-add f (9 ∷ rest) 1))
 
 -- a text of lines that begins as an entry's line does
 record Headed (ls : List Line) (u : List ℕ) : Type 0 where
@@ -161,13 +165,16 @@ record Headed (ls : List Line) (u : List ℕ) : Type 0 where
   others : List Line
   rest : List ℕ
   first : ls ≡ entry known number fields label ∷ others
-  fits : Fits 12 number
-  too : Fits 11 (fields .entity)
-  text : drop 2 u ≡ spell 12 number ++ (9 ∷ (spell 11 (fields .entity) ++ (9 ∷ rest)))
+  small : number .size ≤ mostInteger
+  text : drop 2 u ≡ dec (number .size) ++ (9 ∷ (signedDec (fields .entity) ++ (9 ∷ rest)))
 
-two-spelt : (x y : Signed) (xs : List Signed) → spells 13 (x ∷ (y ∷ xs)) ≡ spell 12 x ++ (9 ∷ (spell 11 y ++ (9 ∷ spells 11 xs)))
-unfolding spells
-two-spelt x y xs = refl
+two-spelt : (n : ℕ) (y : Signed) (xs : List Signed) → spells 13 (sized false n ∷ (y ∷ xs)) ≡ dec n ++ (9 ∷ (signedDec y ++ (9 ∷ spells 11 xs)))
+unfolding spells spell signedDec
+two-spelt n y xs = refl
+
+small-number : {left : ℕ} {x : Signed} → Fits left x → x .size ≤ mostInteger
+small-number (eight n h) = omega arith
+small-number (plain d p) = p .small
 
 parted : (p q r label more : List ℕ) → ((p ++ (9 ∷ (q ++ (9 ∷ r)))) ++ label) ++ more ≡ p ++ (9 ∷ (q ++ (9 ∷ (r ++ (label ++ more)))))
 parted p q r label more = simp append-assoc
@@ -177,23 +184,18 @@ unfolding textOf lineOf entryLine
 headed no-lines h = absurd (never h)
 headed (a-line (w-start s) a) h = absurd (never h)
 headed (a-line (w-global f) a) h = absurd (never h)
-headed (a-line {is = is} (w-entry {known} {n} {e} {label} z (cons f (cons g fs)) l) a) h = record {
+headed (a-line {is = is} (w-entry {known} {n} {e} {label} z (cons f fs) l) a) h = record {
   known = known;
   number = n;
   fields = e;
   label = label;
   others = is;
-  rest = behind;
+  rest = spells 11 (drop 1 (inOrder e)) ++ (label ++ (10 ∷ textOf is));
   first = refl;
-  fits = f;
-  too = g;
-  text = ap (λ (l : List ℕ). (l ++ label) ++ (10 ∷ textOf is)) (two-spelt (sized false (n .size)) (e .entity) (drop 1 (inOrder e)))
-      ∙ parted (spell 12 (sized false (n .size))) (spell 11 (e .entity)) (spells 11 (drop 1 (inOrder e))) label (10 ∷ textOf is)
-      ∙ ap (λ (m : Signed). spell 12 m ++ (9 ∷ (spell 11 (e .entity) ++ (9 ∷ behind)))) (own n z);
+  small = small-number f;
+  text = ap (λ (l : List ℕ). (l ++ label) ++ (10 ∷ textOf is)) (two-spelt (n .size) (e .entity) (drop 1 (inOrder e)))
+      ∙ parted (dec (n .size)) (signedDec (e .entity)) (spells 11 (drop 1 (inOrder e))) label (10 ∷ textOf is);
 }
-  where
-    behind : List ℕ
-    behind = spells 11 (drop 1 (inOrder e)) ++ (label ++ (10 ∷ textOf is))
 headed (a-line (w-value {reference = true} p) a) h = absurd (never h)
 headed (a-line (w-value {reference = false} p) a) h = absurd (never h)
 headed (a-line (w-last q) a) h = absurd (never h)
@@ -227,12 +229,27 @@ module _ (t : List ℕ) (at : ℕ) (e : EntryAt t at) where
       let b : getD (drop at t) 0 0 ≡ getD t at 0 = rw z at (getD-drop at t 0 0) in
       rw (spelt-here .1) at (headed (spelt-here .0) (rw (spelt-here .1, b) (both-left (eqb (getD t at 0) 69 || eqb (getD t at 0) 85) (eqb (getD t (at - 1) 0) 10) (e .begins))))
 
-  pub class-shown : (tab : ℕ) (m : Signed) → tab ≡ at + 2 + run 9 (columns t (at + 2) (length t)) → m ≡ entryFold 12 (columns t (at + 2) tab)
-      → classOf (tabbedNumber 11 t (tab + 1) .size) ≡ classAt (sheetTypes t) (m .size)
-  unfolding tabbedNumber
-  class-shown tab m et em =
-      let s : drop (at + 2) t ≡ spell 12 (heads .number) ++ (9 ∷ (spell 11 (heads .fields .entity) ++ (9 ∷ heads .rest))) = sym (drop-drop 2 at t) ∙ heads .text in
-      let r : drop (tab + 1) t ≡ spell 11 (heads .fields .entity) ++ (9 ∷ heads .rest) = rest-there t (at + 2) 12 (heads .number) _ (heads .fits) (omega arith) s tab et in
-      let em′ : m ≡ heads .number = em ∙ number-there t (at + 2) 12 (heads .number) _ (heads .fits) (omega arith) s tab et in
-      let y : tabbedNumber 11 t (tab + 1) ≡ heads .fields .entity = number-there t (tab + 1) 11 (heads .fields .entity) (heads .rest) (heads .too) (omega arith) r _ refl in
-      rw (em′, y) (class-there (heads .known) (heads .number) (heads .fields) (heads .label) (heads .others) t (e .entries) before (e .good) (from-here ∙ ap (λ (ls : List Line). before ++ ls) (heads .first)))
+  -- the type, if it was read as a plain number
+  typed : (r : ℕ) → r ≡ plainClass (plainFold (signedDec (heads .fields .entity))) → (r ≡ 0 → ⊥) → r ≡ classOf (heads .fields .entity .size)
+  unfolding plainClass
+  typed r er h = elim (decLt mostInteger y) [
+    | yes g ↦ absurd (h (er ∙ rw (lt-leb y mostInteger g)))
+    | no g ↦ er ∙ rw (le-leb y mostInteger (omega arith)) (ap classOf (plain-signed (heads .fields .entity .neg) (heads .fields .entity .size) (omega arith)))
+  ]
+    where
+      y : ℕ
+      y = plainFold (signedDec (heads .fields .entity))
+
+  pub class-shown : (tab m r : ℕ) → tab ≡ at + 2 + run 9 (columns t (at + 2) (length t)) → m ≡ plainFold (columns t (at + 2) tab) → r ≡ plainClass (plainAt t (tab + 1)) → (r ≡ 0 → ⊥)
+      → r ≡ classAt (sheetTypes t) m
+  unfolding plainAt
+  class-shown tab m r et em er h =
+      let first : List ℕ = dec (heads .number .size) in
+      let next : List ℕ = signedDec (heads .fields .entity) in
+      let tabless : No 9 first = no-dec 9 (omega arith) (heads .number .size) in
+      let s : drop (at + 2) t ≡ first ++ (9 ∷ (next ++ (9 ∷ heads .rest))) = sym (drop-drop 2 at t) ∙ heads .text in
+      let d : drop (tab + 1) t ≡ next ++ (9 ∷ heads .rest) = rest-there t (at + 2) first _ tabless s tab et in
+      let n : m ≡ heads .number .size = em ∙ ap plainFold (text-there t (at + 2) first _ tabless s tab et) ∙ plain-dec (heads .number .size) (heads .small) in
+      let y : plainAt t (tab + 1) ≡ plainFold next = ap plainFold (text-there t (tab + 1) next (heads .rest) (no-plain 9 (omega arith) next (print-signed (heads .fields .entity))) d _ refl) in
+      let c = class-there (heads .known) (heads .number) (heads .fields) (heads .label) (heads .others) t (e .entries) before (e .good) (from-here ∙ ap (λ (ls : List Line). before ++ ls) (heads .first)) in
+      typed r (er ∙ ap plainClass y) h ∙ c ∙ ap (classAt (sheetTypes t)) (sym n)

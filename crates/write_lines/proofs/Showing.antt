@@ -1,5 +1,5 @@
 -- A line that was found by a guess counts if it shows the number asked for. Assumes nothing.
-use mathlib.Core.Path.{_≡_, refl, sym, ap, _∙_}
+use mathlib.Core.Path.{_≡_, refl, sym, _∙_}
 use mathlib.Core.Bool.{Bool, true, false}
 use mathlib.Core.List.{List}
 use Prim.Native.Nat.{ℕ, _+_, _-_, _*_, _/_, _^_, _≤_, _<_}
@@ -7,14 +7,14 @@ use native.Mathlib.Omega.{arith}
 use native.Mathlib.Nat.{mul-le-mul-left, mul-le-mul-right, div-mul-le-self}
 use lib.ListN.{length, getD}
 use lib.Dec.{eqb}
-use borrow.Author.Tests.{eq-eqb, ne-eqb}
-use Rattle.columns.specs.declared.Signed.{Signed}
+use borrow.Author.Tests.{eq-eqb, ne-eqb, le-leb, lt-leb}
 use Rattle.columns.specs.Columns.{columns}
 use Rattle.references.specs.References.{classOf}
 use Rattle.sheets.specs.Line.{run}
-use Rattle.sheets.specs.Folds.{entryFold}
+use Rattle.columns.specs.Format.{mostInteger}
+use Rattle.sheets.specs.Folds.{unread, sizeFrom}
 use Rattle.write_lines.specs.Classes.{Tabled}
-use Rattle.write_lines.specs.Shown.{beginsEntry, EntryAt, tabbedNumber, Shown}
+use Rattle.write_lines.specs.Shown.{beginsEntry, EntryAt, plainAt, plainClass, Shown}
 use Rattle.write_lines.proofs.Numbered.{class-shown}
 
 -- ---- places are within the sheet
@@ -28,8 +28,8 @@ part-within q n h =
 module _ (bytes all some : ℕ) (few : some < all) where
   share-within : 256 * bytes / all * some ≤ 256 * bytes
   share-within =
-      let most : 256 * bytes / all * some ≤ 256 * bytes / all * all = mul-le-mul-left (256 * bytes / all) (omega arith) in
-      omega (arith, most, div-mul-le-self (256 * bytes) all)
+      let mostInteger : 256 * bytes / all * some ≤ 256 * bytes / all * all = mul-le-mul-left (256 * bytes / all) (omega arith) in
+      omega (arith, mostInteger, div-mul-le-self (256 * bytes) all)
 
   pub share-fits : 256 * bytes < 2 ^ 64 → 256 * bytes / all * some < 2 ^ 64
   share-fits h = omega (arith, share-within)
@@ -60,15 +60,20 @@ pub line-none : (t : List ℕ) (number : ℕ) → Shown t number 0
 line-none t number = record { so = λ h. absurd (h refl) }
 
 -- the type, as it was read
-pub type-read : (t : List ℕ) (at end : ℕ) (y : Signed) (r : ℕ) → r ≡ classOf (y .size) → end ≡ at + run 9 (columns t at (length t)) → y ≡ entryFold 11 (columns t at end) → r ≡ classOf (tabbedNumber 11 t at .size)
-unfolding tabbedNumber
-type-read t at end y r er ee ey = er ∙ ap (λ (x : Signed). classOf (x .size)) (ey ∙ ap (λ (k : ℕ). entryFold 11 (columns t at k)) ee)
+module _ (t : List ℕ) (at end y : ℕ) (ee : end ≡ at + run 9 (columns t at (length t))) (ey : y ≡ sizeFrom unread (columns t at end)) where
+  pub type-plain : y ≤ mostInteger → (r : ℕ) → r ≡ classOf y → r ≡ plainClass (plainAt t at)
+  unfolding plainAt plainClass
+  type-plain h r er = rw (← ee, ← ey, le-leb y mostInteger h) er
+
+  pub type-not : mostInteger < y → 0 ≡ plainClass (plainAt t at)
+  unfolding plainAt plainClass
+  type-not h = rw (← ee, ← ey, lt-leb y mostInteger h)
 
 pub entry-at : (classes : List ℕ) (n : ℕ) (t : List ℕ) (at : ℕ) → Tabled classes n t → 1 ≤ at → 2 ≤ length t - at → (b : Bool) → b ≡ beginsEntry (getD t (at - 1) 0) (getD t at 0) → b ≡ true → EntryAt t at
 entry-at classes n t at made some two b eb tr = record { entries = n; good = made .good; some = some; two = omega arith; begins = sym eb ∙ tr }
 
-pub line-shown : (t : List ℕ) (at tab : ℕ) (m : Signed) (number r : ℕ) → EntryAt t at → r ≡ classOf (tabbedNumber 11 t (tab + 1) .size) → tab ≡ at + 2 + run 9 (columns t (at + 2) (length t))
-    → m ≡ entryFold 12 (columns t (at + 2) tab) → m .size ≡ number → Shown t number r
-line-shown t at tab m number r e er et em so = record { so = λ h. er ∙ class-shown t at e tab m et em ∙ rw so }
+pub line-shown : (t : List ℕ) (at tab m number r : ℕ) → EntryAt t at → r ≡ plainClass (plainAt t (tab + 1)) → tab ≡ at + 2 + run 9 (columns t (at + 2) (length t)) → m ≡ sizeFrom unread (columns t (at + 2) tab)
+    → m ≡ number → Shown t number r
+line-shown t at tab m number r e er et em so = record { so = λ h. class-shown t at e tab m r et em er h ∙ rw so }
 
-pub ruleset shows = (line-none, type-read, entry-at, line-shown)
+pub ruleset shows = (line-none, type-plain, type-not, entry-at, line-shown)

@@ -1,18 +1,18 @@
 -- The code's form: what a line shows of the entry with a directory number, where it was found by a guess.
 use mathlib.Core.Path.{_≡_}
-use mathlib.Core.Bool.{Bool, true, _&&_, _||_}
+use mathlib.Core.Bool.{Bool, true, cond, _&&_, _||_}
 use mathlib.Core.List.{List}
 use Prim.Native.Nat.{ℕ, _+_, _-_, _≤_}
 use lib.ListN.{length, getD}
-use lib.Dec.{eqb}
-use Rattle.columns.specs.declared.Signed.{Signed}
+use lib.Dec.{leb, eqb}
 use Rattle.columns.specs.Columns.{columns}
+use Rattle.columns.specs.Format.{mostInteger}
 use Rattle.columns.specs.Letters.{tab, newline, letterE, letterU}
 use Rattle.sheets.specs.Line.{run}
-use Rattle.sheets.specs.Folds.{entryFold}
+use Rattle.sheets.specs.Folds.{plainFold}
 use Rattle.sheets.specs.declared.SheetVerdict.the-variants.{Good}
 use Rattle.sheets.specs.Order.{verdictOf}
-use Rattle.references.specs.References.{noEntry, classAt}
+use Rattle.references.specs.References.{noEntry, classOf, classAt}
 use Rattle.write_lines.specs.Classes.{sheetTypes}
 
 -- b begins an entry's line: E (69) or U (85), behind an LF (10)
@@ -27,9 +27,13 @@ pub record EntryAt (t : List ℕ) (at : ℕ) : Type 0 where
   pub two : at + 2 ≤ length t
   pub begins : beginsEntry (getD t (at - 1) 0) (getD t at 0) ≡ true
 
--- the number of an entry line from `at` on, up to the next tab (9); so many others follow it
-unfoldable pub tabbedNumber : ℕ → List ℕ → ℕ → Signed
-tabbedNumber left t at = entryFold left (columns t at (at + run tab (columns t at (length t))))
+-- the plain number from `at` on, up to the next tab (9)
+unfoldable pub plainAt : List ℕ → ℕ → ℕ
+plainAt t at = plainFold (columns t at (at + run tab (columns t at (length t))))
+
+-- the class of a type that is a plain number
+unfoldable pub plainClass : ℕ → ℕ
+plainClass typ = cond (leb typ mostInteger) (classOf typ) noEntry
 
 -- if any class was found, it is that of the entry with this number
 pub record Shown (t : List ℕ) (number r : ℕ) : Type 0 where

@@ -10,13 +10,15 @@ use crate::table::PARTS;
 use columns::DirectoryNumber;
 use columns::byte_u32;
 use references::NO_ENTRY;
-use sheets_numbers::tabbed_at;
+use sheets_numbers::MOST;
+use sheets_numbers::UNREAD;
+use sheets_numbers::find;
+use sheets_numbers::size_at;
 ghost use mathlib.Core.Path.{_≡_};
 ghost use Prim.Native.Nat.{_+_, _-_, _*_, _^_, _≤_, _<_};
 ghost use lib.ListN.{length};
-ghost use Rattle.references.specs.References.{classOf};
 ghost use Rattle.write_lines.specs.Classes.{tableSize, Tabled};
-ghost use Rattle.write_lines.specs.Shown.{beginsEntry, EntryAt, tabbedNumber, Shown};
+ghost use Rattle.write_lines.specs.Shown.{beginsEntry, EntryAt, plainAt, plainClass, Shown};
 
 // What the table tells of part q, in four bytes.
 fn told(table: &[u8], q: usize) -> DirectoryNumber
@@ -228,29 +230,32 @@ fn seek(table: &[u8], t: &[u8], number: DirectoryNumber) -> usize
     search_by(t, from, stop, place, number)
 }
 
-// The class of the entry whose type stands from `at` on, with eleven numbers behind it.
+// The class of the entry whose type stands from `at` on, if that has no sign: no rule lets one pass that has.
 fn class_typed(t: &[u8], at: usize) -> u8
     requires { ⌜ at ≤ length (now t) ⌝ }
-    ensures { λ r. ⌜ r ≡ classOf (tabbedNumber 11 (now (t .entry)) at .size) ⌝ }
+    ensures { λ r. ⌜ r ≡ plainClass (plainAt (now (t .entry)) at) ⌝ }
 {
-    let next = tabbed_at(t, 11, at, t.len());
-    let typ = next.number;
-    references::class_of(typ.size)
+    let tab = find(t, b'\t', at, t.len());
+    let typ = size_at(t, UNREAD, at, tab);
+    if MOST < typ {
+        return NO_ENTRY;
+    }
+    references::class_of(typ as u32)
 }
 
-// The class of the entry whose line begins at `at`, if it has this number: the line shows its number first, then its type.
+// The class of the entry whose line begins at `at`, if it has this number: the line shows its number first, then its type. No more of it is
+// read: the sheet is known to be good.
 fn class_if(t: &[u8], at: usize, number: DirectoryNumber) -> u8
     requires { ⌜ EntryAt (now t) at ⌝ }
     ensures { λ r. ⌜ Shown (now (t .entry)) (number .0) r ⌝ }
 {
     let size = t.len();
-    let shown = tabbed_at(t, 12, at + 2, size);
-    let tab = shown.end;
-    let this = shown.number;
-    if this.size != number.0 {
+    let tab = find(t, b'\t', at + 2, size);
+    if tab == size {
         return NO_ENTRY;
     }
-    if tab == size {
+    let shown = size_at(t, UNREAD, at + 2, tab);
+    if shown != number.0 as u64 {
         return NO_ENTRY;
     }
     class_typed(t, tab + 1)

@@ -1,4 +1,4 @@
--- The class of the type that is read.
+-- The class of the type that is read, if that is a plain number.
 use borrow.Author.Needs.{needs}
 use Rattle.write_lines.proofs.Showing.{shows}
 use Rattle.write_lines.proofs.far.class_typed.Statement.{statement}
@@ -9,5 +9,8 @@ class-typed-spec =
     tie.close
     (tie.spec
     (λ c κs. search (needs, shows))
+    (λ c κs. search (needs, shows))
+    (λ c. search (needs, shows))
+    (λ c. search (needs, shows))
     (λ c κs. search (needs, shows))
     (λ c. search (needs, shows)))
