@@ -91,7 +91,7 @@ module _ (list : ℕ) (f : List ℕ) (b : Before) (ys : List Carried) (p : Passe
       let k : length (map listedType (b .listed)) ≡ entries c
       = length-map (b .listed) listedType ∙ ap length (p .listed) ∙ length-map (upFrom 0 (entries c)) (entryOf f c) ∙ length-upFrom (entries c) 0 in
       let n : length ys ≡ entries c = sym l ∙ ap length types-kept ∙ k in
-      omega (arith, meets .holds .mostInteger)
+      omega (arith, meets .holds .most)
 
   model-fits : list ≤ mostList → Fits list (modelWith f c (b .global) ys)
   model-fits h =

@@ -11,7 +11,7 @@ use Rattle.columns.specs.Columns.{columns}
 use Rattle.columns.specs.Fixed.{fieldOf}
 use Rattle.vectors.specs.declared.Packed.{Packed}
 use Rattle.vectors.specs.declared.Packed.the-variants.{Vector, Broken}
-use Rattle.vectors.specs.declared.Score.{Score}
+use Rattle.vectors.specs.declared.Results.{Results}
 use Rattle.vectors.specs.Passing.{scored}
 use Rattle.vectors.specs.Packs.{headBytes, numberAt, vectorAt, part, Lies, tally, Tried, over, broken, one}
 
@@ -86,7 +86,7 @@ pub ruleset vectors = (vector-short, vector-cut, vector-whole)
 -- ---- the vectors up to `at` were tried: what comes of those behind comes of all
 
 pub record Leads (p : List ℕ) (room at n k : ℕ) : Type 0 where
-  on : (r : Score) → Tried p room at n k r → Tried p room 0 0 0 r
+  on : (r : Results) → Tried p room at n k r → Tried p room 0 0 0 r
 
 pub leads-start : (p : List ℕ) (room : ℕ) → Leads p room 0 0 0
 leads-start p room = record { on = λ r t. t }

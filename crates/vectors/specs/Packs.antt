@@ -11,7 +11,7 @@ use Rattle.columns.specs.Columns.{columns}
 use Rattle.columns.specs.Fixed.{fieldOf}
 use Rattle.vectors.specs.declared.Packed.{Packed}
 use Rattle.vectors.specs.declared.Packed.the-variants.{Vector, Broken}
-use Rattle.vectors.specs.declared.Score.{Score}
+use Rattle.vectors.specs.declared.Results.{Results}
 use Rattle.vectors.specs.Passing.{scored}
 
 -- seven numbers of eight digits and an LF
@@ -44,7 +44,7 @@ Lies at n (Vector op list number place name input output end) =
     (at < name) × (name ≤ input) × (input ≤ output) × (output ≤ end) × (end ≤ n)
 
 -- tried, passed
-abbrev pub tally : ℕ → ℕ → Score
+abbrev pub tally : ℕ → ℕ → Results
 tally tried passed = record { tried = tried; passed = passed }
 
 -- a part of it
@@ -52,10 +52,10 @@ abbrev pub part : List ℕ → ℕ → ℕ → List ℕ
 part p from to = take (to - from) (drop from p)
 
 -- what comes of the vectors from `at` on, where so many were tried and passed before; a broken one ends it
-pub data Tried (p : List ℕ) (room : ℕ) : ℕ → ℕ → ℕ → Score → Type 0 where
+pub data Tried (p : List ℕ) (room : ℕ) : ℕ → ℕ → ℕ → Results → Type 0 where
   over : {at n k : ℕ} → length p ≤ at → Tried p room at n k (tally n k)
   broken : {at n k : ℕ} → at < length p → vectorAt p at ≡ Broken → Tried p room at n k (tally n k)
-  one : {at n k op list number place name input output end : ℕ} {r : Score} → at < length p
+  one : {at n k op list number place name input output end : ℕ} {r : Results} → at < length p
       → vectorAt p at ≡ Vector op list number place name input output end
       → Tried p room end (n + 1) (k + scored op list number place (part p input output) (part p output end) room) r
       → Tried p room at n k r

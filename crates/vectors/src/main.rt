@@ -33,7 +33,7 @@ pub enum Packed {
 const PACK: usize = 524288;
 
 // How many vectors were tried, and how many passed.
-struct Score {
+struct Results {
     tried: u64,
     passed: u64,
 }
@@ -87,7 +87,7 @@ fn score(
 }
 
 // All vectors of a pack.
-fn all(p: &[u8], out: &mut [u8]) -> Score
+fn all(p: &[u8], out: &mut [u8]) -> Results
     ensures { λ r. ⌜ Tried (now (p .entry)) (length (now (out .entry))) 0 0 0 r ⌝ }
 {
     let mut tried: u64 = 0;
@@ -97,7 +97,7 @@ fn all(p: &[u8], out: &mut [u8]) -> Score
         match vector_at(p, at) {
             Packed::Broken => {
                 blame(b"a broken pack");
-                return Score { tried, passed };
+                return Results { tried, passed };
             }
             Packed::Vector {
                 op,
@@ -124,7 +124,7 @@ fn all(p: &[u8], out: &mut [u8]) -> Score
             }
         }
     }
-    Score { tried, passed }
+    Results { tried, passed }
 }
 
 fn main() {
