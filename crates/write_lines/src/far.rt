@@ -2,10 +2,10 @@
 // the sheet's bytes, the number of the first entry that starts there or behind. Where it leads is a guess, of which nothing is proved
 // but that it is a place in the sheet: the line that stands there shows its number, and only then counts (`class_shown`). So the
 // contract does not hang on the table, and `table` counts off an entry that is not found. In a table that `write_check` filled none is
-// missed. The part is found in fourteen looks at the table. In the part entries are looked for where they would be if all were equally
-// long: then the first line looked at is the one. If it isn't, the side of it on which the entry must be is halved down to 256 bytes,
-// and these are walked over. No byte of the part is gone over twice but those of the lines' numbers, so that a look-up costs at most a
-// dozen such looks and the bytes of one part, whatever the entries' lengths are.
+// missed. The part is found in fourteen looks at the table. In the part an entry is looked for where it would stand if all were equally
+// long: then the first line looked at is the one. If it isn't, a second guess is made on the side of it where the entry must be; what is
+// then left is halved down to 256 bytes, and these are walked over. What a look goes over to the next line is never gone over again, so
+// that a look-up costs at most the bytes of one part and some looks more than its length can be halved, whatever the entries' lengths are.
 use crate::table::PARTS;
 use columns::DirectoryNumber;
 use columns::byte_u32;
@@ -109,27 +109,62 @@ fn share(bytes: usize, all: usize, some: usize) -> usize
     each * some / 256
 }
 
-// Where in a part the entry with this number stands if all that start in it are equally long: `first` is the first of them, `last` the
-// first behind them.
-fn guess(
+// Bytes of a sheet, with the number of the first entry that starts among them and that of the first behind them.
+struct Span {
     from: usize,
     stop: usize,
     first: DirectoryNumber,
     last: DirectoryNumber,
-    number: DirectoryNumber,
-) -> usize
-    requires { ⌜ (from ≤ stop) × (256 * (stop - from) < 2 ^ 64) ⌝ }
-    ensures { λ r. ⌜ (from ≤ r) × (r ≤ stop) ⌝ }
+}
+
+fn span_of(from: usize, stop: usize, first: DirectoryNumber, last: DirectoryNumber) -> Span
+    ensures { λ r. ⌜ (r .from ≡ from) × (r .stop ≡ stop) ⌝ }
 {
+    Span {
+        from,
+        stop,
+        first,
+        last,
+    }
+}
+
+// Where in a span the entry with this number stands if all that start in it are equally long.
+fn guess(s: Span, number: DirectoryNumber) -> usize
+    requires { ⌜ (s .from ≤ s .stop) × (256 * (s .stop - s .from) < 2 ^ 64) ⌝ }
+    ensures { λ r. ⌜ (s .from ≤ r) × (r ≤ s .stop) ⌝ }
+{
+    let first = s.first;
+    let last = s.last;
     if number.0 < first.0 {
-        return from;
+        return s.from;
     }
     if last.0 <= number.0 {
-        return from;
+        return s.from;
     }
     let all = (last.0 - first.0) as usize;
     let some = (number.0 - first.0) as usize;
-    from + share(stop - from, all, some)
+    s.from + share(s.stop - s.from, all, some)
+}
+
+// The side of the line behind the guess on which the entry with this number must be; it begins with that line if that is the one.
+fn closer(t: &[u8], s: Span, number: DirectoryNumber) -> Span
+    requires { ⌜ (1 ≤ s .from) × (s .from ≤ s .stop) × (s .stop ≤ length (now t)) × (256 * (s .stop - s .from) < 2 ^ 64) ⌝ }
+    ensures { λ r. ⌜ (s .from ≤ r .from) × (r .from ≤ r .stop) × (r .stop ≤ s .stop) ⌝ }
+{
+    let from = s.from;
+    let stop = s.stop;
+    let first = s.first;
+    let last = s.last;
+    let place = guess(s, number);
+    let found = entry_behind(t, place, stop);
+    if found == stop {
+        return span_of(from, place, first, last);
+    }
+    let shown = number_at(t, found);
+    if number.0 < shown.0 {
+        return span_of(from, place, first, shown);
+    }
+    span_of(found, stop, shown, last)
 }
 
 // A place from which on the entry with this number is to be found before `stop`, and near it, if it starts from `from` on.
@@ -172,32 +207,23 @@ fn walk_to(t: &[u8], from: usize, stop: usize, number: DirectoryNumber) -> usize
     stop
 }
 
-// Where the entry with this number starts between the two, or `stop`.
-fn search(t: &[u8], from: usize, stop: usize, number: DirectoryNumber) -> usize
-    requires { ⌜ (from ≤ stop) × (stop ≤ length (now t)) × (1 ≤ from) ⌝ }
-    ensures { λ r. ⌜ (1 ≤ r) × (r ≤ stop) ⌝ }
+// Where the entry with this number starts in a span, or its end: two guesses, then halves.
+fn search(t: &[u8], s: Span, number: DirectoryNumber) -> usize
+    requires { ⌜ (1 ≤ s .from) × (s .from ≤ s .stop) × (s .stop ≤ length (now t)) × (256 * (s .stop - s .from) < 2 ^ 64) ⌝ }
+    ensures { λ r. ⌜ (1 ≤ r) × (r ≤ s .stop) ⌝ }
 {
-    let low = near(t, from, stop, number);
-    walk_to(t, low, stop, number)
-}
-
-// The same, looked for first at or behind `place`.
-fn search_by(t: &[u8], from: usize, stop: usize, place: usize, number: DirectoryNumber) -> usize
-    requires { ⌜ (from ≤ place) × (place ≤ stop) × (stop ≤ length (now t)) × (1 ≤ from) ⌝ }
-    ensures { λ r. ⌜ (1 ≤ r) × (r ≤ stop) ⌝ }
-{
-    let found = entry_behind(t, place, stop);
-    if found == stop {
-        return search(t, from, place, number);
+    let once = closer(t, s, number);
+    let first = once.first;
+    if first.0 == number.0 {
+        return once.from;
     }
-    let shown = number_at(t, found);
-    if shown.0 == number.0 {
-        return found;
+    let twice = closer(t, once, number);
+    let first = twice.first;
+    if first.0 == number.0 {
+        return twice.from;
     }
-    if number.0 < shown.0 {
-        return search(t, from, place, number);
-    }
-    search(t, found, stop, number)
+    let low = near(t, twice.from, twice.stop, number);
+    walk_to(t, low, twice.stop, number)
 }
 
 // Where a part ends that starts at `from`.
@@ -226,8 +252,7 @@ fn seek(table: &[u8], t: &[u8], number: DirectoryNumber) -> usize
     let stop = part_end(from, part, size);
     let first = told(table, q);
     let last = told(table, q + 1);
-    let place = guess(from, stop, first, last, number);
-    search_by(t, from, stop, place, number)
+    search(t, span_of(from, stop, first, last), number)
 }
 
 // The class of the entry whose type stands from `at` on, if that has no sign: no rule lets one pass that has.
