@@ -28,7 +28,7 @@ use Rattle.layouts.specs.declared.Stepped.the-variants.{Go}
 use Rattle.layouts.specs.Walk.{stepped, feed, run, mark, marksFrom}
 use Rattle.layouts.specs.Named.{named}
 use Rattle.layouts.specs.Machine.{refers, kindAt, stand, runsOn}
-use Rattle.layouts.proofs.Steps.{step-runs, runs-left}
+use Rattle.layouts.proofs.Steps.{step-runs}
 use Rattle.layouts.proofs.Runs.{feed-stepped}
 use Rattle.model.specs.Model.{marked}
 use Rattle.sheets.specs.Sheet.{Line, value, lineOf, valueLines, textOf as sheetBytes}
@@ -130,8 +130,6 @@ given-runs f base lines first n owed v {g} {s} {u} z e {y} ey yt eu {m} em {o} {
       marks = owed-stepped types t v g (run types g (owing owed (itemOf t v ∷ []))) owed refl low step;
       near = omega arith;
     }
-
-pub ruleset given = (given-runs, runs-left, wrote-length)
 
 -- ---- all values
 

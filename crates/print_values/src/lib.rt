@@ -56,40 +56,8 @@ fn put_owed(
     Behind { next: end, marks }
 }
 
-// The same by a quick way where there is one. Most values are reals where more of their kind follow, with no default owed before
-// them: they are answered here, for a state or a value that is passed on is copied through memory.
-fn put_given(
-    out: &mut [u8],
-    at: usize,
-    file: &[u8],
-    base: usize,
-    lines: usize,
-    first: usize,
-    n: usize,
-    g: Stepped,
-    owed: usize,
-    v: Value,
-) -> Behind
-    requires { ⌜ GivenStands (now file) base lines first n owed v at ⌝ }
-    ensures { λ r. ⌜ GivenPut (now (file .entry)) base lines first n g owed v (now (out .entry)) at (now (out .exit)) r ⌝ }
-{
-    if owed == 0 {
-        match g {
-            Stepped::Go(s) => {
-                if runs_on(s, v) {
-                    let reference = is_reference(s);
-                    let next = put_mostly_real(out, at, file, base, lines, reference, v);
-                    let marks = Stepped::Go(with_left(s, s.left - 1));
-                    return Behind { next, marks };
-                }
-            }
-            Stepped::Bad => {}
-        }
-    }
-    put_owed(out, at, file, base, lines, first, n, g, owed, v)
-}
-
-// The values behind the type, up to the last that is no default, each with its mark.
+// The values behind the type, up to the last that is no default, each with its mark. Most are reals where more of their kind follow,
+// with no default owed before them: they are answered here, for a state or a value that is passed on is copied through memory.
 pub fn put_values(
     out: &mut [u8],
     at: usize,
@@ -134,7 +102,28 @@ pub fn put_values(
                     owed += 1;
                     continue;
                 }
-                let z = put_given(out, next, file, base, lines, first, n, g, owed, value);
+                if owed == 0 {
+                    match g {
+                        Stepped::Go(s) => {
+                            if runs_on(s, value) {
+                                let reference = is_reference(s);
+                                next = put_mostly_real(
+                                    out,
+                                    next,
+                                    file,
+                                    base,
+                                    lines,
+                                    reference,
+                                    value,
+                                );
+                                g = Stepped::Go(with_left(s, s.left - 1));
+                                continue;
+                            }
+                        }
+                        Stepped::Bad => {}
+                    }
+                }
+                let z = put_owed(out, next, file, base, lines, first, n, g, owed, value);
                 g = z.marks;
                 next = z.next;
                 owed = 0;
