@@ -1,19 +1,18 @@
 -- What the functions that read an entry line are asked.
-use mathlib.Core.Path.{_≡_, sym, _∙_}
+use mathlib.Core.Path.{_≡_, refl, sym, _∙_}
 use mathlib.Core.Bool.{Bool, true, false}
-use mathlib.Core.List.{List, []}
+use mathlib.Core.List.{List, [], _∷_}
 use Prim.Native.Nat.{ℕ, suc, _+_, _-_, _≤_, _<_}
 use native.Mathlib.Numerals.{add-one}
 use native.Mathlib.Omega.{arith}
-use lib.ListN.{length, getD, take, drop, set, length-drop}
-use lib.Seq.{take-suc, take-suc-set, take-all, getD-drop}
+use lib.ListN.{length, getD, take, set}
+use lib.Seq.{take-suc-set, take-all}
 use borrow.Author.Tests.{lt-ltb, le-ltb, ne-eqb}
 use Rattle.columns.specs.declared.Signed.{Signed}
 use Rattle.columns.specs.Columns.{columns, printable}
 use Rattle.columns.specs.Format.{mostInteger}
 use Rattle.columns.proofs.Columns.{byte-of, length-columns}
-use Rattle.directory.specs.declared.Fields.{Fields}
-use Rattle.directory.specs.Fields.{nought, fieldsOf}
+use Rattle.directory.specs.Fields.{nought}
 use Rattle.sheets.specs.declared.EntryLine.{EntryLine}
 use Rattle.sheets.specs.declared.EntryLine.the-variants.{Got, Wrong}
 use Rattle.sheets.specs.Line.{run, isLabel, entryNumber, entryFrom, numbersOf, entryOf}
@@ -21,22 +20,25 @@ use Rattle.sheets.specs.Folds.{entryFold}
 use Rattle.sheets.proofs.Plains.{first-byte, no-second, columns-take, columns-drop}
 use Rattle.sheets.proofs.Folds.{tells-good, tells-bad, entry-fold}
 
--- ---- the entry's numbers, one by one, from behind its directory number
-
-module _ (all xs : List Signed) (k : ℕ) (inv : take k xs ≡ take k (drop 1 all)) (la : length all ≡ 13) (lx : length xs ≡ 12) where
-  pub taken-on : k < 12 → take (k + 1) (set xs k (getD all (k + 1) nought)) ≡ take (k + 1) (drop 1 all)
-  taken-on h =
-      let l : length (drop 1 all) ≡ 12 = simp length-drop (omega arith) in
-      let e : k + 1 ≡ 1 + k = omega arith in
-      rw (add-one k, take-suc-set xs k (getD all (suc k) nought) (omega arith), inv, take-suc (drop 1 all) k nought (omega arith), getD-drop 1 all k nought) (rw (← add-one k, e))
-
-  pub taken-all : (known : Bool) (number : Signed) (f : Fields) → 12 ≤ k → k ≤ 12 → number ≡ getD all 0 nought → f ≡ fieldsOf xs → Got known number f ≡ entryFrom known all
-  taken-all known number f lo hi en ef =
-      let l : length (drop 1 all) ≡ 12 = simp length-drop (omega arith) in
-      let e : xs ≡ drop 1 all = sym (take-all k xs (omega arith)) ∙ inv ∙ take-all k (drop 1 all) (omega arith) in
-      rw (en, ef, e)
-
 -- ---- the numbers of a line: f is the answer
+
+-- the numbers by their places
+pub entry-from : (known : Bool) (xs : List Signed) → Got known (getD xs 0 nought) (record {
+  entity = getD xs 1 nought;
+  form = getD xs 2 nought;
+  structure = getD xs 3 nought;
+  font = getD xs 4 nought;
+  level = getD xs 5 nought;
+  view = getD xs 6 nought;
+  matrix = getD xs 7 nought;
+  display = getD xs 8 nought;
+  status = getD xs 9 nought;
+  weight = getD xs 10 nought;
+  colour = getD xs 11 nought;
+  subscript = getD xs 12 nought;
+}) ≡ entryFrom known xs
+entry-from known [] = refl
+entry-from known (x ∷ xs) = refl
 
 module _ (f : EntryLine) (s : List ℕ) (known : Bool) (xs : List Signed) (left k i end : ℕ) (inv : numbersOf known left (take k xs) (columns s i end) ≡ f) where
   module _ (e : ℕ) (some : 0 < left) (lo : i ≤ e) (hi : e ≤ end) (le : end ≤ length s) (en : e ≡ i + run 9 (columns s i end)) where
@@ -82,9 +84,7 @@ module _ (f : EntryLine) (s : List ℕ) (known : Bool) (xs : List Signed) (left 
     unfolding numbersOf isLabel
     label-good p r h e q k13 l g = g ∙ (simp (numbersOf, length-columns s i end lo le, h, ← e, q, take-all k xs (omega arith)) at (rw nil at inv))
 
-pub ruleset taking = (taken-on, taken-all)
-
-pub ruleset rows = (numbers-short, numbers-bad, numbers-more, label-short, label-bad, label-good)
+pub ruleset rows = (entry-from, numbers-short, numbers-bad, numbers-more, label-short, label-bad, label-good)
 
 -- ---- the line
 module _ (s : List ℕ) (at end : ℕ) where

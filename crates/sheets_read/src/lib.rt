@@ -3,6 +3,7 @@ use columns::Signed;
 use columns::format::FIELD_COLUMNS;
 use columns::format::TEXT_COLUMNS;
 use columns::look;
+use directory::Fields;
 use directory::order;
 use sheets::EntryLine;
 use sheets::Said;
@@ -35,15 +36,21 @@ pub fn end_of(t: &[u8], at: usize) -> usize
 fn entry_from(known: bool, x: [Signed; 13]) -> EntryLine
     ensures { λ r. ⌜ r ≡ entryFrom known x ⌝ }
 {
-    let number = x[0];
-    let mut xs = [number; order::NUMBERS];
-    let mut k = 0;
-    while k < order::NUMBERS {
-        let y = x[k + 1];
-        xs[k] = y;
-        k += 1;
-    }
-    EntryLine::Got(known, number, order::fields_of(xs))
+    let fields = Fields {
+        entity: x[1 + order::TYPE],
+        form: x[1 + order::FORM],
+        structure: x[1 + order::STRUCTURE],
+        font: x[1 + order::FONT],
+        level: x[1 + order::LEVEL],
+        view: x[1 + order::VIEW],
+        matrix: x[1 + order::MATRIX],
+        display: x[1 + order::DISPLAY],
+        status: x[1 + order::STATUS],
+        weight: x[1 + order::WEIGHT],
+        colour: x[1 + order::COLOUR],
+        subscript: x[1 + order::SUBSCRIPT],
+    };
+    EntryLine::Got(known, x[0], fields)
 }
 
 // The numbers and the label of an entry line.
