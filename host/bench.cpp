@@ -97,9 +97,8 @@ Times measure(std::size_t lines) {
 
 // How much longer a sheet of 132,000 entries takes than one of 66,000, each of which names two others at random. A file can hold
 // the 66,000, and they are written; the 132,000 are refused once all that they name was looked at.
-double growthOfEntries() {
-    const std::string few = tests::manyEntries(66'000, tests::Named::Random),
-                      many = tests::manyEntries(132'000, tests::Named::Random);
+double growthOfEntries(const std::function<std::string(std::size_t)> &sheetOf) {
+    const std::string few = sheetOf(66'000), many = sheetOf(132'000);
     std::vector<std::uint8_t> output(SZELMIKRA_MOST_FILE);
     const std::vector<double> least = leastTimes({
         [&] { sink = szelmikra_write(allTypes, bytesOf(few), few.size(), output.data(), output.size()).number; },
@@ -137,6 +136,10 @@ int main() {
     target("read, growth from 20,000 to 200,000 lines", last.read / middle.read, 12);
     target("write, growth from 20,000 to 200,000 lines", last.write / middle.write, 12);
     target("read, 200,000 lines, over the plain pass", last.read / last.pass, 6);
-    target("write, growth from 66,000 to 132,000 entries", growthOfEntries(), 2.4);
+    const auto any = [](std::size_t entries) { return tests::manyEntries(entries, tests::Named::Random); };
+    const auto typed = [](std::size_t entries) { return tests::typedEntries(entries, tests::Named::Random); };
+    target("write, growth from 66,000 to 132,000 entries", growthOfEntries(any), 2.4);
+    // Up to 66,665 entries a type is one look into a table; past that an entry is searched for.
+    target("the same where all are asked for their types", growthOfEntries(typed), 2.4);
     return 0;
 }

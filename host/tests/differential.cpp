@@ -167,16 +167,21 @@ void manyEntries(Comparison &comparison) {
     using tests::Named;
     comparison.label("many entries");
     for (const std::size_t entries : std::initializer_list<std::size_t>{70'000, 500'000})
-        for (const Named named : {Named::Rising, Named::Falling, Named::Random})
+        for (const Named named : {Named::Rising, Named::Falling, Named::Random}) {
             written(comparison, tests::manyEntries(entries, named), 0, SZELMIKRA_TOO_LONG, "many entries are refused for length");
+            written(comparison, tests::typedEntries(entries, named), 0, SZELMIKRA_TOO_LONG, "and those that are asked for their types");
+        }
     struct Late {
         Last last;
         std::uint64_t number;
     };
     for (const Late late : {Late{Last::Reference, SZELMIKRA_REFERENCE}, Late{Last::LayoutReference, SZELMIKRA_LAYOUT_REFERENCE},
-                            Late{Last::Mark, SZELMIKRA_MARK}})
+                            Late{Last::Mark, SZELMIKRA_MARK}}) {
         written(comparison, tests::manyEntries(140'000, Named::Random, late.last), 0, late.number,
                 "what is wrong with the last of many entries is told before their number");
+        written(comparison, tests::typedEntries(140'000, Named::Random, late.last), 0, late.number,
+                "and a type that is wrong at the last of many");
+    }
 }
 
 void largeCases(Comparison &comparison) {

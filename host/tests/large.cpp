@@ -183,6 +183,36 @@ std::string manyEntries(std::size_t entries, Named named, Last last) {
     return sheet + "Z\t" + std::to_string(entries) + "\n";
 }
 
+std::string typedEntries(std::size_t entries, Named named, Last last) {
+    enum Type : std::size_t { Matrix, Colour, Definition, Instance, types };
+    static constexpr const char *names[] = {"124", "314", "308", "408"};
+    Random random(entries);
+    const std::size_t rounds = entries / types;
+    const auto target = [&](Type type, std::size_t round) {
+        const std::size_t index = named == Named::Rising    ? round
+                                  : named == Named::Falling ? rounds - 1 - round
+                                                            : random.below(rounds);
+        return std::to_string(2 * (types * index + type) + 1);
+    };
+    std::string sheet = "S\tMANY\n";
+    for (std::size_t i = 0; i < entries; ++i) {
+        const Last what = i + 1 == entries ? last : Last::Good;
+        const std::size_t round = i / types, type = i % types;
+        sheet += "E\t" + std::to_string(2 * i + 1) + "\t" + names[type] + "\t0\t0\t0\t0\t0\t" +
+                 target(what == Last::Reference ? Colour : Matrix, round) + "\t0\t00000000\t0\t-" + target(Colour, round) +
+                 "\t0\t        \n";
+        const std::string value = "V\t1.\n";
+        if (type == Matrix)
+            for (int j = 0; j < 12; ++j) sheet += value;
+        if (type == Colour) sheet += value + value + value;
+        if (type == Definition) sheet += "V\t0\nV\t1HA\nV\t0\n";
+        if (type == Instance)
+            sheet += (what == Last::Mark ? "V\t" : "R\t") + target(what == Last::LayoutReference ? Matrix : Definition, round) + "\n" +
+                     value + value + value + value;
+    }
+    return sheet + "Z\t" + std::to_string(entries) + "\n";
+}
+
 std::string fullStartLines(std::size_t bytes) {
     const std::string line = "S\t" + std::string(72, '*') + "\n";
     std::string sheet;

@@ -30,6 +30,10 @@ enum class Last { Good, Reference, LayoutReference, Mark };
 // A sheet of that many points, each of which names two others.
 std::string manyEntries(std::size_t entries, Named named, Last last = Last::Good);
 
+// A sheet of that many (of which 4 is a divisor) matrices, colours, definitions and instances in turn, each of which names a matrix and
+// a colour, and an instance a definition: all are asked for their types.
+std::string typedEntries(std::size_t entries, Named named, Last last = Last::Good);
+
 // A sheet of S lines alone, full ones, that has at least so many bytes.
 std::string fullStartLines(std::size_t bytes);
 
