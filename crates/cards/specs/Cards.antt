@@ -49,7 +49,7 @@ total c = c .s + c .g + c .d + c .p + c .t
 abbrev pub here : ℕ → ℕ → Counts → ℕ → Placed
 here before later c n = cond (ltb 0 before && eqb later 0) (Here c n) Nowhere
 
--- the counts with a line of letter b, which left more lines follow, and its number in its section: T (84), S (83), G (71), D (68), P (80)
+-- the counts with a line of letter b, which left more lines follow, and its number in its section: T, S, G, D, P
 unfoldable pub placeOf : Counts → ℕ → ℕ → Placed
 placeOf c left b =
     let (s, g, d, p, t) : ℕ × ℕ × ℕ × ℕ × ℕ = (c .s, c .g, c .d, c .p, c .t) in

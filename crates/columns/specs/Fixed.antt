@@ -45,7 +45,7 @@ abbrev pub behindSign : Bool → List ℕ → SignedField
 behindSign neg [] = SignedBad
 behindSign neg (b ∷ bs) = withSign neg (digitsOf 0 (b ∷ bs))
 
--- the same, with '-' (45) or '+' (43) right before the digits, or none
+-- the same, with '-' or '+' right before the digits, or none
 unfoldable pub signedOf : List ℕ → SignedField
 signedOf [] = SignedNumber (signed false 0)
 signedOf (b ∷ bs) =

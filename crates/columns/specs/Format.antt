@@ -23,10 +23,6 @@ parameterColumns = 64
 abbrev pub fieldColumns : ℕ
 fieldColumns = 8
 
--- columns of the two reserved fields
-abbrev pub reservedColumns : ℕ
-reservedColumns = 16
-
 -- columns of a sequence number, of a count on T, and of the directory number on a P line
 abbrev pub numberColumns : ℕ
 numberColumns = 7

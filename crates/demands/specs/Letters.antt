@@ -3,7 +3,7 @@ use mathlib.Core.List.{List, [], _∷_}
 use Prim.Native.Nat.{ℕ}
 use Rattle.columns.specs.Letters.{letterE, letterR, letterU, letterV}
 
--- the same bytes, but for E (69) where the first has U (85), and R (82) where it has V (86)
+-- the same bytes, but for E where the first has U, and R where it has V
 pub data LettersOnly : List ℕ → List ℕ → Type 0 where
   none : LettersOnly [] []
   same : {s t : List ℕ} (b : ℕ) → LettersOnly s t → LettersOnly (b ∷ s) (b ∷ t)

@@ -50,7 +50,7 @@ numbersOf known (suc left) ns t = elim (ltb (run tab t) (length t) && isEntryNum
   | false ↦ Wrong
 ]
 
--- what is read of an entry line: E (69) or U (85), a tab, the numbers and the label
+-- what is read of an entry line: E or U, a tab, the numbers and the label
 unfoldable pub entryOf : List ℕ → EntryLine
 entryOf l = cond (eqb (getD l 1 0) tab)
     (cond (eqb (getD l 0 0) letterE) (numbersOf true numberCount [] (drop 2 l))

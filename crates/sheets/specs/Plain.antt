@@ -22,7 +22,7 @@ plainOf t = value 0 t
 unfoldable pub isPlain : List ℕ → Bool
 isPlain t = sameBytes t (dec (plainOf t)) && leb (plainOf t) mostInteger
 
--- a minus (45) stands in front
+-- a minus stands in front
 abbrev pub isMinus : List ℕ → Bool
 isMinus t = eqb (getD t 0 0) minusSign
 

@@ -89,11 +89,11 @@ sheetText s = textOf (linesOf s)
 
 -- ---- what a line says: it has one spelling
 
--- a byte is R (82) or V (86)
+-- a byte is R or V
 unfoldable pub isMark : ℕ → Bool
 isMark b = eqb b letterR || eqb b letterV
 
--- a line begins with one of them and a tab (9)
+-- a line begins with one of them and a tab
 unfoldable pub isValue : List ℕ → Bool
 isValue l = eqb (getD l 1 0) tab && isMark (getD l 0 0)
 
@@ -170,7 +170,7 @@ unfoldable pub into : ℕ → List (List ℕ) → List (List ℕ)
 into b [] = (b ∷ []) ∷ []
 into b (l ∷ ls) = (b ∷ l) ∷ ls
 
--- the pieces between LFs (10): one more than there are LFs, the last one empty where the text ends in LF
+-- the pieces between LFs: one more than there are LFs, the last one empty where the text ends in LF
 unfoldable pub piecesOf : List ℕ → List (List ℕ)
 piecesOf [] = [] ∷ []
 piecesOf (b ∷ bs) = elim (eqb b newline) [ true ↦ [] ∷ piecesOf bs | false ↦ into b (piecesOf bs) ]

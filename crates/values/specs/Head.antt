@@ -1,4 +1,4 @@
--- A string's head: a count 1..999 in one to three digits, and H (72).
+-- A string's head: a count 1..999 in one to three digits, and H.
 use mathlib.Core.Bool.{cond, _&&_}
 use mathlib.Core.List.{List}
 use Prim.Native.Nat.{ℕ, _+_}

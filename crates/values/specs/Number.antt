@@ -13,11 +13,11 @@ use Rattle.values.specs.declared.Token.{Token}
 use Rattle.values.specs.declared.Power.{Power}
 use Rattle.values.specs.declared.Power.the-variants.{None, Wrong, Of}
 
--- '+' (43) or '-' (45)
+-- '+' or '-'
 abbrev pub signLen : ℕ → ℕ
 signLen c = cond (eqb c plusSign || eqb c minusSign) 1 0
 
--- '.' (46)
+-- '.'
 abbrev pub pointLen : ℕ → ℕ
 pointLen c = cond (eqb c point) 1 0
 
@@ -56,7 +56,7 @@ power t i double =
     let ds = digits (drop (i + k) t) in
     powerOf (eqb (getD t i 0) minusSign) (length ds) (value 0 ds) double (i + k) (i + k + length ds)
 
--- the exponent at i, if its letter is there: E (69), or D (68), which makes it double
+-- the exponent at i, if its letter is there: E, or D, which makes it double
 unfoldable pub powerAt : List ℕ → ℕ → Power
 powerAt t i = cond (eqb (getD t i 0) letterE) (power t (i + 1) false) (cond (eqb (getD t i 0) letterD) (power t (i + 1) true) None)
 

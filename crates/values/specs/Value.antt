@@ -46,7 +46,7 @@ isMissing v = isDefault (itemOf [] v)
 
 -- ---- its one spelling
 
--- D (68) for a double, E (69) for a single
+-- D for a double, E for a single
 abbrev pub letter : Bool → ℕ
 letter double = cond double letterD letterE
 
@@ -58,11 +58,11 @@ tenTo eneg e double = letter double ∷ (minus eneg ++ dec e)
 abbrev pub exponent : Bool → ℕ → Bool → List ℕ
 exponent eneg e double = cond (double || ltb 0 e) (tenTo eneg e double) []
 
--- the count and H (72)
+-- the count and H
 abbrev pub head : ℕ → List ℕ
 head count = dec count ++ (letterH ∷ [])
 
--- integers and counts in plain decimal; a real is m, point (46), exponent; a string with its count
+-- integers and counts in plain decimal; a real is m, point, exponent; a string with its count
 unfoldable pub spelled : Item → List ℕ
 spelled default = []
 spelled (whole neg size) = minus neg ++ dec size

@@ -15,7 +15,7 @@ use Rattle.values.specs.Number.{digits, value, signLen, pointLen, powerA
 
 -- ---- what a spelling says
 
--- a minus (45) stands first
+-- a minus stands first
 abbrev pub minusIn : List ℕ → Bool
 minusIn t = eqb (getD t 0 0) minusSign
 

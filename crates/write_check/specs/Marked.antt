@@ -8,7 +8,7 @@ use lib.ListN.{length}
 use Rattle.columns.specs.Letters.{letterE, letterU}
 use Rattle.write_lines.specs.Classes.{tableSize}
 
--- what a line that begins with this byte adds to the next entry's number: E (69) and U (85) begin an entry
+-- what a line that begins with this byte adds to the next entry's number: E and U begin an entry
 unfoldable pub addedBy : ℕ → ℕ
 addedBy b = cond (eqb b letterE || eqb b letterU) 2 0
 

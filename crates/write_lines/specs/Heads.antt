@@ -18,7 +18,7 @@ use Rattle.write_lines.specs.declared.SheetPass.{SheetPass}
 use Rattle.write_lines.specs.declared.SheetPass.the-variants.{Good}
 use Rattle.write_lines.specs.Lines.{passOf}
 
--- E (69), U (85) or G (71)
+-- E, U or G
 unfoldable pub isHead : ℕ → Bool
 isHead b = eqb b letterE || (eqb b letterU || eqb b letterG)
 

@@ -15,7 +15,7 @@ use Rattle.sheets.specs.Order.{verdictOf}
 use Rattle.references.specs.References.{noEntry, classOf, classAt}
 use Rattle.write_lines.specs.Classes.{sheetTypes}
 
--- b begins an entry's line: E (69) or U (85), behind an LF (10)
+-- b begins an entry's line: E or U, behind an LF
 unfoldable pub beginsEntry : ℕ → ℕ → Bool
 beginsEntry before b = (eqb b letterE || eqb b letterU) && eqb before newline
 
@@ -27,7 +27,7 @@ pub record EntryAt (t : List ℕ) (at : ℕ) : Type 0 where
   pub two : at + 2 ≤ length t
   pub begins : beginsEntry (getD t (at - 1) 0) (getD t at 0) ≡ true
 
--- the plain number from `at` on, up to the next tab (9)
+-- the plain number from `at` on, up to the next tab
 unfoldable pub plainAt : List ℕ → ℕ → ℕ
 plainAt t at = plainFold (columns t at (at + run tab (columns t at (length t))))
 
