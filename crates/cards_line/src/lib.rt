@@ -76,7 +76,8 @@ fn place(c: Counts, left: usize, letter: u8) -> Placed
 
 // What line k does, of which `left` more lines follow.
 pub fn step_line(file: &[u8], k: usize, left: usize, c: Counts) -> LineStep
-    requires { ⌜ (lineBytes * k + lineBytes ≤ length (now file)) × (total c < mostLines) ⌝ }
+    requires { ⌜ lineBytes * k + lineBytes ≤ length (now file) ⌝ }
+    requires { ⌜ total c < mostLines ⌝ }
     ensures { λ r. ⌜ r ≡ stepOf c left (lineAt (now (file .entry)) k) ⌝ }
 {
     let at = LINE_BYTES * k;

@@ -13,7 +13,8 @@ pub fn byte_at(s: &[u8], i: usize) -> u8
 
 // Whether the columns from `at` up to `end` are blank.
 pub fn is_blank(s: &[u8], at: usize, end: usize) -> bool
-    requires { ⌜ (at ≤ end) × (end ≤ length (now s)) ⌝ }
+    requires { ⌜ at ≤ end ⌝ }
+    requires { ⌜ end ≤ length (now s) ⌝ }
     ensures { λ r. ⌜ r ≡ blank (columns (now (s .entry)) at end) ⌝ }
 {
     let mut i = at;
@@ -42,7 +43,8 @@ fn greater(a: u8, b: u8) -> u8
 // Whether the columns from `at` up to `end` are bytes from 32 to 126: no byte of them is passed over, so that many can be looked at
 // together.
 pub fn is_printable(s: &[u8], at: usize, end: usize) -> bool
-    requires { ⌜ (at ≤ end) × (end ≤ length (now s)) ⌝ }
+    requires { ⌜ at ≤ end ⌝ }
+    requires { ⌜ end ≤ length (now s) ⌝ }
     ensures { λ r. ⌜ r ≡ printable (columns (now (s .entry)) at end) ⌝ }
 {
     let mut low: u8 = 126;

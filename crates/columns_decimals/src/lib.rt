@@ -37,7 +37,8 @@ fn put_clipped(out: &mut [u8], at: usize, n: u64, end: usize) -> usize
 
 // The same where there is room for them: two at a time.
 fn put_inside(out: &mut [u8], at: usize, n: u64, end: usize) -> usize
-    requires { ⌜ (end ≡ at + length (dec n)) × (end ≤ length (now out)) ⌝ }
+    requires { ⌜ end ≡ at + length (dec n) ⌝ }
+    requires { ⌜ end ≤ length (now out) ⌝ }
     ensures { λ r. ⌜ Wrote (now (out .entry)) at (dec n) (now (out .exit)) r ⌝ }
     ensures { λ r. ⌜ r ≡ end ⌝ }
 {
@@ -61,7 +62,10 @@ fn put_inside(out: &mut [u8], at: usize, n: u64, end: usize) -> usize
 
 // Writes n, which has `count` digits.
 fn put_counted(out: &mut [u8], at: usize, n: u64, count: usize) -> usize
-    requires { ⌜ (at + 20 < 2 ^ 64) × (count ≡ length (dec n)) × (0 < count) × (count ≤ 20) ⌝ }
+    requires { ⌜ at + 20 < 2 ^ 64 ⌝ }
+    requires { ⌜ count ≡ length (dec n) ⌝ }
+    requires { ⌜ 0 < count ⌝ }
+    requires { ⌜ count ≤ 20 ⌝ }
     ensures { λ r. ⌜ Wrote (now (out .entry)) at (dec n) (now (out .exit)) r ⌝ }
     ensures { λ r. ⌜ (at < r) × (r ≤ at + 20) ⌝ }
 {
@@ -127,7 +131,8 @@ fn less(a: usize, b: usize) -> usize
 
 // Writes n to the right of `width` columns, with b before it.
 pub fn put_right(out: &mut [u8], at: usize, b: u8, width: usize, n: u64) -> usize
-    requires { ⌜ (at < 2 ^ 62) × (width < 2 ^ 62) ⌝ }
+    requires { ⌜ at < 2 ^ 62 ⌝ }
+    requires { ⌜ width < 2 ^ 62 ⌝ }
     ensures { λ r. ⌜ Wrote (now (out .entry)) at (toRight b width (dec n)) (now (out .exit)) r ⌝ }
     ensures { λ r. ⌜ (at + width ≤ r) × (r ≤ at + width + 20) ⌝ }
 {
@@ -164,7 +169,8 @@ pub fn count_signed(x: Signed) -> usize
 
 // Writes x to the right of `width` columns, with blanks before it.
 pub fn put_signed_right(out: &mut [u8], at: usize, width: usize, x: Signed) -> usize
-    requires { ⌜ (at < 2 ^ 62) × (width < 2 ^ 62) ⌝ }
+    requires { ⌜ at < 2 ^ 62 ⌝ }
+    requires { ⌜ width < 2 ^ 62 ⌝ }
     ensures { λ r. ⌜ Wrote (now (out .entry)) at (toRight space width (signedDec x)) (now (out .exit)) r ⌝ }
     ensures { λ r. ⌜ (at + width ≤ r) × (r ≤ at + width + 11) ⌝ }
 {
@@ -181,7 +187,8 @@ pub fn put_signed_right(out: &mut [u8], at: usize, width: usize, x: Signed) -> u
 
 // Writes s to the left of `width` columns, with blanks behind it.
 pub fn put_left(out: &mut [u8], at: usize, width: usize, s: &[u8]) -> usize
-    requires { ⌜ (at < 2 ^ 62) × (width < 2 ^ 62) ⌝ }
+    requires { ⌜ at < 2 ^ 62 ⌝ }
+    requires { ⌜ width < 2 ^ 62 ⌝ }
     ensures { λ r. ⌜ Wrote (now (out .entry)) at (toLeft width (now (s .entry))) (now (out .exit)) r ⌝ }
     ensures { λ r. ⌜ (at + width ≤ r) × (r ≤ at + width + length (now (s .entry))) ⌝ }
 {

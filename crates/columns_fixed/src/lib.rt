@@ -14,7 +14,9 @@ ghost use Rattle.columns.specs.Format.{fieldColumns};
 
 // Digits from `at` up to `end`.
 fn digits(s: &[u8], at: usize, end: usize) -> Field
-    requires { ⌜ (at ≤ end) × (end ≤ length (now s)) × (end ≤ at + fieldColumns) ⌝ }
+    requires { ⌜ at ≤ end ⌝ }
+    requires { ⌜ end ≤ length (now s) ⌝ }
+    requires { ⌜ end ≤ at + fieldColumns ⌝ }
     ensures { λ r. ⌜ r ≡ digitsOf 0 (columns (now (s .entry)) at end) ⌝ }
     ensures { λ r. ⌜ Below 100000000 r ⌝ }
 {
@@ -36,7 +38,8 @@ fn digits(s: &[u8], at: usize, end: usize) -> Field
 
 // Where the columns from `at` up to `end` go on behind their blanks.
 fn behind_blanks(s: &[u8], at: usize, end: usize) -> usize
-    requires { ⌜ (at ≤ end) × (end ≤ length (now s)) ⌝ }
+    requires { ⌜ at ≤ end ⌝ }
+    requires { ⌜ end ≤ length (now s) ⌝ }
     ensures { λ r. ⌜ Behind (now (s .entry)) at end r ⌝ }
 {
     let mut i = at;
@@ -51,7 +54,9 @@ fn behind_blanks(s: &[u8], at: usize, end: usize) -> usize
 
 // The number in the columns from `at` up to `end`.
 pub fn read_field(s: &[u8], at: usize, end: usize) -> Field
-    requires { ⌜ (at ≤ end) × (end ≤ length (now s)) × (end ≤ at + fieldColumns) ⌝ }
+    requires { ⌜ at ≤ end ⌝ }
+    requires { ⌜ end ≤ length (now s) ⌝ }
+    requires { ⌜ end ≤ at + fieldColumns ⌝ }
     ensures { λ r. ⌜ r ≡ fieldOf (columns (now (s .entry)) at end) ⌝ }
     ensures { λ r. ⌜ Below 100000000 r ⌝ }
 {
@@ -70,7 +75,9 @@ fn is_number(f: Field, n: u32) -> bool
 
 // Whether the columns from `at` up to `end` hold n.
 pub fn holds(s: &[u8], at: usize, end: usize, n: u32) -> bool
-    requires { ⌜ (at ≤ end) × (end ≤ length (now s)) × (end ≤ at + fieldColumns) ⌝ }
+    requires { ⌜ at ≤ end ⌝ }
+    requires { ⌜ end ≤ length (now s) ⌝ }
+    requires { ⌜ end ≤ at + fieldColumns ⌝ }
     ensures { λ r. ⌜ r ≡ isNumber (fieldOf (columns (now (s .entry)) at end)) n ⌝ }
 {
     let f = read_field(s, at, end);
@@ -97,7 +104,9 @@ fn with_sign(neg: bool, f: Field) -> SignedField
 
 // The digits from `at` up to `end`, behind a sign.
 fn behind_sign(neg: bool, s: &[u8], at: usize, end: usize) -> SignedField
-    requires { ⌜ (at ≤ end) × (end ≤ length (now s)) × (end ≤ at + fieldColumns) ⌝ }
+    requires { ⌜ at ≤ end ⌝ }
+    requires { ⌜ end ≤ length (now s) ⌝ }
+    requires { ⌜ end ≤ at + fieldColumns ⌝ }
     ensures { λ r. ⌜ r ≡ behindSign neg (columns (now (s .entry)) at end) ⌝ }
     ensures { λ r. ⌜ SizeBelow 100000000 r ⌝ }
 {
@@ -110,7 +119,9 @@ fn behind_sign(neg: bool, s: &[u8], at: usize, end: usize) -> SignedField
 
 // The number, with a sign or without, in the columns from `at` up to `end`.
 pub fn read_signed(s: &[u8], at: usize, end: usize) -> SignedField
-    requires { ⌜ (at ≤ end) × (end ≤ length (now s)) × (end ≤ at + fieldColumns) ⌝ }
+    requires { ⌜ at ≤ end ⌝ }
+    requires { ⌜ end ≤ length (now s) ⌝ }
+    requires { ⌜ end ≤ at + fieldColumns ⌝ }
     ensures { λ r. ⌜ r ≡ signedOf (columns (now (s .entry)) at end) ⌝ }
     ensures { λ r. ⌜ SizeBelow 100000000 r ⌝ }
 {

@@ -65,7 +65,7 @@ apart e = let z : _≡_ {A = ℕ} 0 1 = ap (λ (b : Block). b .next) e in omega 
 pub second-globals : SecondGlobals
 second-globals κs = record {
   passed = (record { ptr = (0, 0); name = 0; now = [] }, (0, (record { ptr = (0, 0); name = 0; now = twoBytes }, (0, tt))));
-  asked = ((omega arith, omega arith, omega (arith, opening-short .0)), omega (arith, opening-short .1));
+  asked = (omega arith, (omega arith, (omega (arith, opening-short .0), omega (arith, opening-short .1))));
   left = ([], (tt, (tt, (tt, tt))));
   one = blockAt 0;
   other = blockAt 1;
@@ -77,7 +77,15 @@ second-globals κs = record {
 pub second-block : SecondBlock
 second-block κs = record {
   passed = (record { ptr = (0, 0); name = 0; now = [] }, (0, (record { ptr = (0, 0); name = 0; now = twoBytes }, (0, (1, (record { 0 = 1 }, (record { 0 = 1 }, tt)))))));
-  asked = ((omega arith, omega arith, omega arith, omega (arith, record-short .0)), ((omega arith, omega (arith, record-short .1)), values-unbroken));
+  asked = record {
+    inside = omega arith;
+    low = omega arith;
+    small = omega arith;
+    room = omega (arith, record-short .0);
+    numbered = omega arith;
+    few = omega (arith, record-short .1);
+    unbroken = values-unbroken;
+  };
   left = ([], (tt, (tt, (tt, (tt, (tt, (tt, tt)))))));
   one = blockAt 0;
   other = blockAt 1;

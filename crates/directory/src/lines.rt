@@ -70,7 +70,8 @@ pub fn place_of(n: usize) -> usize
 
 // The byte where slot j starts, of the entry whose first D line is line k of the file, from 0.
 pub fn start_of(k: usize, j: usize) -> usize
-    requires { ⌜ (lineBytes * k + 2 * lineBytes < 2 ^ 64) × (j < 18) ⌝ }
+    requires { ⌜ lineBytes * k + 2 * lineBytes < 2 ^ 64 ⌝ }
+    requires { ⌜ j < 18 ⌝ }
     ensures { λ r. ⌜ r ≡ startOf k j ⌝ }
 {
     LINE_BYTES * (k + j / SLOTS_A_LINE) + FIELD_COLUMNS * (j % SLOTS_A_LINE)

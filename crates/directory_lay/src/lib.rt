@@ -47,7 +47,8 @@ pub fn put_first(out: &mut [u8], at: usize, x: Fields, from: ParameterLine) -> u
 
 // Writes its second D line; `count` is its parameter line count.
 pub fn put_second(out: &mut [u8], at: usize, x: Fields, count: u32, label: &[u8]) -> usize
-    requires { ⌜ (at < 2 ^ 59) × (length (now label) ≤ fieldColumns) ⌝ }
+    requires { ⌜ at < 2 ^ 59 ⌝ }
+    requires { ⌜ length (now label) ≤ fieldColumns ⌝ }
     ensures { λ r. ⌜ Wrote (now (out .entry)) at (secondLine x count (now (label .entry))) (now (out .exit)) r ⌝ }
     ensures { λ r. ⌜ r ≤ at + 252 ⌝ }
 {

@@ -33,7 +33,8 @@ fn signed_at(file: &[u8], at: usize) -> SignedField
 
 // What slot j holds, a sign allowed.
 fn signed_in(file: &[u8], k: usize, j: usize) -> SignedField
-    requires { ⌜ (lineBytes * k + 2 * lineBytes ≤ length (now file)) × (j < 18) ⌝ }
+    requires { ⌜ lineBytes * k + 2 * lineBytes ≤ length (now file) ⌝ }
+    requires { ⌜ j < 18 ⌝ }
     ensures { λ r. ⌜ r ≡ signedOf (slotAt (now (file .entry)) k j) ⌝ }
     ensures { λ r. ⌜ SizeBelow 100000000 r ⌝ }
 {
@@ -56,7 +57,8 @@ fn plain(f: Field) -> SignedField
 
 // What slot j holds, no sign allowed.
 fn plain_in(file: &[u8], k: usize, j: usize) -> SignedField
-    requires { ⌜ (lineBytes * k + 2 * lineBytes ≤ length (now file)) × (j < 18) ⌝ }
+    requires { ⌜ lineBytes * k + 2 * lineBytes ≤ length (now file) ⌝ }
+    requires { ⌜ j < 18 ⌝ }
     ensures { λ r. ⌜ r ≡ withSign false (fieldOf (slotAt (now (file .entry)) k j)) ⌝ }
 {
     let at = lines::start_of(k, j);
@@ -72,7 +74,8 @@ fn is_plain(n: usize) -> bool
 
 // Number n of the entry.
 fn number_in(file: &[u8], k: usize, n: usize) -> SignedField
-    requires { ⌜ (lineBytes * k + 2 * lineBytes ≤ length (now file)) × (n < 12) ⌝ }
+    requires { ⌜ lineBytes * k + 2 * lineBytes ≤ length (now file) ⌝ }
+    requires { ⌜ n < 12 ⌝ }
     ensures { λ r. ⌜ r ≡ numberIn (now (file .entry)) k n ⌝ }
 {
     let j = lines::place_of(n);
@@ -140,7 +143,8 @@ fn spelt_as(x: Fields, again: SignedField, from: SignedField, count: SignedField
 
 // The entry of the numbers xs.
 fn with_pointer(file: &[u8], k: usize, xs: [Signed; order::NUMBERS]) -> EntryRead
-    requires { ⌜ (lineBytes * k + 2 * lineBytes ≤ length (now file)) × (numbersFrom (now file) k 0 12 ≡ Numbers.numbers xs) ⌝ }
+    requires { ⌜ lineBytes * k + 2 * lineBytes ≤ length (now file) ⌝ }
+    requires { ⌜ numbersFrom (now file) k 0 12 ≡ Numbers.numbers xs ⌝ }
     ensures { λ r. ⌜ r ≡ entryAt (now (file .entry)) k ⌝ }
     ensures { λ r. ⌜ Small r ⌝ }
 {
@@ -174,7 +178,8 @@ pub fn entry_at(file: &[u8], k: usize) -> EntryRead
 
 // The size of what slot j holds.
 fn size_in(file: &[u8], k: usize, j: usize) -> u32
-    requires { ⌜ (lineBytes * k + 2 * lineBytes ≤ length (now file)) × (j < 18) ⌝ }
+    requires { ⌜ lineBytes * k + 2 * lineBytes ≤ length (now file) ⌝ }
+    requires { ⌜ j < 18 ⌝ }
     ensures { λ r. ⌜ r ≡ sizeOf (signedOf (slotAt (now (file .entry)) k j)) ⌝ }
     ensures { λ r. ⌜ r < 100000000 ⌝ }
 {

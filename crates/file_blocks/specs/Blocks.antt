@@ -3,12 +3,13 @@
 use mathlib.Core.Path.{_≡_}
 use mathlib.Core.Bool.{Bool, true, false}
 use mathlib.Core.List.{List, [], _∷_, _++_, map}
-use Prim.Native.Nat.{ℕ}
+use Prim.Native.Nat.{ℕ, _+_, _^_, _≤_}
+use lib.ListN.{length}
 use Rattle.values.specs.Value.{Item, whole}
 use Rattle.columns.specs.Columns.{joined}
-use Rattle.columns.specs.Format.{textColumns, parameterColumns}
+use Rattle.columns.specs.Format.{textColumns, parameterColumns, mostInteger}
 use Rattle.columns.specs.Letters.{newline, letterG}
-use Rattle.records.specs.Flow.{flow, inLines}
+use Rattle.records.specs.Flow.{flow, lineCount, inLines}
 use Rattle.cards.specs.Written.{zeros, section}
 use Rattle.sheets.specs.Sheet.{Line, start, global, entry, value, last, none}
 use Rattle.model.specs.Model.{valueIn}
@@ -83,6 +84,16 @@ recordText typ vs = flow parameterColumns 0 (whole false typ ∷ vs)
 -- its P lines with this directory number
 abbrev pub blockLines : ℕ → ℕ → List Item → List (List ℕ)
 blockLines number typ vs = map (owned number) (inLines parameterColumns (recordText typ vs))
+
+-- a file can have the P lines, from number `from` on, of the entity whose values stand from `at` on, and they can be laid at `base`
+pub record BlockHasRoom (t : List ℕ) (at base typ number from : ℕ) : Type 0 where
+  pub inside : at ≤ length t
+  pub low : base ≤ 2 ^ 36
+  pub small : typ ≤ mostInteger
+  pub room : length (recordText typ (itemsAt t at)) ≤ 2 ^ 36
+  pub numbered : number ≤ 9999999
+  pub few : from + lineCount parameterColumns (length (recordText typ (itemsAt t at))) ≤ 9999999
+  pub unbroken : Unbroken (linesAt t at)
 
 -- ---- a line's last columns
 

@@ -30,7 +30,8 @@ const REST: usize = TEXT_COLUMNS - 4 * FIELD_COLUMNS;
 
 // A section's letter and a number in seven columns with leading zeros.
 fn put_count(out: &mut [u8], at: usize, letter: u8, n: usize) -> usize
-    requires { ⌜ (at < 2 ^ 60) × (n ≤ 9999999) ⌝ }
+    requires { ⌜ at < 2 ^ 60 ⌝ }
+    requires { ⌜ n ≤ 9999999 ⌝ }
     ensures { λ r. ⌜ Wrote (now (out .entry)) at (letter ∷ zeros n) (now (out .exit)) r ⌝ }
     ensures { λ r. ⌜ r ≡ at + 8 ⌝ }
 {
@@ -40,7 +41,8 @@ fn put_count(out: &mut [u8], at: usize, letter: u8, n: usize) -> usize
 
 // The columns 73 to 80 and LF: a line's letter and its number in its section.
 pub fn put_tail(out: &mut [u8], at: usize, letter: u8, n: usize) -> usize
-    requires { ⌜ (at < 2 ^ 60) × (n ≤ 9999999) ⌝ }
+    requires { ⌜ at < 2 ^ 60 ⌝ }
+    requires { ⌜ n ≤ 9999999 ⌝ }
     ensures { λ r. ⌜ Wrote (now (out .entry)) at (tailOf letter n) (now (out .exit)) r ⌝ }
     ensures { λ r. ⌜ r ≡ at + 9 ⌝ }
 {
@@ -50,7 +52,9 @@ pub fn put_tail(out: &mut [u8], at: usize, letter: u8, n: usize) -> usize
 
 // S line n with this text.
 pub fn put_start_line(out: &mut [u8], at: usize, text: &[u8], n: usize) -> usize
-    requires { ⌜ (at < 2 ^ 59) × (length (now text) ≤ textColumns) × (n ≤ 9999999) ⌝ }
+    requires { ⌜ at < 2 ^ 59 ⌝ }
+    requires { ⌜ length (now text) ≤ textColumns ⌝ }
+    requires { ⌜ n ≤ 9999999 ⌝ }
     ensures { λ r. ⌜ Wrote (now (out .entry)) at (lineOf (toLeft textColumns (now (text .entry))) letterS n) (now (out .exit)) r ⌝ }
     ensures { λ r. ⌜ r ≡ at + lineBytes ⌝ }
 {
@@ -69,7 +73,9 @@ pub fn put_entry_lines(
     label: &[u8],
     number: DirectoryNumber,
 ) -> usize
-    requires { ⌜ (at < 2 ^ 58) × (length (now label) ≤ fieldColumns) × (number .0 + 1 ≤ 9999999) ⌝ }
+    requires { ⌜ at < 2 ^ 58 ⌝ }
+    requires { ⌜ length (now label) ≤ fieldColumns ⌝ }
+    requires { ⌜ number .0 + 1 ≤ 9999999 ⌝ }
     ensures { λ r. ⌜ Wrote (now (out .entry)) at
         (joined (section letterD (number .0) (entryLines x (from .0) count (now (label .entry))))) (now (out .exit)) r ⌝ }
     ensures { λ r. ⌜ r ≤ at + 522 ⌝ }
@@ -83,7 +89,11 @@ pub fn put_entry_lines(
 
 // The columns of T.
 fn put_totals(out: &mut [u8], at: usize, c: Counts) -> usize
-    requires { ⌜ (at < 2 ^ 59) × (c .s ≤ 9999999) × (c .g ≤ 9999999) × (c .d ≤ 9999999) × (c .p ≤ 9999999) ⌝ }
+    requires { ⌜ at < 2 ^ 59 ⌝ }
+    requires { ⌜ c .s ≤ 9999999 ⌝ }
+    requires { ⌜ c .g ≤ 9999999 ⌝ }
+    requires { ⌜ c .d ≤ 9999999 ⌝ }
+    requires { ⌜ c .p ≤ 9999999 ⌝ }
     ensures { λ r. ⌜ Wrote (now (out .entry)) at
         ((letterS ∷ zeros (c .s)) ++ ((letterG ∷ zeros (c .g)) ++ ((letterD ∷ zeros (c .d)) ++ (letterP ∷ zeros (c .p)))))
         (now (out .exit)) r ⌝ }
@@ -97,7 +107,11 @@ fn put_totals(out: &mut [u8], at: usize, c: Counts) -> usize
 
 // The T line: how many lines each section has.
 pub fn put_last_line(out: &mut [u8], at: usize, c: Counts) -> usize
-    requires { ⌜ (at < 2 ^ 59) × (c .s ≤ 9999999) × (c .g ≤ 9999999) × (c .d ≤ 9999999) × (c .p ≤ 9999999) ⌝ }
+    requires { ⌜ at < 2 ^ 59 ⌝ }
+    requires { ⌜ c .s ≤ 9999999 ⌝ }
+    requires { ⌜ c .g ≤ 9999999 ⌝ }
+    requires { ⌜ c .d ≤ 9999999 ⌝ }
+    requires { ⌜ c .p ≤ 9999999 ⌝ }
     ensures { λ r. ⌜ Wrote (now (out .entry)) at (lineOf (totalsOf c) letterT 1) (now (out .exit)) r ⌝ }
     ensures { λ r. ⌜ r ≡ at + lineBytes ⌝ }
 {

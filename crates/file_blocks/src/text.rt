@@ -12,7 +12,11 @@ const SEMICOLON: u8 = b';';
 
 // Ends the record whose values take p characters, each with ',' behind it: ';' stands at last, and blanks fill its last line.
 pub fn close(out: &mut [u8], base: usize, w: usize, p: usize) -> usize
-    requires { ⌜ (base ≤ 2 ^ 40) × (1 ≤ p) × (p ≤ 2 ^ 40) × (1 ≤ w) × (w ≤ lineColumns) ⌝ }
+    requires { ⌜ base ≤ 2 ^ 40 ⌝ }
+    requires { ⌜ 1 ≤ p ⌝ }
+    requires { ⌜ p ≤ 2 ^ 40 ⌝ }
+    requires { ⌜ 1 ≤ w ⌝ }
+    requires { ⌜ w ≤ lineColumns ⌝ }
     ensures { λ r. ⌜ now (out .exit)
         ≡ over base w (over base w (now (out .entry)) (p - 1) (semicolon ∷ [])) p (replicate (lineCount w p * w - p) space) ⌝ }
     ensures { λ r. ⌜ r ≡ lineCount w p ⌝ }

@@ -43,7 +43,8 @@ fn put_entry(
 
 // Lays the lines of entry k.
 fn put_row(out: &mut [u8], t: &[u8], x: EntryPlace, k: usize) -> EntryPlace
-    requires { ⌜ Turn (now t) x k × (0 < length (entriesAt (now t) (x .at))) ⌝ }
+    requires { ⌜ Turn (now t) x k ⌝ }
+    requires { ⌜ 0 < length (entriesAt (now t) (x .at)) ⌝ }
     ensures { λ r. ⌜ Turned (now (out .entry)) (now (t .entry)) x k (now (out .exit)) r ⌝ }
 {
     let at = x.at;
@@ -56,7 +57,8 @@ fn put_row(out: &mut [u8], t: &[u8], x: EntryPlace, k: usize) -> EntryPlace
 
 // Lays the lines of all n entries.
 pub fn put_rows(out: &mut [u8], t: &[u8], x: EntryPlace, n: usize)
-    requires { ⌜ Turn (now t) x 0 × (length (entriesAt (now t) (x .at)) ≡ n) ⌝ }
+    requires { ⌜ Turn (now t) x 0 ⌝ }
+    requires { ⌜ length (entriesAt (now t) (x .at)) ≡ n ⌝ }
     ensures { λ _. ⌜ now (out .exit) ≡ bothLaid (now (out .entry)) (now (t .entry)) x 0 ⌝ }
 {
     let mut y = x;

@@ -12,7 +12,8 @@ ghost use Rattle.file_canonical.specs.Laying.{startsFirst, behindStarts,
 
 // Where the start line at `at` ends.
 fn start_end(t: &[u8], at: usize) -> usize
-    requires { ⌜ (at ≤ length (now t)) × (0 < length (startsFirst (linesAt (now t) at))) ⌝ }
+    requires { ⌜ at ≤ length (now t) ⌝ }
+    requires { ⌜ 0 < length (startsFirst (linesAt (now t) at)) ⌝ }
     ensures { λ r. ⌜ StartStands (now (t .entry)) at r ⌝ }
 {
     end_of(t, at)
@@ -20,7 +21,8 @@ fn start_end(t: &[u8], at: usize) -> usize
 
 // Lays the S lines of a sheet with so many start lines, and tells where the sheet goes on.
 pub fn put_starts(out: &mut [u8], t: &[u8], s: usize) -> usize
-    requires { ⌜ (length (startsFirst (linesIn (now t))) ≡ s) × (s ≤ 9999998) ⌝ }
+    requires { ⌜ length (startsFirst (linesIn (now t))) ≡ s ⌝ }
+    requires { ⌜ s ≤ 9999998 ⌝ }
     ensures { λ r. ⌜ Wrote (now (out .entry)) 0 (startBytes 1 (startsFirst (linesIn (now (t .entry))))) (now (out .exit))
         (lineBytes * s) ⌝ }
     ensures { λ r. ⌜ linesAt (now (t .entry)) r ≡ behindStarts (linesIn (now (t .entry))) ⌝ }

@@ -78,7 +78,10 @@ fn put_field(
     src: &[u8],
     v: Value,
 ) -> usize
-    requires { ⌜ (base ≤ 2 ^ 40) × (p ≤ 2 ^ 39) × (number ≤ lastField) × Writable (length (now src)) v ⌝ }
+    requires { ⌜ base ≤ 2 ^ 40 ⌝ }
+    requires { ⌜ p ≤ 2 ^ 39 ⌝ }
+    requires { ⌜ number ≤ lastField ⌝ }
+    requires { ⌜ Writable (length (now src)) v ⌝ }
     ensures { λ r. ⌜ Put base textColumns (now (out .entry)) p
         (parted textColumns p (filled n ((number, itemOf (now (src .entry)) v) ∷ []))) (now (out .exit)) r ⌝ }
 {
@@ -88,9 +91,9 @@ fn put_field(
 
 // The fields of the G lines from `at` on, the first of them number 3, from position p of the record on.
 fn put_fields(out: &mut [u8], base: usize, t: &[u8], at: usize, p: usize) -> Flowed
-    requires { ⌜ (at ≤ length (now t))
-        × (base ≤ 2 ^ 40)
-        × (p + length (parted textColumns p (filled firstField (fieldsAt (now t) at))) ≤ 2 ^ 39) ⌝ }
+    requires { ⌜ at ≤ length (now t) ⌝ }
+    requires { ⌜ base ≤ 2 ^ 40 ⌝ }
+    requires { ⌜ p + length (parted textColumns p (filled firstField (fieldsAt (now t) at))) ≤ 2 ^ 39 ⌝ }
     ensures { λ r. ⌜ Put base textColumns (now (out .entry)) p
         (parted textColumns p (filled firstField (fieldsAt (now (t .entry)) at))) (now (out .exit)) (r .end) ⌝ }
     ensures { λ r. ⌜ linesAt (now (t .entry)) (r .next) ≡ behindGlobals (linesAt (now (t .entry)) at) ⌝ }
@@ -120,7 +123,8 @@ fn put_fields(out: &mut [u8], base: usize, t: &[u8], at: usize, p: usize) -> Flo
 
 // Columns 73 to LF of so many G lines from 1 on, column 73 of the first of which is at q.
 fn put_tails(out: &mut [u8], q: usize, lines: usize)
-    requires { ⌜ (q ≤ 2 ^ 41) × (lines ≤ 9999998) ⌝ }
+    requires { ⌜ q ≤ 2 ^ 41 ⌝ }
+    requires { ⌜ lines ≤ 9999998 ⌝ }
     ensures { λ _. ⌜ now (out .exit) ≡ tailed (now (out .entry)) q [] letterG 1 lines ⌝ }
 {
     let mut at = q;
@@ -134,9 +138,9 @@ fn put_tails(out: &mut [u8], q: usize, lines: usize)
 
 // The G lines: the opening and the fields of the sheet's G lines from `at` on.
 pub fn put_globals(out: &mut [u8], base: usize, t: &[u8], at: usize) -> Block
-    requires { ⌜ (at ≤ length (now t))
-        × (base ≤ 2 ^ 36)
-        × (length (globalText (fieldsAt (now t) at)) ≤ 2 ^ 36) ⌝ }
+    requires { ⌜ at ≤ length (now t) ⌝ }
+    requires { ⌜ base ≤ 2 ^ 36 ⌝ }
+    requires { ⌜ length (globalText (fieldsAt (now t) at)) ≤ 2 ^ 36 ⌝ }
     requires { ⌜ 1 + lineCount textColumns (length (globalText (fieldsAt (now t) at))) ≤ 9999999 ⌝ }
     ensures { λ r. ⌜ now (out .exit) ≡ laid (now (out .entry)) base (globalBytes (fieldsAt (now (t .entry)) at)) ⌝ }
     ensures { λ r. ⌜ r .lines ≡ lineCount textColumns (length (globalText (fieldsAt (now (t .entry)) at))) ⌝ }

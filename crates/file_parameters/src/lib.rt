@@ -17,7 +17,7 @@ ghost use Prim.Native.Nat.{_+_, _^_, _≤_, _<_};
 ghost use lib.ListN.{length};
 ghost use Rattle.columns.specs.Columns.{joined};
 ghost use Rattle.columns.specs.Laid.{laid, Wrote};
-ghost use Rattle.columns.specs.Format.{parameterColumns, mostInteger};
+ghost use Rattle.columns.specs.Format.{parameterColumns};
 ghost use Rattle.columns.specs.Letters.{letterP};
 ghost use Rattle.values.specs.declared.Strict.the-variants.{Is};
 ghost use Rattle.values.specs.Value.{itemOf};
@@ -26,14 +26,16 @@ ghost use Rattle.records.specs.Flow.{piece, lineCount};
 ghost use Rattle.records.specs.Written.{Put};
 ghost use Rattle.cards.specs.Written.{section};
 ghost use Rattle.sheets_rows.specs.Rows.{linesAt};
-ghost use Rattle.file_blocks.specs.Blocks.{behindValues, Unbroken, itemsAt, recordText, blockLines, tailOf};
+ghost use Rattle.file_blocks.specs.Blocks.{behindValues, Unbroken, itemsAt, recordText, blockLines, BlockHasRoom, tailOf};
 ghost use Rattle.file_blocks.specs.Writing.{parted, ownerOf, tailed};
 
 const COMMA: u8 = b',';
 
 // Writes the value that l spells at position p with ',' behind it: its spelling is its canonical form.
 fn put_spelled(out: &mut [u8], base: usize, p: usize, l: &[u8]) -> usize
-    requires { ⌜ (base ≤ 2 ^ 40) × (p ≤ 2 ^ 40) × (strictOf (now l) ≡ Is (meant (now l))) ⌝ }
+    requires { ⌜ base ≤ 2 ^ 40 ⌝ }
+    requires { ⌜ p ≤ 2 ^ 40 ⌝ }
+    requires { ⌜ strictOf (now l) ≡ Is (meant (now l)) ⌝ }
     ensures { λ r. ⌜ Put base parameterColumns (now (out .entry)) p
         (piece parameterColumns p (itemOf (now (l .entry)) (meant (now (l .entry)))) false) (now (out .exit)) r ⌝ }
 {
@@ -47,10 +49,10 @@ fn put_spelled(out: &mut [u8], base: usize, p: usize, l: &[u8]) -> usize
 // The values of the value lines from `at` on, from position p of the record on. The sheet is good: what begins as a value line is one, and
 // isn't read again.
 fn put_values(out: &mut [u8], base: usize, t: &[u8], at: usize, p: usize) -> Flowed
-    requires { ⌜ (at ≤ length (now t))
-        × (base ≤ 2 ^ 40)
-        × (p + length (parted parameterColumns p (itemsAt (now t) at)) ≤ 2 ^ 40)
-        × Unbroken (linesAt (now t) at) ⌝ }
+    requires { ⌜ at ≤ length (now t) ⌝ }
+    requires { ⌜ base ≤ 2 ^ 40 ⌝ }
+    requires { ⌜ p + length (parted parameterColumns p (itemsAt (now t) at)) ≤ 2 ^ 40 ⌝ }
+    requires { ⌜ Unbroken (linesAt (now t) at) ⌝ }
     ensures { λ r. ⌜ Put base parameterColumns (now (out .entry)) p (parted parameterColumns p (itemsAt (now (t .entry)) at))
         (now (out .exit)) (r .end) ⌝ }
     ensures { λ r. ⌜ linesAt (now (t .entry)) (r .next) ≡ behindValues (linesAt (now (t .entry)) at) ⌝ }
@@ -71,7 +73,9 @@ fn put_values(out: &mut [u8], base: usize, t: &[u8], at: usize, p: usize) -> Flo
 
 // Column 65 to LF of P line n of the entry with this directory number.
 fn put_owned(out: &mut [u8], at: usize, number: DirectoryNumber, n: ParameterLine) -> usize
-    requires { ⌜ (at < 2 ^ 59) × (number .0 ≤ 9999999) × (n .0 ≤ 9999999) ⌝ }
+    requires { ⌜ at < 2 ^ 59 ⌝ }
+    requires { ⌜ number .0 ≤ 9999999 ⌝ }
+    requires { ⌜ n .0 ≤ 9999999 ⌝ }
     ensures { λ r. ⌜ Wrote (now (out .entry)) at (ownerOf (number .0) ++ tailOf letterP (n .0)) (now (out .exit)) r ⌝ }
     ensures { λ r. ⌜ r ≡ at + 17 ⌝ }
 {
@@ -82,7 +86,9 @@ fn put_owned(out: &mut [u8], at: usize, number: DirectoryNumber, n: ParameterLin
 
 // The same of so many lines, column 65 of the first of which is at q.
 fn put_tails(out: &mut [u8], q: usize, number: DirectoryNumber, from: ParameterLine, lines: usize)
-    requires { ⌜ (q ≤ 2 ^ 41) × (number .0 ≤ 9999999) × (from .0 + lines ≤ 9999999) ⌝ }
+    requires { ⌜ q ≤ 2 ^ 41 ⌝ }
+    requires { ⌜ number .0 ≤ 9999999 ⌝ }
+    requires { ⌜ from .0 + lines ≤ 9999999 ⌝ }
     ensures { λ _. ⌜ now (out .exit) ≡ tailed (now (out .entry)) q (ownerOf (number .0)) letterP (from .0) lines ⌝ }
 {
     let mut at = q;
@@ -104,13 +110,7 @@ pub fn put_block(
     number: DirectoryNumber,
     from: ParameterLine,
 ) -> Block
-    requires { ⌜ (at ≤ length (now t))
-        × (base ≤ 2 ^ 36)
-        × (typ ≤ mostInteger)
-        × (length (recordText typ (itemsAt (now t) at)) ≤ 2 ^ 36) ⌝ }
-    requires { ⌜ (number .0 ≤ 9999999)
-        × (from .0 + lineCount parameterColumns (length (recordText typ (itemsAt (now t) at))) ≤ 9999999) ⌝ }
-    requires { ⌜ Unbroken (linesAt (now t) at) ⌝ }
+    requires { ⌜ BlockHasRoom (now t) at base typ (number .0) (from .0) ⌝ }
     ensures { λ r. ⌜ now (out .exit)
         ≡ laid (now (out .entry)) base
         (joined (section letterP (from .0) (blockLines (number .0) typ (itemsAt (now (t .entry)) at)))) ⌝ }

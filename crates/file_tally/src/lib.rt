@@ -54,7 +54,8 @@ fn with_start(x: Tally) -> Tally
 
 // A G line.
 fn with_global(x: Tally, n: u32, v: Value) -> Tally
-    requires { ⌜ Under (2 ^ 36) x × (copied v ≤ 999) ⌝ }
+    requires { ⌜ Under (2 ^ 36) x ⌝ }
+    requires { ⌜ copied v ≤ 999 ⌝ }
     ensures { λ r. ⌜ r ≡ withGlobal x n (pieceEnd textColumns (x .global + skipped (x .field) n) v) ⌝ }
     ensures { λ r. ⌜ Under (2 ^ 38) r ⌝ }
 {
@@ -94,7 +95,8 @@ fn with_entry(x: Tally, typ: u32) -> Tally
 
 // A value line.
 fn with_value(x: Tally, v: Value) -> Tally
-    requires { ⌜ Under (2 ^ 36) x × (copied v ≤ 999) ⌝ }
+    requires { ⌜ Under (2 ^ 36) x ⌝ }
+    requires { ⌜ copied v ≤ 999 ⌝ }
     ensures { λ r. ⌜ r ≡ withValue x (pieceEnd parameterColumns (x .at) v) ⌝ }
     ensures { λ r. ⌜ Under (2 ^ 38) r ⌝ }
 {
@@ -111,7 +113,8 @@ fn with_value(x: Tally, v: Value) -> Tally
 
 // One line more.
 pub fn tally_said(x: Tally, y: Said) -> Tally
-    requires { ⌜ Under (2 ^ 36) x × Short y ⌝ }
+    requires { ⌜ Under (2 ^ 36) x ⌝ }
+    requires { ⌜ Short y ⌝ }
     ensures { λ r. ⌜ r ≡ tallySaid x y ⌝ }
     ensures { λ r. ⌜ Under (2 ^ 38) r ⌝ }
 {
@@ -130,7 +133,8 @@ pub fn tally_said(x: Tally, y: Said) -> Tally
 
 // The position behind the value of a value line, which stands at p: what the line says is its canonical spelling, so its length tells it.
 pub fn behind_value(p: usize, l: &[u8], v: Value) -> usize
-    requires { ⌜ (p ≤ 2 ^ 38) × (strictOf (now l) ≡ Is v) ⌝ }
+    requires { ⌜ p ≤ 2 ^ 38 ⌝ }
+    requires { ⌜ strictOf (now l) ≡ Is v ⌝ }
     ensures { λ r. ⌜ r ≡ behindValue p (itemOf (now (l .entry)) v) ⌝ }
     ensures { λ r. ⌜ r ≤ 2 ^ 38 ⌝ }
 {
@@ -152,7 +156,8 @@ fn total_of(x: Tally) -> usize
 // Behind the value lines of an entry, the last of which ends at this position. Too many lines are told by one too many, so that no sum
 // grows on.
 pub fn with_values(x: Tally, at: usize) -> Tally
-    requires { ⌜ Under (2 ^ 38) x × (at ≤ 2 ^ 38) ⌝ }
+    requires { ⌜ Under (2 ^ 38) x ⌝ }
+    requires { ⌜ at ≤ 2 ^ 38 ⌝ }
     ensures { λ r. ⌜ r ≡ capped (withValue x at) ⌝ }
     ensures { λ r. ⌜ Under (2 ^ 36) r ⌝ }
 {
@@ -179,7 +184,8 @@ pub fn with_values(x: Tally, at: usize) -> Tally
 
 // The counts of a tally that a file may have.
 fn counts_in(x: Tally) -> Counts
-    requires { ⌜ Under (2 ^ 36) x × Few x ⌝ }
+    requires { ⌜ Under (2 ^ 36) x ⌝ }
+    requires { ⌜ Few x ⌝ }
     ensures { λ r. ⌜ r ≡ countsIn x ⌝ }
 {
     let g = line_count(TEXT_COLUMNS, x.global);

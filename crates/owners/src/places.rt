@@ -46,7 +46,8 @@ fn size_or_0(f: SignedField) -> u32
 
 // The number in slot j of the entry whose first D line is line k.
 fn size_at(file: &[u8], k: usize, j: usize) -> u32
-    requires { ⌜ (lineBytes * (k + 2) ≤ length (now file)) × (j < 18) ⌝ }
+    requires { ⌜ lineBytes * (k + 2) ≤ length (now file) ⌝ }
+    requires { ⌜ j < 18 ⌝ }
     ensures { λ r. ⌜ r ≡ sizeOr0 (signedOf (slotAt (now (file .entry)) k j)) ⌝ }
 {
     let at = lines::start_of(k, j);
@@ -69,7 +70,9 @@ fn name_at(file: &[u8], line: usize) -> DirectoryNumber
 
 // What P line k names, or 0.
 pub fn owner_at(file: &[u8], c: Counts, k: ParameterLine) -> DirectoryNumber
-    requires { ⌜ Holds (now file) c × ((1 ≤ k .0) × (k .0 ≤ c .p)) ⌝ }
+    requires { ⌜ Holds (now file) c ⌝ }
+    requires { ⌜ 1 ≤ k .0 ⌝ }
+    requires { ⌜ k .0 ≤ c .p ⌝ }
     ensures { λ r. ⌜ r .0 ≡ ownerIn (now (file .entry)) c (k .0) ⌝ }
 {
     let line = cards::parameter_line(c, k);
@@ -78,7 +81,8 @@ pub fn owner_at(file: &[u8], c: Counts, k: ParameterLine) -> DirectoryNumber
 
 // Entry i's pointer.
 pub fn from_at(file: &[u8], c: Counts, i: usize) -> ParameterLine
-    requires { ⌜ Holds (now file) c × (i < entries c) ⌝ }
+    requires { ⌜ Holds (now file) c ⌝ }
+    requires { ⌜ i < entries c ⌝ }
     ensures { λ r. ⌜ r .0 ≡ fromIn (now (file .entry)) c i ⌝ }
 {
     let line = cards::entry_line(c, i);
@@ -87,7 +91,8 @@ pub fn from_at(file: &[u8], c: Counts, i: usize) -> ParameterLine
 
 // Entry i's line count.
 pub fn count_at(file: &[u8], c: Counts, i: usize) -> u32
-    requires { ⌜ Holds (now file) c × (i < entries c) ⌝ }
+    requires { ⌜ Holds (now file) c ⌝ }
+    requires { ⌜ i < entries c ⌝ }
     ensures { λ r. ⌜ r ≡ countIn (now (file .entry)) c i ⌝ }
 {
     let line = cards::entry_line(c, i);

@@ -23,7 +23,9 @@ fn run_end(
     from: ParameterLine,
     count: u32,
 ) -> ParameterLine
-    requires { ⌜ Holds (now file) c × ((1 ≤ from .0) × (from .0 + count ≤ c .p + 1)) ⌝ }
+    requires { ⌜ Holds (now file) c ⌝ }
+    requires { ⌜ 1 ≤ from .0 ⌝ }
+    requires { ⌜ from .0 + count ≤ c .p + 1 ⌝ }
     ensures { λ r. ⌜ r .0 ≡ firstNot (nameIs (ownerIn (now (file .entry)) c) (m .0)) (from .0) count ⌝ }
 {
     let end = from.0 + count;
@@ -41,7 +43,8 @@ fn run_end(
 // Whether entry i's range stays in P and every line in it names the entry. A range that passes is its entry's alone, so all of
 // these looks together are as many as there are P lines.
 fn entry_owns(file: &[u8], c: Counts, i: usize) -> bool
-    requires { ⌜ Holds (now file) c × (i < entries c) ⌝ }
+    requires { ⌜ Holds (now file) c ⌝ }
+    requires { ⌜ i < entries c ⌝ }
     ensures { λ r. ⌜ r ≡ entryIn (now (file .entry)) c i ⌝ }
 {
     let from = places::from_at(file, c, i);
@@ -60,7 +63,9 @@ fn entry_owns(file: &[u8], c: Counts, i: usize) -> bool
 
 // Whether P line k lies in the range of the entry that it names.
 fn line_owned(file: &[u8], c: Counts, k: ParameterLine) -> bool
-    requires { ⌜ Holds (now file) c × ((1 ≤ k .0) × (k .0 ≤ c .p)) ⌝ }
+    requires { ⌜ Holds (now file) c ⌝ }
+    requires { ⌜ 1 ≤ k .0 ⌝ }
+    requires { ⌜ k .0 ≤ c .p ⌝ }
     ensures { λ r. ⌜ r ≡ lineIn (now (file .entry)) c (k .0) ⌝ }
 {
     let owner = places::owner_at(file, c, k);

@@ -18,7 +18,9 @@ pub fn put_text(
     start: usize,
     count: usize,
 ) -> usize
-    requires { ⌜ Stands (now file) base w lines × (start + count ≤ lines * w) × (at < 2 ^ 60) ⌝ }
+    requires { ⌜ Stands (now file) base w lines ⌝ }
+    requires { ⌜ start + count ≤ lines * w ⌝ }
+    requires { ⌜ at < 2 ^ 60 ⌝ }
     ensures { λ r. ⌜ Wrote (now (out .entry)) at (take count (drop start (textOf (now (file .entry)) base w lines)))
         (now (out .exit)) r ⌝ }
     ensures { λ r. ⌜ r ≡ at + count ⌝ }

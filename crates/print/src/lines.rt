@@ -28,7 +28,9 @@ fn put_chars(
     lines: usize,
     v: Value,
 ) -> usize
-    requires { ⌜ Stands (now file) base w lines × Writable (lines * w) v × (at < 2 ^ 60) ⌝ }
+    requires { ⌜ Stands (now file) base w lines ⌝ }
+    requires { ⌜ Writable (lines * w) v ⌝ }
+    requires { ⌜ at < 2 ^ 60 ⌝ }
     ensures { λ r. ⌜ Wrote (now (out .entry)) at (chars (textOf (now (file .entry)) base w lines) v) (now (out .exit)) r ⌝ }
     ensures { λ r. ⌜ r ≤ at + 999 ⌝ }
 {
@@ -50,7 +52,9 @@ pub fn put_value_line(
     reference: bool,
     v: Value,
 ) -> usize
-    requires { ⌜ Stands (now file) base parameterColumns lines × Writable (lines * parameterColumns) v × (at < 2 ^ 59) ⌝ }
+    requires { ⌜ Stands (now file) base parameterColumns lines ⌝ }
+    requires { ⌜ Writable (lines * parameterColumns) v ⌝ }
+    requires { ⌜ at < 2 ^ 59 ⌝ }
     ensures { λ r. ⌜ Wrote (now (out .entry)) at
         (lineOf (Line.value reference (itemOf (textOf (now (file .entry)) base parameterColumns lines) v)) ++ (newline ∷ []))
         (now (out .exit)) r ⌝ }
@@ -93,7 +97,9 @@ pub fn put_mostly_real(
     reference: bool,
     v: Value,
 ) -> usize
-    requires { ⌜ Stands (now file) base parameterColumns lines × Writable (lines * parameterColumns) v × (at < 2 ^ 59) ⌝ }
+    requires { ⌜ Stands (now file) base parameterColumns lines ⌝ }
+    requires { ⌜ Writable (lines * parameterColumns) v ⌝ }
+    requires { ⌜ at < 2 ^ 59 ⌝ }
     ensures { λ r. ⌜ Wrote (now (out .entry)) at
         (lineOf (Line.value reference (itemOf (textOf (now (file .entry)) base parameterColumns lines) v)) ++ (newline ∷ []))
         (now (out .exit)) r ⌝ }
@@ -121,7 +127,9 @@ pub fn put_global_line(
     n: u32,
     v: Value,
 ) -> usize
-    requires { ⌜ Stands (now file) base textColumns lines × Writable (lines * textColumns) v × (at < 2 ^ 59) ⌝ }
+    requires { ⌜ Stands (now file) base textColumns lines ⌝ }
+    requires { ⌜ Writable (lines * textColumns) v ⌝ }
+    requires { ⌜ at < 2 ^ 59 ⌝ }
     ensures { λ r. ⌜ Wrote (now (out .entry)) at
         (lineOf (Line.global n (itemOf (textOf (now (file .entry)) base textColumns lines) v)) ++ (newline ∷ []))
         (now (out .exit)) r ⌝ }

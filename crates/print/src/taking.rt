@@ -29,7 +29,10 @@ fn taken_of(g: Got) -> Taken
 
 // The value from position q of a record on.
 pub fn value_from(file: &[u8], base: usize, w: usize, lines: usize, c: u8, d: u8, q: usize) -> Taken
-    requires { ⌜ Stands (now file) base w lines × (q ≤ lines * w) × (0 < c) × (0 < d) ⌝ }
+    requires { ⌜ Stands (now file) base w lines ⌝ }
+    requires { ⌜ q ≤ lines * w ⌝ }
+    requires { ⌜ 0 < c ⌝ }
+    requires { ⌜ 0 < d ⌝ }
     ensures { λ r. ⌜ r ≡ takenOf (valueAt w c d (textOf (now (file .entry)) base w lines) q) ⌝ }
     ensures { λ r. ⌜ (r .next ≤ lines * w) × Writable (lines * w) (r .value) ⌝ }
 {
@@ -58,8 +61,11 @@ fn met_of(g: Got) -> Met
 
 // The value from position q of an entity's record on, which is not refused.
 pub fn met_at(file: &[u8], base: usize, lines: usize, c: u8, d: u8, q: usize) -> Met
-    requires { ⌜ Stands (now file) base parameterColumns lines × (q ≤ lines * parameterColumns) × (0 < c) × (0 < d)
-        × Unrefused (valuesAt parameterColumns c d (textOf (now file) base parameterColumns lines) q) ⌝ }
+    requires { ⌜ Stands (now file) base parameterColumns lines ⌝ }
+    requires { ⌜ q ≤ lines * parameterColumns ⌝ }
+    requires { ⌜ 0 < c ⌝ }
+    requires { ⌜ 0 < d ⌝ }
+    requires { ⌜ Unrefused (valuesAt parameterColumns c d (textOf (now file) base parameterColumns lines) q) ⌝ }
     ensures { λ r. ⌜ r ≡ metOf (valueAt parameterColumns c d (textOf (now (file .entry)) base parameterColumns lines) q) ⌝ }
     ensures { λ r. ⌜ (q < r .next) × (r .next ≤ lines * parameterColumns) × Writable (lines * parameterColumns) (r .value) ⌝ }
 {

@@ -31,7 +31,9 @@ fn put_given(
     n: u32,
     v: Value,
 ) -> usize
-    requires { ⌜ Stands (now file) base textColumns lines × Writable (lines * textColumns) v × (at < 2 ^ 59) ⌝ }
+    requires { ⌜ Stands (now file) base textColumns lines ⌝ }
+    requires { ⌜ Writable (lines * textColumns) v ⌝ }
+    requires { ⌜ at < 2 ^ 59 ⌝ }
     ensures { λ r. ⌜ Wrote (now (out .entry)) at (givenBytes n (itemOf (textOf (now (file .entry)) base textColumns lines) v))
         (now (out .exit)) r ⌝ }
     ensures { λ r. ⌜ r ≤ at + 1100 ⌝ }
@@ -44,7 +46,10 @@ fn put_given(
 
 // How many values the record has from position from on; none if it is refused.
 fn count_from(file: &[u8], base: usize, lines: usize, c: u8, d: u8, from: usize) -> usize
-    requires { ⌜ Stands (now file) base textColumns lines × (from ≤ lines * textColumns) × (0 < c) × (0 < d) ⌝ }
+    requires { ⌜ Stands (now file) base textColumns lines ⌝ }
+    requires { ⌜ from ≤ lines * textColumns ⌝ }
+    requires { ⌜ 0 < c ⌝ }
+    requires { ⌜ 0 < d ⌝ }
     ensures { λ r. ⌜ itemsFrom textColumns c d (textOf (now (file .entry)) base textColumns lines) from r
         ≡ valuesIn (valuesAt textColumns c d (textOf (now (file .entry)) base textColumns lines) from) ⌝ }
     ensures { λ r. ⌜ r ≤ lines * textColumns ⌝ }
@@ -66,7 +71,11 @@ pub fn put_globals(
     d: u8,
     from: usize,
 ) -> usize
-    requires { ⌜ Stands (now file) base textColumns lines × (from ≤ lines * textColumns) × (0 < c) × (0 < d) × (at < 2 ^ 58) ⌝ }
+    requires { ⌜ Stands (now file) base textColumns lines ⌝ }
+    requires { ⌜ from ≤ lines * textColumns ⌝ }
+    requires { ⌜ 0 < c ⌝ }
+    requires { ⌜ 0 < d ⌝ }
+    requires { ⌜ at < 2 ^ 58 ⌝ }
     ensures { λ r. ⌜ Wrote (now (out .entry)) at
         (globalBytes (given firstField (valuesIn (valuesAt textColumns c d (textOf (now (file .entry)) base textColumns lines) from))))
         (now (out .exit)) r ⌝ }

@@ -26,7 +26,11 @@ fn put_fields(
     from: usize,
     last: bool,
 ) -> usize
-    requires { ⌜ Stands (now file) base textColumns lines × (from ≤ lines * textColumns) × (0 < c) × (0 < d) × (at < 2 ^ 58) ⌝ }
+    requires { ⌜ Stands (now file) base textColumns lines ⌝ }
+    requires { ⌜ from ≤ lines * textColumns ⌝ }
+    requires { ⌜ 0 < c ⌝ }
+    requires { ⌜ 0 < d ⌝ }
+    requires { ⌜ at < 2 ^ 58 ⌝ }
     ensures { λ r. ⌜ Wrote (now (out .entry)) at (fieldBytes c d (textOf (now (file .entry)) base textColumns lines) from last)
         (now (out .exit)) r ⌝ }
     ensures { λ r. ⌜ r ≤ at + 79200 * lines ⌝ }
@@ -53,7 +57,9 @@ pub fn put_sheet(
     from: usize,
     last: bool,
 ) -> usize
-    requires { ⌜ Printable (now file) (s + g) n parameters c d × (from ≤ g * textColumns) × (at < 2 ^ 55) ⌝ }
+    requires { ⌜ Printable (now file) (s + g) n parameters c d ⌝ }
+    requires { ⌜ from ≤ g * textColumns ⌝ }
+    requires { ⌜ at < 2 ^ 55 ⌝ }
     requires { ⌜ RowsRead (now file) (s + g) n parameters c d ⌝ }
     ensures { λ r. ⌜ Wrote (now (out .entry)) at (wholeBytes list (now (file .entry)) s g n parameters c d from last)
         (now (out .exit)) r ⌝ }

@@ -42,7 +42,8 @@ fn put_entry_line(
     number: DirectoryNumber,
     x: Fields,
 ) -> usize
-    requires { ⌜ (lineBytes * k + 2 * lineBytes ≤ length (now file)) × (at < 2 ^ 59) ⌝ }
+    requires { ⌜ lineBytes * k + 2 * lineBytes ≤ length (now file) ⌝ }
+    requires { ⌜ at < 2 ^ 59 ⌝ }
     ensures { λ r. ⌜ Wrote (now (out .entry)) at
         (lineOf (Line.entry (known list (x .entity .size) (x .form .size)) (sized false (number .0)) x (labelAt (now (file .entry)) k))
         ++ (newline ∷ [])) (now (out .exit)) r ⌝ }
@@ -72,8 +73,9 @@ pub fn put_entity(
     first: usize,
     n: usize,
 ) -> usize
-    requires { ⌜ ValuesStand (now file) base lines c d first n × (lineBytes * k + 2 * lineBytes ≤ length (now file))
-        × (at < 2 ^ 57) ⌝ }
+    requires { ⌜ ValuesStand (now file) base lines c d first n ⌝ }
+    requires { ⌜ lineBytes * k + 2 * lineBytes ≤ length (now file) ⌝ }
+    requires { ⌜ at < 2 ^ 57 ⌝ }
     ensures { λ r. ⌜ Wrote (now (out .entry)) at
         (entityBytes list (typesAt (now (file .entry)) first n) (number .0) x (labelAt (now (file .entry)) k)
         (carriedIn (valuesAt parameterColumns c d (textOf (now (file .entry)) base parameterColumns lines) 0))) (now (out .exit)) r ⌝ }
@@ -124,7 +126,9 @@ fn put_spelt(
     pointer: ParameterLine,
     count: u32,
 ) -> usize
-    requires { ⌜ Printable (now file) first n parameters c d × (i < n) × (at < 2 ^ 57) ⌝ }
+    requires { ⌜ Printable (now file) first n parameters c d ⌝ }
+    requires { ⌜ i < n ⌝ }
+    requires { ⌜ at < 2 ^ 57 ⌝ }
     requires { ⌜ SpeltReads (now file) parameters c d (pointer .0) count ⌝ }
     ensures { λ r. ⌜ Wrote (now (out .entry)) at (speltBytes list (now (file .entry)) first n parameters c d i x (pointer .0) count)
         (now (out .exit)) r ⌝ }
@@ -169,7 +173,9 @@ fn put_row(
     d: u8,
     i: usize,
 ) -> usize
-    requires { ⌜ Printable (now file) first n parameters c d × (i < n) × (at < 2 ^ 57) ⌝ }
+    requires { ⌜ Printable (now file) first n parameters c d ⌝ }
+    requires { ⌜ i < n ⌝ }
+    requires { ⌜ at < 2 ^ 57 ⌝ }
     requires { ⌜ RowReads (now file) first parameters c d i ⌝ }
     ensures { λ r. ⌜ Wrote (now (out .entry)) at (rowBytes list (now (file .entry)) first n parameters c d i) (now (out .exit)) r ⌝ }
     ensures { λ r. ⌜ r ≤ at + 15000000000 ⌝ }
@@ -210,7 +216,8 @@ pub fn put_rows(
     c: u8,
     d: u8,
 ) -> usize
-    requires { ⌜ Printable (now file) first n parameters c d × (at < 2 ^ 56) ⌝ }
+    requires { ⌜ Printable (now file) first n parameters c d ⌝ }
+    requires { ⌜ at < 2 ^ 56 ⌝ }
     requires { ⌜ RowsRead (now file) first n parameters c d ⌝ }
     ensures { λ r. ⌜ Wrote (now (out .entry)) at
         (rowsBytes list (now (file .entry)) first n parameters c d 0 n ++ (lineOf (Line.last n) ++ (newline ∷ [])))

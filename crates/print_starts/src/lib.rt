@@ -34,7 +34,8 @@ fn kept(file: &[u8], from: usize) -> usize
 
 // The S line of line k of the file.
 fn put_start_line(out: &mut [u8], at: usize, file: &[u8], k: usize) -> usize
-    requires { ⌜ (lineBytes * k + lineBytes ≤ length (now file)) × (at < 2 ^ 60) ⌝ }
+    requires { ⌜ lineBytes * k + lineBytes ≤ length (now file) ⌝ }
+    requires { ⌜ at < 2 ^ 60 ⌝ }
     ensures { λ r. ⌜ Wrote (now (out .entry)) at (lineOf (Line.start (startText (now (file .entry)) k)) ++ (newline ∷ []))
         (now (out .exit)) r ⌝ }
     ensures { λ r. ⌜ r ≤ at + 75 ⌝ }
@@ -47,7 +48,9 @@ fn put_start_line(out: &mut [u8], at: usize, file: &[u8], k: usize) -> usize
 
 // Those of the first s lines.
 pub fn put_starts(out: &mut [u8], at: usize, file: &[u8], s: usize) -> usize
-    requires { ⌜ (lineBytes * s ≤ length (now file)) × (s ≤ mostLines) × (at < 2 ^ 59) ⌝ }
+    requires { ⌜ lineBytes * s ≤ length (now file) ⌝ }
+    requires { ⌜ s ≤ mostLines ⌝ }
+    requires { ⌜ at < 2 ^ 59 ⌝ }
     ensures { λ r. ⌜ Wrote (now (out .entry)) at
         (startBytes (map (startText (now (file .entry))) (upFrom 0 s))) (now (out .exit)) r ⌝ }
     ensures { λ r. ⌜ r ≤ at + 75 * s ⌝ }

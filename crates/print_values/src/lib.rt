@@ -72,7 +72,8 @@ pub fn put_values(
     first: usize,
     n: usize,
 ) -> usize
-    requires { ⌜ ValuesStand (now file) base lines c d first n × (at < 2 ^ 58) ⌝ }
+    requires { ⌜ ValuesStand (now file) base lines c d first n ⌝ }
+    requires { ⌜ at < 2 ^ 58 ⌝ }
     ensures { λ r. ⌜ Wrote (now (out .entry)) at
         (valueBytes (markedFrom (typesAt (now (file .entry)) first n) (marksBegun list typ form)
         (carriedIn (valuesAt parameterColumns c d (textOf (now (file .entry)) base parameterColumns lines) 0)))) (now (out .exit)) r ⌝ }

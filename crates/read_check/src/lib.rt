@@ -21,7 +21,9 @@ ghost use Rattle.read_weights.specs.Weights.{rowsLength, rowsOf, weightOf, Few,
 
 // The last pass: each entity in turn, and behind them the Z line.
 pub fn last_pass(list: u64, file: &[u8], c: Counts, parameter: u8, closing: u8) -> Rows
-    requires { ⌜ Ready (now file) c × (0 < parameter) × (0 < closing) ⌝ }
+    requires { ⌜ Ready (now file) c ⌝ }
+    requires { ⌜ 0 < parameter ⌝ }
+    requires { ⌜ 0 < closing ⌝ }
     ensures { λ r. ⌜ r ≡ rowsOf (rowsLength list (now (file .entry)) c parameter closing)
         (passOf (lastPass list (now (file .entry)) c (delimited parameter closing) (allEntries (now (file .entry)) c))) ⌝ }
     ensures { λ r. ⌜ Few (2 ^ 51) r ⌝ }

@@ -20,7 +20,8 @@ ghost use Rattle.read_passes.specs.Walks.{orElse, turnOf, entryCheck, reference
 
 // Entry i, whose first D line is its place, with what is kept of the entries before it.
 fn entry_check(file: &[u8], c: Counts, i: usize, kept: FilePass) -> Turn
-    requires { ⌜ Holds (now file) c × (i < entries c) ⌝ }
+    requires { ⌜ Holds (now file) c ⌝ }
+    requires { ⌜ i < entries c ⌝ }
     ensures { λ r. ⌜ r ≡ turnOf (entryCheck (now (file .entry)) c i) (orElse kept (referenceCheck (now (file .entry)) c i)) ⌝ }
 {
     let first = cards::entry_line(c, 0);

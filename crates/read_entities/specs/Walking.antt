@@ -2,12 +2,14 @@
 -- default is owed until a value is given behind it. Its lines in the sheet are measured on the way.
 use mathlib.Core.Bool.{cond}
 use mathlib.Core.List.{List, [], _∷_, _++_}
-use Prim.Native.Nat.{ℕ, _+_, _*_, _≤_}
+use Prim.Native.Nat.{ℕ, _+_, _*_, _≤_, _<_}
 use lib.ListN.{length, replicate}
+use Rattle.columns.specs.Format.{lineBytes, parameterColumns}
 use Rattle.values.specs.declared.Value.{Value}
 use Rattle.values.specs.Value.{Item, default, spelled, isMissing}
 use Rattle.values.specs.Writing.{front}
 use Rattle.records.specs.Record.{Values, values, wrong, trimmed}
+use Rattle.records.specs.Reading.{Stands}
 use Rattle.records.specs.Written.{copied}
 use Rattle.layouts.specs.declared.Stepped.{Stepped}
 use Rattle.layouts.specs.Walk.{stepped, run}
@@ -23,6 +25,13 @@ carriedLength (v ∷ vs) = length (spelled v) + 3 + carriedLength vs
 abbrev pub owing : ℕ → List Item → List Item
 owing owed [] = []
 owing owed (v ∷ vs) = replicate owed default ++ (v ∷ vs)
+
+-- what a walk needs: the P lines from base on stand in the file, so do the D lines of n entries from line `first` on, and no delimiter is 0
+pub record EntityStands (f : List ℕ) (base lines c d first n : ℕ) : Type 0 where
+  pub stands : Stands f base parameterColumns lines
+  pub parameter : 0 < c
+  pub closing : 0 < d
+  pub directory-there : lineBytes * (first + 2 * n) ≤ length f
 
 -- ---- behind a value
 

@@ -14,15 +14,13 @@ use records::Got;
 use records_read::value_at;
 use values::Value;
 ghost use mathlib.Core.Path.{_≡_};
-ghost use Prim.Native.Nat.{_+_, _*_, _≤_, _<_};
-ghost use lib.ListN.{length};
+ghost use Prim.Native.Nat.{_*_, _≤_};
 ghost use Rattle.columns.specs.Columns.{textOf};
-ghost use Rattle.columns.specs.Format.{lineBytes, parameterColumns};
+ghost use Rattle.columns.specs.Format.{parameterColumns};
 ghost use Rattle.records.specs.Record.{valuesAt};
-ghost use Rattle.records.specs.Reading.{Stands};
 ghost use Rattle.directory.specs.Naming.{typesAt};
 ghost use Rattle.read_entities.specs.Marks.{carriedIn};
-ghost use Rattle.read_entities.specs.Walking.{carriedLength};
+ghost use Rattle.read_entities.specs.Walking.{EntityStands, carriedLength};
 ghost use Rattle.read_entities.specs.Answers.{typeRead, verdictAnswer, passAnswer, weighedOf, entityPassOf};
 
 // Whether a value is the integer type.
@@ -102,8 +100,7 @@ pub fn entity_pass(
     first: usize,
     n: usize,
 ) -> Weighed
-    requires { ⌜ Stands (now file) base parameterColumns lines × (0 < c) × (0 < d)
-        × (lineBytes * (first + 2 * n) ≤ length (now file)) ⌝ }
+    requires { ⌜ EntityStands (now file) base lines c d first n ⌝ }
     ensures { λ r. ⌜ r .answer ≡ entityPassOf list (typesAt (now (file .entry)) first n) typ form
         (valuesAt parameterColumns c d (textOf (now (file .entry)) base parameterColumns lines) 0) ⌝ }
     ensures { λ r. ⌜ r .length ≡ carriedLength

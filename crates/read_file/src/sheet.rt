@@ -63,7 +63,10 @@ fn fields_len(
     from: usize,
     last: bool,
 ) -> usize
-    requires { ⌜ Stands (now file) base textColumns lines × (from ≤ lines * textColumns) × (0 < c) × (0 < d) ⌝ }
+    requires { ⌜ Stands (now file) base textColumns lines ⌝ }
+    requires { ⌜ from ≤ lines * textColumns ⌝ }
+    requires { ⌜ 0 < c ⌝ }
+    requires { ⌜ 0 < d ⌝ }
     ensures { λ r. ⌜ r ≡ length (fieldBytes c d (textOf (now (file .entry)) base textColumns lines) from last) ⌝ }
     ensures { λ r. ⌜ r ≤ 79200 * lines ⌝ }
 {
@@ -76,8 +79,9 @@ fn fields_len(
 
 // How long the sheet is, what stands behind its G lines taking so many bytes.
 pub fn measure(list: u64, file: &[u8], c: Counts, parameter: u8, closing: u8, rows: usize) -> usize
-    requires { ⌜ (Good c parameter closing ≡ checkOf list (now file)) × (rows ≡ rowsLength list (now file) c parameter closing)
-        × (rows ≤ 2 ^ 51) ⌝ }
+    requires { ⌜ Good c parameter closing ≡ checkOf list (now file) ⌝ }
+    requires { ⌜ rows ≡ rowsLength list (now file) c parameter closing ⌝ }
+    requires { ⌜ rows ≤ 2 ^ 51 ⌝ }
     ensures { λ r. ⌜ r ≡ length (sheetIn list (now (file .entry))) ⌝ }
 {
     let s = wide(c.s);

@@ -33,7 +33,8 @@ fn global_line(c: Counts, p: usize) -> FileLine
 
 // Where a value is wrong that starts at `start`: `at` cannot continue it.
 fn spelling_line(file: &[u8], c: Counts, start: usize, at: usize) -> FileLine
-    requires { ⌜ Holds (now file) c × (start ≤ 16000000) ⌝ }
+    requires { ⌜ Holds (now file) c ⌝ }
+    requires { ⌜ start ≤ 16000000 ⌝ }
     ensures { λ r. ⌜ r ≡ fileLine (spellingLine c (globalText (now (file .entry)) c) start at) ⌝ }
 {
     let s = wide(c.s);
@@ -46,7 +47,8 @@ fn spelling_line(file: &[u8], c: Counts, start: usize, at: usize) -> FileLine
 
 // Behind the record, which ends at `end`, is nothing but blanks.
 fn no_stray(file: &[u8], c: Counts, end: usize) -> FilePass
-    requires { ⌜ Holds (now file) c × (end ≤ c .g * textColumns) ⌝ }
+    requires { ⌜ Holds (now file) c ⌝ }
+    requires { ⌜ end ≤ c .g * textColumns ⌝ }
     ensures { λ r. ⌜ r ≡ passOf (noStray c (globalText (now (file .entry)) c) end) ⌝ }
 {
     let lines = wide(c.g);
@@ -90,7 +92,11 @@ fn behind_of(g: Got) -> usize
 
 // Rule 8, field by field: the values from position `from` on, n of them.
 fn fields_fit(file: &[u8], c: Counts, parameter: u8, closing: u8, from: usize, n: usize) -> FilePass
-    requires { ⌜ Holds (now file) c × (from ≤ c .g * textColumns) × (n ≤ 16000000) × (0 < parameter) × (0 < closing) ⌝ }
+    requires { ⌜ Holds (now file) c ⌝ }
+    requires { ⌜ from ≤ c .g * textColumns ⌝ }
+    requires { ⌜ n ≤ 16000000 ⌝ }
+    requires { ⌜ 0 < parameter ⌝ }
+    requires { ⌜ 0 < closing ⌝ }
     ensures { λ r. ⌜ r ≡ passOf (fieldsFit c parameter closing (globalText (now (file .entry)) c) from n) ⌝ }
 {
     let base = LINE_BYTES * wide(c.s);
@@ -125,8 +131,12 @@ fn done_pass(
     n: usize,
     end: usize,
 ) -> FilePass
-    requires { ⌜ Holds (now file) c × (from ≤ c .g * textColumns) × (n ≤ 16000000) × (end ≤ c .g * textColumns)
-        × (0 < parameter) × (0 < closing) ⌝ }
+    requires { ⌜ Holds (now file) c ⌝ }
+    requires { ⌜ from ≤ c .g * textColumns ⌝ }
+    requires { ⌜ n ≤ 16000000 ⌝ }
+    requires { ⌜ end ≤ c .g * textColumns ⌝ }
+    requires { ⌜ 0 < parameter ⌝ }
+    requires { ⌜ 0 < closing ⌝ }
     ensures { λ r. ⌜ r ≡ orElse (passOf (noStray c (globalText (now (file .entry)) c) end))
         (passOf (fieldsFit c parameter closing (globalText (now (file .entry)) c) from n)) ⌝ }
 {
@@ -139,7 +149,10 @@ fn done_pass(
 
 // The record from `from` on.
 fn values_pass(file: &[u8], c: Counts, parameter: u8, closing: u8, from: usize) -> FilePass
-    requires { ⌜ Holds (now file) c × (from ≤ c .g * textColumns) × (0 < parameter) × (0 < closing) ⌝ }
+    requires { ⌜ Holds (now file) c ⌝ }
+    requires { ⌜ from ≤ c .g * textColumns ⌝ }
+    requires { ⌜ 0 < parameter ⌝ }
+    requires { ⌜ 0 < closing ⌝ }
     ensures { λ r. ⌜ r ≡ passOf (valuesOutcome c (globalText (now (file .entry)) c) parameter closing from) ⌝ }
 {
     let lines = wide(c.g);

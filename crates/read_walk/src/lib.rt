@@ -20,11 +20,10 @@ ghost use Rattle.columns.specs.Columns.{textOf};
 ghost use Rattle.columns.specs.Format.{lineBytes, parameterColumns};
 ghost use Rattle.values.specs.Value.{default};
 ghost use Rattle.records.specs.Record.{valuesAt};
-ghost use Rattle.records.specs.Reading.{Stands};
 ghost use Rattle.records.specs.Written.{copied};
 ghost use Rattle.directory.specs.Naming.{typesAt};
 ghost use Rattle.layouts.specs.Walk.{run};
-ghost use Rattle.read_entities.specs.Walking.{stateAfter, owedAfter, lengthAfter, walkedFrom, Light};
+ghost use Rattle.read_entities.specs.Walking.{EntityStands, stateAfter, owedAfter, lengthAfter, walkedFrom, Light};
 
 // The mark, the tab and the LF of a value line.
 const AROUND: usize = 3;
@@ -68,7 +67,9 @@ fn state_after(file: &[u8], first: usize, n: usize, g: Stepped, owed: usize, v: 
 
 // The bytes of the value lines up to this value; its fields are passed, not the value.
 fn length_after(length: usize, owed: usize, v: Value) -> usize
-    requires { ⌜ (length < 2 ^ 60) × (owed < 2 ^ 60) × (copied v ≤ 999) ⌝ }
+    requires { ⌜ length < 2 ^ 60 ⌝ }
+    requires { ⌜ owed < 2 ^ 60 ⌝ }
+    requires { ⌜ copied v ≤ 999 ⌝ }
     ensures { λ r. ⌜ r ≡ lengthAfter length owed v ⌝ }
     ensures { λ r. ⌜ r ≤ length + 3 * owed + 1046 ⌝ }
 {
@@ -109,8 +110,8 @@ pub fn walk(
     first: usize,
     n: usize,
 ) -> EntityWalked
-    requires { ⌜ Stands (now file) base parameterColumns lines × (from ≤ lines * parameterColumns) × (0 < c) × (0 < d)
-        × (lineBytes * (first + 2 * n) ≤ length (now file)) ⌝ }
+    requires { ⌜ EntityStands (now file) base lines c d first n ⌝ }
+    requires { ⌜ from ≤ lines * parameterColumns ⌝ }
     ensures { λ r. ⌜ r ≡ walkedFrom (typesAt (now (file .entry)) first n) begun 0 0
         (valuesAt parameterColumns c d (textOf (now (file .entry)) base parameterColumns lines) from) ⌝ }
     ensures { λ r. ⌜ Light (70400 * lines) r ⌝ }

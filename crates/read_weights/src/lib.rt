@@ -67,7 +67,11 @@ fn record_answer(
     pointer: ParameterLine,
     lines: u32,
 ) -> Weighed
-    requires { ⌜ Ready (now file) c × (0 < parameter) × (0 < closing) × (1 ≤ pointer .0) × (pointer .0 + lines ≤ c .p + 1) ⌝ }
+    requires { ⌜ Ready (now file) c ⌝ }
+    requires { ⌜ 0 < parameter ⌝ }
+    requires { ⌜ 0 < closing ⌝ }
+    requires { ⌜ 1 ≤ pointer .0 ⌝ }
+    requires { ⌜ pointer .0 + lines ≤ c .p + 1 ⌝ }
     ensures { λ r. ⌜ r .answer ≡ recordAnswer list (now (file .entry)) c parameter closing typ form (pointer .0) lines ⌝ }
     ensures { λ r. ⌜ (r .length ≡ carriedLength (recordCarried (now (file .entry)) c parameter closing (pointer .0) lines))
         × (r .length ≤ 70400 * lines) ⌝ }
@@ -124,8 +128,13 @@ fn row_at(
     pointer: ParameterLine,
     lines: u32,
 ) -> Rows
-    requires { ⌜ Ready (now file) c × (0 < parameter) × (0 < closing) × (i < entries c) × (k ≡ entryLine c i) × (1 ≤ pointer .0)
-        × (pointer .0 + lines ≤ c .p + 1) ⌝ }
+    requires { ⌜ Ready (now file) c ⌝ }
+    requires { ⌜ 0 < parameter ⌝ }
+    requires { ⌜ 0 < closing ⌝ }
+    requires { ⌜ i < entries c ⌝ }
+    requires { ⌜ k ≡ entryLine c i ⌝ }
+    requires { ⌜ 1 ≤ pointer .0 ⌝ }
+    requires { ⌜ pointer .0 + lines ≤ c .p + 1 ⌝ }
     ensures { λ r. ⌜ r ≡ speltRows list (now (file .entry)) c parameter closing i k fields (pointer .0) lines ⌝ }
     ensures { λ r. ⌜ Few 15000000000 r ⌝ }
 {
@@ -139,7 +148,10 @@ fn row_at(
 
 // Entity i; its entry is spelt, as all are.
 pub fn entity_at(list: u64, file: &[u8], c: Counts, parameter: u8, closing: u8, i: usize) -> Rows
-    requires { ⌜ Ready (now file) c × (0 < parameter) × (0 < closing) × (i < entries c) ⌝ }
+    requires { ⌜ Ready (now file) c ⌝ }
+    requires { ⌜ 0 < parameter ⌝ }
+    requires { ⌜ 0 < closing ⌝ }
+    requires { ⌜ i < entries c ⌝ }
     ensures { λ r. ⌜ r ≡ rowsOf (rowLength list (now (file .entry)) c parameter closing i)
         (entityAt list (now (file .entry)) c parameter closing i) ⌝ }
     ensures { λ r. ⌜ Few 15000000000 r ⌝ }

@@ -7,7 +7,8 @@ ghost use Rattle.records.specs.Written.{indexOf};
 
 // The byte at which position p stands.
 pub fn index_of(base: usize, w: usize, p: usize) -> usize
-    requires { ⌜ (1 ≤ w) × (indexOf base w p < 2 ^ 64) ⌝ }
+    requires { ⌜ 1 ≤ w ⌝ }
+    requires { ⌜ indexOf base w p < 2 ^ 64 ⌝ }
     ensures { λ r. ⌜ r ≡ indexOf base w p ⌝ }
 {
     if w == PARAMETER_COLUMNS {

@@ -15,7 +15,10 @@ ghost use Rattle.records.specs.Written.{Put, Room, copied, pieceEnd};
 
 // Writes b at position p of the text, if that stands in the file, and returns the next position.
 pub fn put_char(out: &mut [u8], base: usize, w: usize, p: usize, b: u8) -> usize
-    requires { ⌜ (base ≤ 2 ^ 40) × (p ≤ 2 ^ 41) × (1 ≤ w) × (w ≤ lineColumns) ⌝ }
+    requires { ⌜ base ≤ 2 ^ 40 ⌝ }
+    requires { ⌜ p ≤ 2 ^ 41 ⌝ }
+    requires { ⌜ 1 ≤ w ⌝ }
+    requires { ⌜ w ≤ lineColumns ⌝ }
     ensures { λ r. ⌜ Put base w (now (out .entry)) p (b ∷ []) (now (out .exit)) r ⌝ }
     ensures { λ r. ⌜ r ≡ p + 1 ⌝ }
 {
@@ -29,7 +32,10 @@ pub fn put_char(out: &mut [u8], base: usize, w: usize, p: usize, b: u8) -> usize
 
 // Writes all of s from position p on, character by character.
 fn put_each(out: &mut [u8], base: usize, w: usize, p: usize, s: &[u8]) -> usize
-    requires { ⌜ (base ≤ 2 ^ 40) × (p + length (now s) ≤ 2 ^ 41) × (1 ≤ w) × (w ≤ lineColumns) ⌝ }
+    requires { ⌜ base ≤ 2 ^ 40 ⌝ }
+    requires { ⌜ p + length (now s) ≤ 2 ^ 41 ⌝ }
+    requires { ⌜ 1 ≤ w ⌝ }
+    requires { ⌜ w ≤ lineColumns ⌝ }
     ensures { λ r. ⌜ Put base w (now (out .entry)) p (now (s .entry)) (now (out .exit)) r ⌝ }
     ensures { λ r. ⌜ r ≡ p + length (now (s .entry)) ⌝ }
 {
@@ -44,7 +50,10 @@ fn put_each(out: &mut [u8], base: usize, w: usize, p: usize, s: &[u8]) -> usize
 
 // Writes all of s from position p on: on one line its characters stand side by side.
 pub fn put_all(out: &mut [u8], base: usize, w: usize, p: usize, s: &[u8]) -> usize
-    requires { ⌜ (base ≤ 2 ^ 40) × (p + length (now s) ≤ 2 ^ 41) × (1 ≤ w) × (w ≤ lineColumns) ⌝ }
+    requires { ⌜ base ≤ 2 ^ 40 ⌝ }
+    requires { ⌜ p + length (now s) ≤ 2 ^ 41 ⌝ }
+    requires { ⌜ 1 ≤ w ⌝ }
+    requires { ⌜ w ≤ lineColumns ⌝ }
     ensures { λ r. ⌜ Put base w (now (out .entry)) p (now (s .entry)) (now (out .exit)) r ⌝ }
     ensures { λ r. ⌜ r ≡ p + length (now (s .entry)) ⌝ }
 {
@@ -61,7 +70,10 @@ pub fn put_all(out: &mut [u8], base: usize, w: usize, p: usize, s: &[u8]) -> usi
 
 // Writes b count times, one by one.
 fn put_times(out: &mut [u8], base: usize, w: usize, p: usize, b: u8, count: usize) -> usize
-    requires { ⌜ (base ≤ 2 ^ 40) × (p + count ≤ 2 ^ 41) × (1 ≤ w) × (w ≤ lineColumns) ⌝ }
+    requires { ⌜ base ≤ 2 ^ 40 ⌝ }
+    requires { ⌜ p + count ≤ 2 ^ 41 ⌝ }
+    requires { ⌜ 1 ≤ w ⌝ }
+    requires { ⌜ w ≤ lineColumns ⌝ }
     ensures { λ r. ⌜ Put base w (now (out .entry)) p (replicate count b) (now (out .exit)) r ⌝ }
     ensures { λ r. ⌜ r ≡ p + count ⌝ }
 {
@@ -76,7 +88,10 @@ fn put_times(out: &mut [u8], base: usize, w: usize, p: usize, b: u8, count: usiz
 
 // Writes b count times: on one line side by side.
 pub fn put_run(out: &mut [u8], base: usize, w: usize, p: usize, b: u8, count: usize) -> usize
-    requires { ⌜ (base ≤ 2 ^ 40) × (p + count ≤ 2 ^ 41) × (1 ≤ w) × (w ≤ lineColumns) ⌝ }
+    requires { ⌜ base ≤ 2 ^ 40 ⌝ }
+    requires { ⌜ p + count ≤ 2 ^ 41 ⌝ }
+    requires { ⌜ 1 ≤ w ⌝ }
+    requires { ⌜ w ≤ lineColumns ⌝ }
     ensures { λ r. ⌜ Put base w (now (out .entry)) p (replicate count b) (now (out .exit)) r ⌝ }
     ensures { λ r. ⌜ r ≡ p + count ⌝ }
 {
@@ -95,7 +110,9 @@ pub fn put_run(out: &mut [u8], base: usize, w: usize, p: usize, b: u8, count: us
 
 // The blanks before n characters that have to stand on one line.
 pub fn gap_of(w: usize, p: usize, n: usize) -> usize
-    requires { ⌜ (1 ≤ w) × (w ≤ lineColumns) × (n ≤ 2 ^ 40) ⌝ }
+    requires { ⌜ 1 ≤ w ⌝ }
+    requires { ⌜ w ≤ lineColumns ⌝ }
+    requires { ⌜ n ≤ 2 ^ 40 ⌝ }
     ensures { λ r. ⌜ (r ≡ gap w p n) × (r ≤ lineColumns) ⌝ }
 {
     let j = column_of(w, p);
@@ -118,7 +135,11 @@ fn put_tail(
     v: Value,
     last: bool,
 ) -> usize
-    requires { ⌜ (base ≤ 2 ^ 40) × (p ≤ 2 ^ 40 + 200) × (1 ≤ w) × (w ≤ lineColumns) × Writable (length (now src)) v ⌝ }
+    requires { ⌜ base ≤ 2 ^ 40 ⌝ }
+    requires { ⌜ p ≤ 2 ^ 40 + 200 ⌝ }
+    requires { ⌜ 1 ≤ w ⌝ }
+    requires { ⌜ w ≤ lineColumns ⌝ }
+    requires { ⌜ Writable (length (now src)) v ⌝ }
     ensures { λ r. ⌜ Put base w (now (out .entry)) p (chars (now (src .entry)) v ++ (delimiter last ∷ [])) (now (out .exit)) r ⌝ }
     ensures { λ r. ⌜ (p < r) × (r ≤ p + 1000) ⌝ }
 {
@@ -145,7 +166,8 @@ pub fn put_piece(
     v: Value,
     last: bool,
 ) -> usize
-    requires { ⌜ Room base w p × Writable (length (now src)) v ⌝ }
+    requires { ⌜ Room base w p ⌝ }
+    requires { ⌜ Writable (length (now src)) v ⌝ }
     ensures { λ r. ⌜ Put base w (now (out .entry)) p (piece w p (itemOf (now (src .entry)) v) last) (now (out .exit)) r ⌝ }
     ensures { λ r. ⌜ (p < r) × (r ≤ p + 1200) ⌝ }
 {
@@ -170,7 +192,10 @@ fn copied_of(v: Value) -> usize
 
 // The position behind that piece.
 pub fn piece_end(w: usize, p: usize, v: Value) -> usize
-    requires { ⌜ (p ≤ 2 ^ 40) × (1 ≤ w) × (w ≤ lineColumns) × (copied v ≤ 999) ⌝ }
+    requires { ⌜ p ≤ 2 ^ 40 ⌝ }
+    requires { ⌜ 1 ≤ w ⌝ }
+    requires { ⌜ w ≤ lineColumns ⌝ }
+    requires { ⌜ copied v ≤ 999 ⌝ }
     ensures { λ r. ⌜ r ≡ pieceEnd w p v ⌝ }
     ensures { λ r. ⌜ (p < r) × (r ≤ p + 1200) ⌝ }
 {
@@ -182,7 +207,11 @@ pub fn piece_end(w: usize, p: usize, v: Value) -> usize
 
 // The same of a value that is spelled in n characters.
 pub fn spelled_end(w: usize, p: usize, n: usize, v: Value) -> usize
-    requires { ⌜ (p ≤ 2 ^ 40) × (1 ≤ w) × (w ≤ lineColumns) × (n < 2 ^ 40) × (n ≡ length (front v) + copied v) ⌝ }
+    requires { ⌜ p ≤ 2 ^ 40 ⌝ }
+    requires { ⌜ 1 ≤ w ⌝ }
+    requires { ⌜ w ≤ lineColumns ⌝ }
+    requires { ⌜ n < 2 ^ 40 ⌝ }
+    requires { ⌜ n ≡ length (front v) + copied v ⌝ }
     ensures { λ r. ⌜ r ≡ pieceEnd w p v ⌝ }
     ensures { λ r. ⌜ r ≤ p + n + lineBytes ⌝ }
 {
@@ -193,7 +222,9 @@ pub fn spelled_end(w: usize, p: usize, n: usize, v: Value) -> usize
 
 // How many lines of w columns p characters take.
 pub fn line_count(w: usize, p: usize) -> usize
-    requires { ⌜ (1 ≤ w) × (w ≤ lineColumns) × (p ≤ 2 ^ 40) ⌝ }
+    requires { ⌜ 1 ≤ w ⌝ }
+    requires { ⌜ w ≤ lineColumns ⌝ }
+    requires { ⌜ p ≤ 2 ^ 40 ⌝ }
     ensures { λ r. ⌜ r ≡ lineCount w p ⌝ }
     ensures { λ r. ⌜ (p ≤ r * w) × (r * w < p + w) ⌝ }
 {

@@ -61,7 +61,8 @@ fn opened_of(c: u8, d: u8, next: usize, last: bool) -> Opening
 
 // The record delimiter and what stands behind it, from position p on.
 fn record_delimiter(file: &[u8], base: usize, lines: usize, c: u8, p: usize) -> Opening
-    requires { ⌜ Stands (now file) base textColumns lines × (p ≤ 4) ⌝ }
+    requires { ⌜ Stands (now file) base textColumns lines ⌝ }
+    requires { ⌜ p ≤ 4 ⌝ }
     ensures { λ r. ⌜ r ≡ recordDelimiter c (textOf (now (file .entry)) base textColumns lines) p ⌝ }
 {
     let x = records_read::char_at(file, base, TEXT_COLUMNS, lines, p);
@@ -116,7 +117,8 @@ pub fn opening_of(file: &[u8], base: usize, lines: usize) -> Opening
 
 // The first position from p on that is no blank, or the text's length: stray text, if the record ends at p.
 pub fn stray(file: &[u8], base: usize, w: usize, lines: usize, p: usize) -> usize
-    requires { ⌜ Stands (now file) base w lines × (p ≤ lines * w) ⌝ }
+    requires { ⌜ Stands (now file) base w lines ⌝ }
+    requires { ⌜ p ≤ lines * w ⌝ }
     ensures { λ r. ⌜ r ≡ p + blanks (drop p (textOf (now (file .entry)) base w lines)) ⌝ }
     ensures { λ r. ⌜ (p ≤ r) × (r ≤ lines * w) ⌝ }
 {

@@ -32,7 +32,8 @@ pub fn char_at(file: &[u8], base: usize, w: usize, lines: usize, p: usize) -> u8
 
 // The first position from p on that is no blank, or the text's length.
 pub fn behind_blanks(file: &[u8], base: usize, w: usize, lines: usize, p: usize) -> usize
-    requires { ⌜ Stands (now file) base w lines × (p ≤ lines * w) ⌝ }
+    requires { ⌜ Stands (now file) base w lines ⌝ }
+    requires { ⌜ p ≤ lines * w ⌝ }
     ensures { λ r. ⌜ r ≡ p + blanks (drop p (textOf (now (file .entry)) base w lines)) ⌝ }
     ensures { λ r. ⌜ (p ≤ r) × (r ≤ lines * w) ⌝ }
 {
@@ -61,7 +62,8 @@ fn mark_of(c: u8, d: u8, x: u8, q: usize) -> Next
 
 // What stands behind the blanks from p on; mostly there are none.
 fn next_at(file: &[u8], base: usize, w: usize, lines: usize, c: u8, d: u8, p: usize) -> Next
-    requires { ⌜ Stands (now file) base w lines × (p ≤ lines * w) ⌝ }
+    requires { ⌜ Stands (now file) base w lines ⌝ }
+    requires { ⌜ p ≤ lines * w ⌝ }
     ensures { λ r. ⌜ (r ≡ nextAt c d (textOf (now (file .entry)) base w lines) p) × (place r ≤ lines * w) ⌝ }
 {
     let x = char_at(file, base, w, lines, p);
@@ -152,7 +154,9 @@ fn plain_at(
     s: usize,
     k: Token,
 ) -> Got
-    requires { ⌜ Stands (now file) base w lines × (s ≤ lines * w) × Within (lines * w - s) (Head.Plain k) ⌝ }
+    requires { ⌜ Stands (now file) base w lines ⌝ }
+    requires { ⌜ s ≤ lines * w ⌝ }
+    requires { ⌜ Within (lines * w - s) (Head.Plain k) ⌝ }
     ensures { λ r. ⌜ r ≡ headed c d (textOf (now (file .entry)) base w lines) s (Head.Plain k) ⌝ }
 {
     let end = s + k.len;
@@ -173,7 +177,9 @@ fn count_at(
     count: usize,
     len: usize,
 ) -> Got
-    requires { ⌜ Stands (now file) base w lines × (s ≤ lines * w) × Within (lines * w - s) (Head.Count count len) ⌝ }
+    requires { ⌜ Stands (now file) base w lines ⌝ }
+    requires { ⌜ s ≤ lines * w ⌝ }
+    requires { ⌜ Within (lines * w - s) (Head.Count count len) ⌝ }
     ensures { λ r. ⌜ r ≡ headed c d (textOf (now (file .entry)) base w lines) s (Head.Count count len) ⌝ }
 {
     let at = s + len;
@@ -191,7 +197,8 @@ fn count_at(
 
 // The value that starts at s: its head stands on one line, and the rest of a line is a part of the file.
 fn given_at(file: &[u8], base: usize, w: usize, lines: usize, c: u8, d: u8, s: usize) -> Got
-    requires { ⌜ Stands (now file) base w lines × (s ≤ lines * w) ⌝ }
+    requires { ⌜ Stands (now file) base w lines ⌝ }
+    requires { ⌜ s ≤ lines * w ⌝ }
     ensures { λ r. ⌜ r ≡ byNext w c d (textOf (now (file .entry)) base w lines) (Next.Other s) ⌝ }
 {
     if lines * w <= s {
@@ -212,7 +219,10 @@ fn given_at(file: &[u8], base: usize, w: usize, lines: usize, c: u8, d: u8, s: u
 
 // The value from position p of a record's text on.
 pub fn value_at(file: &[u8], base: usize, w: usize, lines: usize, c: u8, d: u8, p: usize) -> Got
-    requires { ⌜ Stands (now file) base w lines × (p ≤ lines * w) × (0 < c) × (0 < d) ⌝ }
+    requires { ⌜ Stands (now file) base w lines ⌝ }
+    requires { ⌜ p ≤ lines * w ⌝ }
+    requires { ⌜ 0 < c ⌝ }
+    requires { ⌜ 0 < d ⌝ }
     ensures { λ r. ⌜ r ≡ valueAt w c d (textOf (now (file .entry)) base w lines) p ⌝ }
     ensures { λ r. ⌜ Sane p (lines * w) r ⌝ }
 {
@@ -243,7 +253,10 @@ fn kept_after(v: Value, k: usize, n: usize) -> usize
 
 // All values from position p of a record's text on.
 pub fn check_from(file: &[u8], base: usize, w: usize, lines: usize, c: u8, d: u8, p: usize) -> Check
-    requires { ⌜ Stands (now file) base w lines × (p ≤ lines * w) × (0 < c) × (0 < d) ⌝ }
+    requires { ⌜ Stands (now file) base w lines ⌝ }
+    requires { ⌜ p ≤ lines * w ⌝ }
+    requires { ⌜ 0 < c ⌝ }
+    requires { ⌜ 0 < d ⌝ }
     ensures { λ r. ⌜ r ≡ checked (valuesAt w c d (textOf (now (file .entry)) base w lines) p) ⌝ }
     ensures { λ r. ⌜ SaneCheck p (lines * w) r ⌝ }
 {

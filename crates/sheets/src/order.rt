@@ -66,7 +66,8 @@ fn global_step(st: SheetState, n: u32) -> SheetStep
 
 // Directory numbers are 1, 3, 5 on.
 fn entry_step(st: SheetState, x: Signed) -> SheetStep
-    requires { ⌜ (st .line < 2 ^ 63) × (st .entries ≤ st .line) ⌝ }
+    requires { ⌜ st .line < 2 ^ 63 ⌝ }
+    requires { ⌜ st .entries ≤ st .line ⌝ }
     ensures { λ r. ⌜ r ≡ entryStep st x ⌝ }
 {
     let run = st.run;
@@ -175,7 +176,8 @@ fn none_step(st: SheetState, b: bool) -> SheetStep
 
 // What a line does.
 pub fn step_line(st: SheetState, x: Said) -> SheetStep
-    requires { ⌜ (st .line < 2 ^ 63) × (st .entries ≤ st .line) ⌝ }
+    requires { ⌜ st .line < 2 ^ 63 ⌝ }
+    requires { ⌜ st .entries ≤ st .line ⌝ }
     ensures { λ r. ⌜ r ≡ stepSaid st x ⌝ }
 {
     match x {

@@ -52,7 +52,9 @@ fn add_digit(n: u64, b: u8) -> u64
 
 // The number that the bytes from `at` up to `end` make of n.
 pub fn size_at(s: &[u8], n: u64, at: usize, end: usize) -> u64
-    requires { ⌜ (n ≤ unread) × (at ≤ end) × (end ≤ length (now s)) ⌝ }
+    requires { ⌜ n ≤ unread ⌝ }
+    requires { ⌜ at ≤ end ⌝ }
+    requires { ⌜ end ≤ length (now s) ⌝ }
     ensures { λ r. ⌜ r ≡ sizeFrom n (columns (now (s .entry)) at end) ⌝ }
     ensures { λ r. ⌜ r ≤ unread ⌝ }
 {
@@ -84,7 +86,8 @@ fn minus_of(n: u64) -> Signed
 
 // The number, with a minus or without, that stands from `at` up to `end`.
 fn signed_at(s: &[u8], at: usize, end: usize) -> Signed
-    requires { ⌜ (at ≤ end) × (end ≤ length (now s)) ⌝ }
+    requires { ⌜ at ≤ end ⌝ }
+    requires { ⌜ end ≤ length (now s) ⌝ }
     ensures { λ r. ⌜ r ≡ signedFold (columns (now (s .entry)) at end) ⌝ }
 {
     if end <= at {
@@ -128,7 +131,8 @@ fn status_of(n: u64) -> Signed
 
 // A number of an entry line that `left` others follow.
 pub fn num_at(s: &[u8], left: usize, at: usize, end: usize) -> Signed
-    requires { ⌜ (at ≤ end) × (end ≤ length (now s)) ⌝ }
+    requires { ⌜ at ≤ end ⌝ }
+    requires { ⌜ end ≤ length (now s) ⌝ }
     ensures { λ r. ⌜ r ≡ entryFold left (columns (now (s .entry)) at end) ⌝ }
 {
     if left == 3 {
@@ -140,7 +144,8 @@ pub fn num_at(s: &[u8], left: usize, at: usize, end: usize) -> Signed
 
 // Where the first c from `at` up to `end` stands, or `end`, byte by byte.
 fn find_each(s: &[u8], c: u8, at: usize, end: usize) -> usize
-    requires { ⌜ (at ≤ end) × (end ≤ length (now s)) ⌝ }
+    requires { ⌜ at ≤ end ⌝ }
+    requires { ⌜ end ≤ length (now s) ⌝ }
     ensures { λ r. ⌜ r ≡ at + run c (columns (now (s .entry)) at end) ⌝ }
     ensures { λ r. ⌜ (at ≤ r) × (r ≤ end) ⌝ }
 {
@@ -156,7 +161,8 @@ fn find_each(s: &[u8], c: u8, at: usize, end: usize) -> usize
 
 // Where the first c from `at` up to `end` stands, or `end`: four bytes a turn, so that the end is asked for less often.
 pub fn find(s: &[u8], c: u8, at: usize, end: usize) -> usize
-    requires { ⌜ (at ≤ end) × (end ≤ length (now s)) ⌝ }
+    requires { ⌜ at ≤ end ⌝ }
+    requires { ⌜ end ≤ length (now s) ⌝ }
     ensures { λ r. ⌜ r ≡ at + run c (columns (now (s .entry)) at end) ⌝ }
     ensures { λ r. ⌜ (at ≤ r) × (r ≤ end) ⌝ }
 {
@@ -181,7 +187,8 @@ pub fn find(s: &[u8], c: u8, at: usize, end: usize) -> usize
 
 // The number of an entry line from `at` on, that `left` others follow, and its tab: found first.
 fn tabbed_by(s: &[u8], left: usize, at: usize, end: usize) -> Tabbed
-    requires { ⌜ (at ≤ end) × (end ≤ length (now s)) ⌝ }
+    requires { ⌜ at ≤ end ⌝ }
+    requires { ⌜ end ≤ length (now s) ⌝ }
     ensures { λ r. ⌜ r .end ≡ at + run tab (columns (now (s .entry)) at end) ⌝ }
     ensures { λ r. ⌜ r .number ≡ entryFold left (columns (now (s .entry)) at (r .end)) ⌝ }
     ensures { λ r. ⌜ (at ≤ r .end) × (r .end ≤ end) ⌝ }
@@ -193,7 +200,8 @@ fn tabbed_by(s: &[u8], left: usize, at: usize, end: usize) -> Tabbed
 
 // The number of an entry line from `at` on, that `left` others follow, and its tab. Most are one digit, and no status.
 pub fn tabbed_at(s: &[u8], left: usize, at: usize, end: usize) -> Tabbed
-    requires { ⌜ (at ≤ end) × (end ≤ length (now s)) ⌝ }
+    requires { ⌜ at ≤ end ⌝ }
+    requires { ⌜ end ≤ length (now s) ⌝ }
     ensures { λ r. ⌜ r .end ≡ at + run tab (columns (now (s .entry)) at end) ⌝ }
     ensures { λ r. ⌜ r .number ≡ entryFold left (columns (now (s .entry)) at (r .end)) ⌝ }
     ensures { λ r. ⌜ (at ≤ r .end) × (r .end ≤ end) ⌝ }

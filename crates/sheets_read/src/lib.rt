@@ -55,7 +55,8 @@ fn entry_from(known: bool, x: [Signed; 13]) -> EntryLine
 
 // The numbers and the label of an entry line.
 fn numbers(s: &[u8], at: usize, end: usize, known: bool) -> EntryLine
-    requires { ⌜ (at ≤ end) × (end ≤ length (now s)) ⌝ }
+    requires { ⌜ at ≤ end ⌝ }
+    requires { ⌜ end ≤ length (now s) ⌝ }
     ensures { λ r. ⌜ r ≡ numbersOf known numberCount [] (columns (now (s .entry)) at end) ⌝ }
 {
     let z = Signed {
@@ -92,7 +93,8 @@ fn numbers(s: &[u8], at: usize, end: usize, known: bool) -> EntryLine
 
 // The entry line from `at` up to `end`.
 pub fn entry_at(s: &[u8], at: usize, end: usize) -> EntryLine
-    requires { ⌜ (at ≤ end) × (end ≤ length (now s)) ⌝ }
+    requires { ⌜ at ≤ end ⌝ }
+    requires { ⌜ end ≤ length (now s) ⌝ }
     ensures { λ r. ⌜ r ≡ entryOf (columns (now (s .entry)) at end) ⌝ }
 {
     if end - at < 2 {
@@ -118,7 +120,8 @@ pub fn is_mark(b: u8) -> bool
 
 // Whether a start text stands from `at` up to `end`.
 fn is_start(s: &[u8], at: usize, end: usize) -> bool
-    requires { ⌜ (at ≤ end) × (end ≤ length (now s)) ⌝ }
+    requires { ⌜ at ≤ end ⌝ }
+    requires { ⌜ end ≤ length (now s) ⌝ }
     ensures { λ r. ⌜ r ≡ isStart (columns (now (s .entry)) at end) ⌝ }
 {
     if end == at {
@@ -134,7 +137,8 @@ fn is_start(s: &[u8], at: usize, end: usize) -> bool
 }
 
 fn start_line(s: &[u8], at: usize, end: usize) -> Said
-    requires { ⌜ (at ≤ end) × (end ≤ length (now s)) ⌝ }
+    requires { ⌜ at ≤ end ⌝ }
+    requires { ⌜ end ≤ length (now s) ⌝ }
     ensures { λ r. ⌜ r ≡ startLine (columns (now (s .entry)) at end) ⌝ }
 {
     if is_start(s, at, end) {
@@ -145,7 +149,8 @@ fn start_line(s: &[u8], at: usize, end: usize) -> Said
 
 // The value that stands from `at` up to `end`.
 pub fn strict_at(s: &[u8], at: usize, end: usize) -> Strict
-    requires { ⌜ (at ≤ end) × (end ≤ length (now s)) ⌝ }
+    requires { ⌜ at ≤ end ⌝ }
+    requires { ⌜ end ≤ length (now s) ⌝ }
     ensures { λ r. ⌜ r ≡ strictOf (columns (now (s .entry)) at end) ⌝ }
     ensures { λ r. ⌜ Placed (end - at) r ⌝ }
 {
@@ -171,7 +176,8 @@ fn global_of(n: u32, at: usize, v: Strict) -> Said
 }
 
 fn global_line(s: &[u8], at: usize, end: usize) -> Said
-    requires { ⌜ (at ≤ end) × (end ≤ length (now s)) ⌝ }
+    requires { ⌜ at ≤ end ⌝ }
+    requires { ⌜ end ≤ length (now s) ⌝ }
     ensures { λ r. ⌜ r ≡ globalLine (columns (now (s .entry)) at end) ⌝ }
 {
     let e = sheets_numbers::find(s, b'\t', at, end);
@@ -212,7 +218,8 @@ fn value_said(reference: bool, v: Strict) -> Said
 }
 
 fn last_line(s: &[u8], at: usize, end: usize) -> Said
-    requires { ⌜ (at ≤ end) × (end ≤ length (now s)) ⌝ }
+    requires { ⌜ at ≤ end ⌝ }
+    requires { ⌜ end ≤ length (now s) ⌝ }
     ensures { λ r. ⌜ r ≡ lastLine (columns (now (s .entry)) at end) ⌝ }
 {
     let n = sheets_numbers::size_at(s, sheets_numbers::UNREAD, at, end);
@@ -224,7 +231,8 @@ fn last_line(s: &[u8], at: usize, end: usize) -> Said
 
 // Whether the line from `at` up to `end` begins as a value line does: R or V, and a tab. What follows is then its value.
 pub fn is_value(s: &[u8], at: usize, end: usize) -> bool
-    requires { ⌜ (at ≤ end) × (end ≤ length (now s)) ⌝ }
+    requires { ⌜ at ≤ end ⌝ }
+    requires { ⌜ end ≤ length (now s) ⌝ }
     ensures { λ r. ⌜ r ≡ isValue (columns (now (s .entry)) at end) ⌝ }
 {
     if end - at < 2 {
@@ -238,7 +246,8 @@ pub fn is_value(s: &[u8], at: usize, end: usize) -> bool
 
 // What a line says by its first byte; its second is a tab.
 fn by_mark(s: &[u8], at: usize, end: usize) -> Said
-    requires { ⌜ (at ≤ end) × (end ≤ length (now s)) ⌝ }
+    requires { ⌜ at ≤ end ⌝ }
+    requires { ⌜ end ≤ length (now s) ⌝ }
     ensures { λ r. ⌜ r ≡ saysOf (columns (now (s .entry)) at end) ⌝ }
 {
     if end == at {
@@ -278,7 +287,8 @@ fn by_mark(s: &[u8], at: usize, end: usize) -> Said
 
 // What the line from `at` up to `end` says.
 pub fn line_at(s: &[u8], at: usize, end: usize) -> Said
-    requires { ⌜ (at ≤ end) × (end ≤ length (now s)) ⌝ }
+    requires { ⌜ at ≤ end ⌝ }
+    requires { ⌜ end ≤ length (now s) ⌝ }
     ensures { λ r. ⌜ r ≡ saysOf (columns (now (s .entry)) at end) ⌝ }
     ensures { λ r. ⌜ Within (end - at) r ⌝ }
 {

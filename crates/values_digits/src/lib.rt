@@ -20,7 +20,9 @@ fn cap(x: u64) -> u64
 
 // The run r with one more digit, c, by which its digits spell v.
 fn run_of(r: Run, c: u8, v: u64) -> Run
-    requires { ⌜ (r .count + 1 < 2 ^ 64) × (Small r × (v ≡ min (r .value * 10 + (c - digit0)) (10 ^ 17))) ⌝ }
+    requires { ⌜ r .count + 1 < 2 ^ 64 ⌝ }
+    requires { ⌜ Small r ⌝ }
+    requires { ⌜ v ≡ min (r .value * 10 + (c - digit0)) (10 ^ 17) ⌝ }
     ensures { λ q. ⌜ q ≡ capRun (more r c) ⌝ }
 {
     if c == b'0' {
@@ -42,7 +44,10 @@ fn run_of(r: Run, c: u8, v: u64) -> Run
 
 // One more digit.
 fn more_of(r: Run, c: u8) -> Run
-    requires { ⌜ (digit0 ≤ c) × ((c ≤ digit9) × ((r .count + 1 < 2 ^ 64) × Small r)) ⌝ }
+    requires { ⌜ digit0 ≤ c ⌝ }
+    requires { ⌜ c ≤ digit9 ⌝ }
+    requires { ⌜ r .count + 1 < 2 ^ 64 ⌝ }
+    requires { ⌜ Small r ⌝ }
     ensures { λ q. ⌜ q ≡ capRun (more r c) ⌝ }
 {
     run_of(r, c, cap(r.value * 10 + (byte_u64(c) - 48)))
@@ -50,7 +55,11 @@ fn more_of(r: Run, c: u8) -> Run
 
 // One more digit, where there is no need of the cap.
 fn few_of(r: Run, c: u8) -> Run
-    requires { ⌜ (digit0 ≤ c) × ((c ≤ digit9) × ((r .count + 1 < 2 ^ 64) × (Small r × (r .value < 10 ^ 16)))) ⌝ }
+    requires { ⌜ digit0 ≤ c ⌝ }
+    requires { ⌜ c ≤ digit9 ⌝ }
+    requires { ⌜ r .count + 1 < 2 ^ 64 ⌝ }
+    requires { ⌜ Small r ⌝ }
+    requires { ⌜ r .value < 10 ^ 16 ⌝ }
     ensures { λ q. ⌜ q ≡ capRun (more r c) ⌝ }
 {
     run_of(r, c, r.value * 10 + (byte_u64(c) - 48))
@@ -58,7 +67,8 @@ fn few_of(r: Run, c: u8) -> Run
 
 // The digits from i on, after those of r, which may be many.
 fn many_at(t: &[u8], i: usize, r: Run) -> Run
-    requires { ⌜ (r .count + (length (now t) - i) < 2 ^ 64) × Small r ⌝ }
+    requires { ⌜ r .count + (length (now t) - i) < 2 ^ 64 ⌝ }
+    requires { ⌜ Small r ⌝ }
     ensures { λ q. ⌜ q ≡ capRun (scan (drop i (now (t .entry))) r) ⌝ }
     ensures { λ q. ⌜ (r .count ≤ q .count) × (q .count ≤ r .count + (length (now (t .entry)) - i)) × Small q ⌝ }
 {
@@ -80,7 +90,8 @@ fn many_at(t: &[u8], i: usize, r: Run) -> Run
 
 // The digits from i on, after those of r.
 pub fn scan_at(t: &[u8], i: usize, r: Run) -> Run
-    requires { ⌜ (r .count ≤ 2 ^ 63) × Small r ⌝ }
+    requires { ⌜ r .count ≤ 2 ^ 63 ⌝ }
+    requires { ⌜ Small r ⌝ }
     ensures { λ q. ⌜ q ≡ capRun (scan (drop i (now (t .entry))) r) ⌝ }
     ensures { λ q. ⌜ (r .count ≤ q .count) × (q .count ≤ r .count + (length (now (t .entry)) - i)) × Small q ⌝ }
 {

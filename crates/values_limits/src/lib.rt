@@ -100,7 +100,8 @@ fn wide16(x: u16) -> usize
 
 // The number of these digits, n of them behind the point, p of it there, with this exponent.
 pub fn finish_of(x: Power, neg: bool, r: Run, n: usize, p: usize, end: usize) -> Token
-    requires { ⌜ (r .zeros ≤ 2 ^ 63) × (n ≤ 2 ^ 63) ⌝ }
+    requires { ⌜ r .zeros ≤ 2 ^ 63 ⌝ }
+    requires { ⌜ n ≤ 2 ^ 63 ⌝ }
     ensures { λ q. ⌜ q ≡ finishRun x neg r n p end ⌝ }
 {
     if r.count == 0 {

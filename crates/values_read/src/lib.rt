@@ -39,7 +39,8 @@ fn point_len(c: u8) -> usize
 
 // The exponent of size x that count digits spell, if they are one to three.
 fn power_from(neg: bool, count: usize, x: u64, double: bool, from: usize, end: usize) -> Power
-    requires { ⌜ (x < 10 ^ count) × (from ≤ 2 ^ 63 + 9) ⌝ }
+    requires { ⌜ x < 10 ^ count ⌝ }
+    requires { ⌜ from ≤ 2 ^ 63 + 9 ⌝ }
     ensures { λ r. ⌜ r ≡ powerOf neg count x double from end ⌝ }
 {
     if count < 1 {
@@ -99,7 +100,9 @@ fn power_at(t: &[u8], i: usize) -> Power
 
 // The digits before a point, behind a sign of a characters; r are those with which the text begins.
 fn before_of(t: &[u8], a: usize, r: Run) -> Run
-    requires { ⌜ (r ≡ capRun (scan (now t) start)) × ((r .count ≤ length (now t)) × Small r) ⌝ }
+    requires { ⌜ r ≡ capRun (scan (now t) start) ⌝ }
+    requires { ⌜ r .count ≤ length (now t) ⌝ }
+    requires { ⌜ Small r ⌝ }
     ensures { λ q. ⌜ q ≡ capRun (scan (drop a (now (t .entry))) start) ⌝ }
     ensures { λ q. ⌜ (q .count ≤ length (now (t .entry)) - a) × Small q ⌝ }
 {
@@ -117,7 +120,9 @@ fn before_of(t: &[u8], a: usize, r: Run) -> Run
 
 // The number that a text begins with; z are the digits with which it begins, read already.
 fn read_from(t: &[u8], z: Run) -> Token
-    requires { ⌜ (z ≡ capRun (scan (now t) start)) × ((z .count ≤ length (now t)) × Small z) ⌝ }
+    requires { ⌜ z ≡ capRun (scan (now t) start) ⌝ }
+    requires { ⌜ z .count ≤ length (now t) ⌝ }
+    requires { ⌜ Small z ⌝ }
     ensures { λ r. ⌜ r ≡ numberOf (now (t .entry)) ⌝ }
     ensures { λ r. ⌜ r .len ≤ length (now (t .entry)) ⌝ }
 {

@@ -60,7 +60,10 @@ const BEGUN: Tally = Tally {
 // Past the value lines from `from` on, as far as they are in order: they have no rule and no class. The first value stands at position p
 // of its record.
 fn past_values(t: &[u8], from: usize, begun: SheetState, p: usize) -> Past
-    requires { ⌜ (from ≤ length (now t)) × (begun .line ≤ from) × (begun .entries ≤ begun .line) × (p ≤ 2 ^ 38) ⌝ }
+    requires { ⌜ from ≤ length (now t) ⌝ }
+    requires { ⌜ begun .line ≤ from ⌝ }
+    requires { ⌜ begun .entries ≤ begun .line ⌝ }
+    requires { ⌜ p ≤ 2 ^ 38 ⌝ }
     ensures { λ r. ⌜ Ahead begun p (linesAt (now (t .entry)) from) (r .state) (r .at) (linesAt (now (t .entry)) (r .next)) ⌝ }
     ensures { λ r. ⌜ (from ≤ r .next) × (r .next ≤ length (now (t .entry))) × (r .at ≤ 2 ^ 38) ⌝ }
     ensures { λ r. ⌜ (r .state .line ≤ r .next) × (r .state .entries ≤ r .state .line) ⌝ }

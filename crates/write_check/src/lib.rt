@@ -44,7 +44,8 @@ pub enum Ruled {
 
 // The passes behind 17 over a sheet of n entries, the first of which found this.
 fn passes(list: u64, classes: &[u8], n: usize, t: &[u8], first: SheetPass) -> SheetPass
-    requires { ⌜ Tabled (now classes) n (now t) × (first ≡ rulesPass (now t)) ⌝ }
+    requires { ⌜ Tabled (now classes) n (now t) ⌝ }
+    requires { ⌜ first ≡ rulesPass (now t) ⌝ }
     ensures { λ r. ⌜ r ≡ sheetPass list (now (t .entry)) ⌝ }
 {
     match first {

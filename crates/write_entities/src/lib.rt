@@ -103,7 +103,8 @@ fn values_of(state: Stepped, right: bool, next: usize, lines: usize) -> Values
 
 // The values of the value lines from `from` on, from this state.
 fn judge(classes: &[u8], n: usize, t: &[u8], from: usize, begun: Stepped) -> Values
-    requires { ⌜ Tabled (now classes) n (now t) × (from ≤ length (now t)) ⌝ }
+    requires { ⌜ Tabled (now classes) n (now t) ⌝ }
+    requires { ⌜ from ≤ length (now t) ⌝ }
     ensures { λ r. ⌜ judgedSo (r .state) (r .right)
         ≡ judged (sheetTypes (now (t .entry))) begun true (valuesFirst (linesAt (now (t .entry)) from)) ⌝ }
     ensures { λ r. ⌜ Skipped (now (t .entry)) from (r .next) (r .lines) ⌝ }
@@ -191,7 +192,8 @@ fn entity_of(
     said: Said,
     line: SheetLine,
 ) -> Asked
-    requires { ⌜ Tabled (now classes) n (now t) × (from ≤ length (now t)) ⌝ }
+    requires { ⌜ Tabled (now classes) n (now t) ⌝ }
+    requires { ⌜ from ≤ length (now t) ⌝ }
     ensures { λ r. ⌜ r .found
         ≡ saidEntity list (sheetTypes (now (t .entry))) (line .0) (valuesFirst (linesAt (now (t .entry)) from)) said ⌝ }
     ensures { λ r. ⌜ Skipped (now (t .entry)) from (r .next) (r .lines) ⌝ }
@@ -234,7 +236,9 @@ fn refused_later(
     place: SheetLine,
     found: SheetPass,
 ) -> SheetPass
-    requires { ⌜ Tabled (now classes) n (now t) × (from ≤ length (now t)) × (place .0 ≤ from + 1) ⌝ }
+    requires { ⌜ Tabled (now classes) n (now t) ⌝ }
+    requires { ⌜ from ≤ length (now t) ⌝ }
+    requires { ⌜ place .0 ≤ from + 1 ⌝ }
     ensures { λ r. ⌜ r ≡ orElse (referencesFrom (sheetTypes (now (t .entry))) (now (t .entry)) (place .0) from) found ⌝ }
 {
     let named = references(classes, n, t, from, place);

@@ -22,7 +22,8 @@ ghost use Rattle.write_lines.specs.Shown.{beginsEntry, EntryAt, plainAt,
 
 // What the table tells of part q, in four bytes.
 fn told(table: &[u8], q: usize) -> DirectoryNumber
-    requires { ⌜ (q < 16666) × (length (now table) ≡ tableSize) ⌝ }
+    requires { ⌜ q < 16666 ⌝ }
+    requires { ⌜ length (now table) ≡ tableSize ⌝ }
 {
     let i = 4 * q;
     let low = byte_u32(table[i]) + 256 * byte_u32(table[i + 1]);
@@ -64,7 +65,9 @@ fn begins_entry(before: u8, b: u8) -> bool
 
 // Where the first line at or behind `from` that begins as an entry's does starts, or `stop`.
 fn entry_behind(t: &[u8], from: usize, stop: usize) -> usize
-    requires { ⌜ (from ≤ stop) × (stop ≤ length (now t)) × (1 ≤ from) ⌝ }
+    requires { ⌜ from ≤ stop ⌝ }
+    requires { ⌜ stop ≤ length (now t) ⌝ }
+    requires { ⌜ 1 ≤ from ⌝ }
     ensures { λ r. ⌜ (from ≤ r) × (r ≤ stop) ⌝ }
 {
     let mut at = from;
@@ -102,7 +105,8 @@ fn number_at(t: &[u8], at: usize) -> DirectoryNumber
 
 // The share that `some` of `all` have in so many bytes.
 fn share(bytes: usize, all: usize, some: usize) -> usize
-    requires { ⌜ (some < all) × (256 * bytes < 2 ^ 64) ⌝ }
+    requires { ⌜ some < all ⌝ }
+    requires { ⌜ 256 * bytes < 2 ^ 64 ⌝ }
     ensures { λ r. ⌜ r ≤ bytes ⌝ }
 {
     let each = 256 * bytes / all;
@@ -130,7 +134,8 @@ fn span_of(from: usize, stop: usize, first: DirectoryNumber, last: DirectoryNumb
 
 // Where in a span the entry with this number stands if all that start in it are equally long.
 fn guess(s: Span, number: DirectoryNumber) -> usize
-    requires { ⌜ (s .from ≤ s .stop) × (256 * (s .stop - s .from) < 2 ^ 64) ⌝ }
+    requires { ⌜ s .from ≤ s .stop ⌝ }
+    requires { ⌜ 256 * (s .stop - s .from) < 2 ^ 64 ⌝ }
     ensures { λ r. ⌜ (s .from ≤ r) × (r ≤ s .stop) ⌝ }
 {
     let first = s.first;
@@ -148,7 +153,10 @@ fn guess(s: Span, number: DirectoryNumber) -> usize
 
 // The side of the line behind the guess on which the entry with this number must be; it begins with that line if that is the one.
 fn closer(t: &[u8], s: Span, number: DirectoryNumber) -> Span
-    requires { ⌜ (1 ≤ s .from) × (s .from ≤ s .stop) × (s .stop ≤ length (now t)) × (256 * (s .stop - s .from) < 2 ^ 64) ⌝ }
+    requires { ⌜ 1 ≤ s .from ⌝ }
+    requires { ⌜ s .from ≤ s .stop ⌝ }
+    requires { ⌜ s .stop ≤ length (now t) ⌝ }
+    requires { ⌜ 256 * (s .stop - s .from) < 2 ^ 64 ⌝ }
     ensures { λ r. ⌜ (s .from ≤ r .from) × (r .from ≤ r .stop) × (r .stop ≤ s .stop) ⌝ }
 {
     let from = s.from;
@@ -169,7 +177,9 @@ fn closer(t: &[u8], s: Span, number: DirectoryNumber) -> Span
 
 // A place from which on the entry with this number is to be found before `stop`, and near it, if it starts from `from` on.
 fn near(t: &[u8], from: usize, stop: usize, number: DirectoryNumber) -> usize
-    requires { ⌜ (from ≤ stop) × (stop ≤ length (now t)) × (1 ≤ from) ⌝ }
+    requires { ⌜ from ≤ stop ⌝ }
+    requires { ⌜ stop ≤ length (now t) ⌝ }
+    requires { ⌜ 1 ≤ from ⌝ }
     ensures { λ r. ⌜ (from ≤ r) × (r ≤ stop) ⌝ }
 {
     let mut low = from;
@@ -193,7 +203,9 @@ fn near(t: &[u8], from: usize, stop: usize, number: DirectoryNumber) -> usize
 
 // Where the entry with this number starts, from `from` on, or `stop`.
 fn walk_to(t: &[u8], from: usize, stop: usize, number: DirectoryNumber) -> usize
-    requires { ⌜ (from ≤ stop) × (stop ≤ length (now t)) × (1 ≤ from) ⌝ }
+    requires { ⌜ from ≤ stop ⌝ }
+    requires { ⌜ stop ≤ length (now t) ⌝ }
+    requires { ⌜ 1 ≤ from ⌝ }
     ensures { λ r. ⌜ (1 ≤ r) × (r ≤ stop) ⌝ }
 {
     let mut at = entry_behind(t, from, stop);
@@ -209,7 +221,10 @@ fn walk_to(t: &[u8], from: usize, stop: usize, number: DirectoryNumber) -> usize
 
 // Where the entry with this number starts in a span, or its end: two guesses, then halves.
 fn search(t: &[u8], s: Span, number: DirectoryNumber) -> usize
-    requires { ⌜ (1 ≤ s .from) × (s .from ≤ s .stop) × (s .stop ≤ length (now t)) × (256 * (s .stop - s .from) < 2 ^ 64) ⌝ }
+    requires { ⌜ 1 ≤ s .from ⌝ }
+    requires { ⌜ s .from ≤ s .stop ⌝ }
+    requires { ⌜ s .stop ≤ length (now t) ⌝ }
+    requires { ⌜ 256 * (s .stop - s .from) < 2 ^ 64 ⌝ }
     ensures { λ r. ⌜ (1 ≤ r) × (r ≤ s .stop) ⌝ }
 {
     let once = closer(t, s, number);
@@ -239,7 +254,8 @@ fn part_end(from: usize, part: usize, size: usize) -> usize
 
 // Where the table leads for this number.
 fn seek(table: &[u8], t: &[u8], number: DirectoryNumber) -> usize
-    requires { ⌜ (length (now table) ≡ tableSize) × (1 ≤ length (now t)) ⌝ }
+    requires { ⌜ length (now table) ≡ tableSize ⌝ }
+    requires { ⌜ 1 ≤ length (now t) ⌝ }
     ensures { λ r. ⌜ (1 ≤ r) × (r ≤ length (now (t .entry))) ⌝ }
 {
     let size = t.len();
@@ -288,7 +304,9 @@ fn class_if(t: &[u8], at: usize, number: DirectoryNumber) -> u8
 
 // The class of the entry with this number, if it starts at `at`.
 fn class_shown(classes: &[u8], n: usize, t: &[u8], at: usize, number: DirectoryNumber) -> u8
-    requires { ⌜ Tabled (now classes) n (now t) × (1 ≤ at) × (at ≤ length (now t)) ⌝ }
+    requires { ⌜ Tabled (now classes) n (now t) ⌝ }
+    requires { ⌜ 1 ≤ at ⌝ }
+    requires { ⌜ at ≤ length (now t) ⌝ }
     ensures { λ r. ⌜ Shown (now (t .entry)) (number .0) r ⌝ }
 {
     if t.len() - at < 2 {

@@ -22,7 +22,8 @@ fn is_head(b: u8) -> bool
 
 // What the line from `at` up to `end` says, if it is one of these.
 pub fn head_at(t: &[u8], at: usize, end: usize) -> Said
-    requires { ⌜ (at ≤ end) × (end ≤ length (now t)) ⌝ }
+    requires { ⌜ at ≤ end ⌝ }
+    requires { ⌜ end ≤ length (now t) ⌝ }
     ensures { λ r. ⌜ r ≡ headOf (columns (now (t .entry)) at end) ⌝ }
 {
     if end == at {

@@ -74,7 +74,9 @@ pub fn reference_of(classes: &[u8], n: usize, t: &[u8], said: Said, line: SheetL
 
 // All entries from `from` on, where the line has this place.
 pub fn references(classes: &[u8], n: usize, t: &[u8], from: usize, first: SheetLine) -> SheetPass
-    requires { ⌜ Tabled (now classes) n (now t) × (from ≤ length (now t)) × (first .0 ≤ from + 1) ⌝ }
+    requires { ⌜ Tabled (now classes) n (now t) ⌝ }
+    requires { ⌜ from ≤ length (now t) ⌝ }
+    requires { ⌜ first .0 ≤ from + 1 ⌝ }
     ensures { λ r. ⌜ r ≡ referencesFrom (sheetTypes (now (t .entry))) (now (t .entry)) (first .0) from ⌝ }
 {
     let size = t.len();

@@ -39,7 +39,8 @@ fn class_said(said: Said) -> u8
 
 // That of the line from `at` up to `end`.
 fn class_on(t: &[u8], at: usize, end: usize) -> u8
-    requires { ⌜ (at ≤ end) × (end ≤ length (now t)) ⌝ }
+    requires { ⌜ at ≤ end ⌝ }
+    requires { ⌜ end ≤ length (now t) ⌝ }
     ensures { λ r. ⌜ r ≡ saidClass (headOf (columns (now (t .entry)) at end)) ⌝ }
 {
     let said = head_at(t, at, end);

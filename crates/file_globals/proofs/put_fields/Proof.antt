@@ -34,7 +34,7 @@ put-fields-spec =
     (λ c. search (needs, looping))
     (λ c. search (needs, looping))
     (λ c. search (needs, looping))
-    (λ c κs. search (needs, looping))
+    (λ c κs. (search (needs, looping), (search (needs, looping), (search (needs, looping), search (needs, looping)))))
     (λ c. search (needs, looping))
     (λ c. search (needs, looping))
     (λ c. search (needs, looping))

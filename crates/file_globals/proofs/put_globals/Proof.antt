@@ -10,8 +10,8 @@ put-globals-spec =
     (tie.spec
     (λ c. search (needs, opening-lines))
     (λ c κs. search (needs, opening-lines))
-    (λ c κs. search (needs, opening-lines))
-    (λ c κs. search (needs, opening-lines))
+    (λ c κs. (search (needs, opening-lines), (search (needs, opening-lines), search (needs, opening-lines))))
+    (λ c κs. (search (needs, opening-lines), (search (needs, opening-lines), (search (needs, opening-lines), (search (needs, opening-lines), search (needs, opening-lines))))))
     (λ c. search (needs, opening-lines))
     (λ c κs. search (needs, opening-lines))
     (λ c. search (needs, opening-lines))

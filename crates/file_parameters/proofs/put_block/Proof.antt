@@ -10,8 +10,8 @@ put-block-spec =
     (tie.spec
     (λ c. search (needs, blocking))
     (λ c κs. search (needs, blocking))
-    (λ c κs. search (needs, blocking))
-    (λ c κs. search (needs, blocking))
+    (λ c κs. (search (needs, blocking), (search (needs, blocking), (search (needs, blocking), search (needs, blocking)))))
+    (λ c κs. (search (needs, blocking), (search (needs, blocking), (search (needs, blocking), (search (needs, blocking), search (needs, blocking))))))
     (λ c. search (needs, blocking))
     (λ c κs. search (needs, blocking))
     (λ c. search (needs, blocking))

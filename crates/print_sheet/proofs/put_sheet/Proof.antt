@@ -12,6 +12,6 @@ put-sheet-spec =
     (λ c. search (needs, wholes))
     (λ c κs. search (needs, wholes))
     (λ c κs. search (needs, wholes))
-    (λ c κs. search (needs, wholes))
+    (λ c κs. (search (needs, wholes), (search (needs, wholes), search (needs, wholes))))
     (λ c. search (needs, wholes))
     (λ c. search (needs, wholes)))

@@ -40,7 +40,7 @@ put-owed-spec =
     (λ c. search (needs, owed))
     (λ c. search (needs, owed))
     (λ c κs. search (needs, owed))
-    (λ c κs. search (needs, owed))
+    (λ c κs. (search (needs, owed), (search (needs, owed), search (needs, owed))))
     (λ c κs. search (needs, owed))
     (λ c. search (needs, owed))
     (λ c. record { laid = search (needs, owed); marks = search (needs, owed); near = search (needs, owed) }))

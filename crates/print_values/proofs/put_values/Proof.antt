@@ -75,7 +75,7 @@ put-values-spec =
     let inv = cL .loop .inv in
     let pre = cL .before .before .before .before .before .pre in
     let sane = found-sane _ _ (cV .value-at .ensures .1) (cG .got .given .1) in
-    (pre .0 .stands, sane .2, omega (arith, values-room _ _ _ (pre .0 .stands) _ _ (pre .0 .parameter) (pre .0 .closing) _ _ _ _ (inv .0) (inv .1) (pre .1))))
+    (pre .0 .stands, (sane .2, omega (arith, values-room _ _ _ (pre .0 .stands) _ _ (pre .0 .parameter) (pre .0 .closing) _ _ _ _ (inv .0) (inv .1) (pre .1)))))
     (λ c. search (needs, runs-left))
     (λ c κs. search needs)
     (λ c.

@@ -15,6 +15,6 @@ values-pass-spec =
     (λ c. search (needs, answering))
     (λ c κs. search (needs, answering))
     (λ c. search (needs, answering))
-    (λ c κs. search (needs, answering))
+    (λ c κs. (search (needs, answering), (search (needs, answering), (search (needs, answering), (search (needs, answering), (search (needs, answering), search (needs, answering)))))))
     (λ c. search (needs, answering))
     (λ c. search (needs, answering)))

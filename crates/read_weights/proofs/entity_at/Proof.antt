@@ -12,6 +12,6 @@ entity-at-spec =
     (λ c κs. search (needs, ones))
     (λ c. search (needs, ones))
     (λ c. search (needs, ones))
-    (λ c κs. search (needs, ones))
+    (λ c κs. (search (needs, ones), (search (needs, ones), (search (needs, ones), (search (needs, ones), (search (needs, ones), (search (needs, ones), search (needs, ones))))))))
     (λ c. search (needs, ones))
     (λ c. search (needs, ones)))

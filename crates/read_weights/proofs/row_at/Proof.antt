@@ -9,7 +9,7 @@ row-at-spec =
     tie.close
     (tie.spec
     (λ c κs. search (needs, parts))
-    (λ c κs. search (needs, parts))
+    (λ c κs. (search (needs, parts), (search (needs, parts), (search (needs, parts), (search (needs, parts), search (needs, parts))))))
     (λ c. search (needs, parts))
     (λ c. search (needs, parts))
     (λ c κs. search (needs, parts))

@@ -16,6 +16,6 @@ put-piece-spec =
     (λ c. search (needs, pieces))
     (λ c. search (needs, pieces))
     (λ c κs. search (needs, pieces))
-    (λ c κs. search (needs, pieces))
+    (λ c κs. (search (needs, pieces), (search (needs, pieces), (search (needs, pieces), (search (needs, pieces), search (needs, pieces))))))
     (λ c. search (needs, pieces))
     (λ c. (search (needs, whole-pieces), (search (needs, whole-pieces), search (needs, whole-pieces)))))

@@ -19,7 +19,7 @@ given-at-spec =
     (λ c. search (needs, ends-laws))
     (λ c κs. search (needs, ends-laws))
     (λ c. search (needs, ends-laws))
-    (λ c κs. search (needs, ends-laws))
+    (λ c κs. (search (needs, ends-laws), (search (needs, ends-laws), search (needs, ends-laws))))
     (λ c. search (needs, ends-laws))
     (λ c κs. search (needs, ends-laws))
     (λ c. search (needs, ends-laws))

@@ -36,7 +36,7 @@ named-rules-spec =
     (λ c. search (needs, naming))
     (λ c. search (needs, naming))
     (λ c. search (needs, naming))
-    (λ c κs. search (needs, naming))
+    (λ c κs. (search (needs, naming), (search (needs, naming), search (needs, naming))))
     (λ c. search (needs, naming))
     (λ c. search (needs, naming))
     (λ c. search (needs, naming))

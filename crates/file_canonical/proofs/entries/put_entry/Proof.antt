@@ -10,7 +10,7 @@ put-entry-spec =
     (tie.spec
     (λ c κs. search (needs, entering))
     (λ c. search (needs, entering))
-    (λ c κs. (search (needs, entering), (search (needs, entering), search needs)))
+    (λ c κs. search (needs, entering))
     (λ c. search (needs, entering))
     (λ c. search (needs, entering))
     (λ c. search (needs, entering))

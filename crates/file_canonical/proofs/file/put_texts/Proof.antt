@@ -10,6 +10,6 @@ put-texts-spec =
     (tie.spec
     (λ c κs. search (needs, texts))
     (λ c. search (needs, texts))
-    (λ c κs. search (needs, texts))
+    (λ c κs. (search (needs, texts), (search (needs, texts), (search (needs, texts), search (needs, texts)))))
     (λ c. search (needs, texts))
     (λ c. search (needs, texts)))

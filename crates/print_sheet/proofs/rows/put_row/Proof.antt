@@ -13,7 +13,7 @@ put-row-spec =
     (λ c κs. search (needs, row))
     (λ c. search (needs, row))
     (λ c. search (needs, row))
-    (λ c κs. search (needs, row))
+    (λ c κs. (search (needs, row), (search (needs, row), (search (needs, row), search (needs, row)))))
     (λ c. search (needs, row))
     (λ c. search (needs, row))
     (λ c. search (needs, row)))

@@ -23,7 +23,7 @@ put-rows-spec =
     Inv-loop
     μ-loop
     (λ c. search (needs, rows))
-    (λ c κs. search (needs, rows))
+    (λ c κs. (search (needs, rows), (search (needs, rows), (search (needs, rows), search (needs, rows)))))
     (λ c. search (needs, rows))
     (λ c. search (needs, rows))
     (λ c. search (needs, rows))

@@ -20,8 +20,7 @@ put-spelt-spec =
     (λ c κs. search (needs, row))
     (λ c κs. (
       record { stands = search (needs, row); parameter = search needs; closing = search needs; directory-there = search needs; unrefused = search (needs, row) },
-      search needs,
-      search needs,
+      (search needs, search needs),
     ))
     (λ c. search (needs, row))
     (λ c. search (needs, row)))

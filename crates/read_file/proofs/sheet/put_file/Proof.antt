@@ -18,6 +18,6 @@ put-file-spec =
     (λ c. search (needs, sheets))
     (λ c. search (needs, sheets))
     (λ c. search (needs, sheets))
-    (λ c κs. search (needs, sheets, records-read))
+    (λ c κs. (search (needs, sheets, records-read), (search (needs, sheets, records-read), (search (needs, sheets, records-read), search (needs, sheets, records-read)))))
     (λ c. search (needs, sheets))
     (λ c. search (needs, sheets)))

@@ -67,9 +67,13 @@ walk-spec =
     let inv = c13 .before .before .loop .inv in
     let said = c11 .line-at .result in (
       behind (c13 .before .before .before .before .before .args .t .now) _ _ (inv .3) (c13 .end-of .ensures .1 .1) (c11 .before .if1 .left),
-      next-line _ _ said _ (c3 .step-line .ensures) (c1 .next .given .1) _ _ (inv .0) (c13 .end-of .ensures .1 .0),
-      next-entries _ _ said _ (c3 .step-line .ensures) (c1 .next .given .1) (inv .1),
-      c3 .before .tally-said .ensures .1 .at,
+      (
+        next-line _ _ said _ (c3 .step-line .ensures) (c1 .next .given .1) _ _ (inv .0) (c13 .end-of .ensures .1 .0),
+        (
+          next-entries _ _ said _ (c3 .step-line .ensures) (c1 .next .given .1) (inv .1),
+          c3 .before .tally-said .ensures .1 .at,
+        ),
+      ),
     ))
     (λ c κs. (c .before .before .before .before .before .tally-said .ensures .1, c .past-values .ensures .1 .0 .2))
     (λ c.
