@@ -1,6 +1,6 @@
 -- A file that is read has a model that fits: the sheet and the canonical file can spell it. Assumes nothing.
 use mathlib.Core.Path.{_≡_, sym, ap, _∙_}
-use mathlib.Core.List.{List, map}
+use mathlib.Core.List.{List, map, map-map}
 use Prim.Native.Nat.{ℕ, suc, _*_, _≤_}
 use native.Mathlib.Omega.{arith}
 use lib.ListN.{length, drop, length-map}
@@ -8,6 +8,7 @@ use Rattle.columns.specs.First.{upFrom}
 use Rattle.columns.specs.Refusal.{accepted}
 use Rattle.columns.specs.Format.{mostList, mostInteger}
 use Rattle.columns.proofs.First.{length-upFrom}
+use Rattle.columns.proofs.Stops.{each-alike}
 use Rattle.records.specs.Record.{Values, values, valuesAt, trimmed}
 use Rattle.records.proofs.Fine.{trim-idle}
 use Rattle.cards.specs.declared.Counts.{Counts}
@@ -23,7 +24,7 @@ use Rattle.model.proofs.ReadApart.{entity-apart, read-apart}
 use Rattle.read_passes.specs.Listed.{entryOf}
 use Rattle.read_passes.proofs.Facts.{Passed, passed-all}
 use Rattle.desk.proofs.Sound.{first-is}
-use Rattle.sheets_rows.proofs.Each.{each-also, each-both, each-from, each-keeps}
+use Rattle.sheets.proofs.Each.{each-also, each-both, each-from}
 use Rattle.demands.proofs.Printable.{text-prints}
 use Rattle.demands.proofs.Starts.{starts-fit, starts-some}
 use Rattle.demands.proofs.Values.{rest-held}
@@ -74,7 +75,9 @@ module _ (list : ℕ) (f : List ℕ) (b : Before) (ys : List Carried) (p : Passe
 
   types-kept : typesOf ys ≡ map listedType (b .listed)
   unfolding lastPass
-  types-kept = each-keeps two (entityIn list f c (b .global) (map listedType (b .listed))) listedType fieldsIn typeOf
+  types-kept =
+      map-map typeOf fieldsIn ys
+      ∙ each-alike two (entityIn list f c (b .global) (map listedType (b .listed))) (λ e. typeOf (fieldsIn e)) listedType
       (type-kept list f c (b .global) (map listedType (b .listed))) (firstEntry c) (b .listed) ys last
 
   entries-fit : Each (EntryFits list (typesOf ys)) ys

@@ -29,8 +29,9 @@ use Rattle.model.proofs.ReadApart.{entry-apart}
 use Rattle.read_passes.specs.Listed.{entryOf, allEntries}
 use Rattle.read_passes.proofs.Listing.{entries-are}
 use Rattle.read_passes.proofs.Facts.{Passed, passed-entry}
-use Rattle.desk.proofs.Sound.{taken, Ruled, rules-of}
-use Rattle.sheets_rows.proofs.Each.{each-made, each-up, each-accepted, each-from}
+use Rattle.directory.proofs.Ruled.{Ruled, rules-of}
+use Rattle.desk.proofs.Sound.{taken}
+use Rattle.sheets.proofs.Each.{each-made, each-up, each-accepted, each-from}
 use Rattle.demands.proofs.Printable.{line-prints, line-wide, text-prints}
 
 -- ---- its numbers and its label

@@ -19,7 +19,7 @@ use Rattle.sheets.specs.Sheet.{isStart}
 use Rattle.sheets.specs.WellFormed.{Each}
 use Rattle.model.specs.Read.{isBlank, startText, startsIn}
 use Rattle.model.specs.Fit.{Start}
-use Rattle.sheets_rows.proofs.Each.{each-made, each-up}
+use Rattle.sheets.proofs.Each.{each-made, each-up}
 use Rattle.demands.proofs.Printable.{line-prints, line-wide}
 
 -- ---- a text without trailing blanks

@@ -4,15 +4,16 @@ use mathlib.Core.Bool.{Bool, true}
 use mathlib.Core.List.{List, [], _∷_, map}
 use Prim.Native.Nat.{ℕ}
 use lib.ListN.{length-map}
-use borrow.Author.Tests.{le-leb, ne-eqb}
-use Rattle.columns.specs.declared.Fault.the-variants.{Directory, Global, Reference, Mark}
+use borrow.Author.Tests.{le-leb}
+use Rattle.columns.specs.declared.Fault.the-variants.{Global, Reference, Mark}
 use Rattle.columns.specs.Refusal.{accepted}
 use Rattle.columns.specs.Format.{mostList}
 use Rattle.columns.proofs.Outcomes.{demand-true}
 use Rattle.columns.proofs.Tests.{both-true}
 use Rattle.values.specs.Value.{Item, seen}
 use Rattle.records.specs.Global.{globalFits}
-use Rattle.directory.specs.Rules.{rangesOk, entryRules, referenceRule}
+use Rattle.directory.specs.Rules.{referenceRule}
+use Rattle.directory.proofs.Ruled.{rules-pass}
 use Rattle.layouts.specs.Known.{known}
 use Rattle.layouts.specs.Entities.{entityCheck, marks}
 use Rattle.layouts.proofs.Fits.{keeps-accepts}
@@ -22,7 +23,7 @@ use Rattle.sheets.proofs.Sheets.{read-written}
 use Rattle.model.specs.Model.{Carried, Model, typeOf, typesOf, entityOf, rowOf, sheetOf, valueIn}
 use Rattle.model.specs.Write.{globalRule, rowRules, rowReferences, rowEntity, marksRight, rowEntityRules, rowSize, firstGlobal, firstRow, sheetRules, writeModel, one as oneLine}
 use Rattle.model.specs.Fit.{InKind, EntryFits, Fits}
-use Rattle.sheets_rows.proofs.Each.{each-made, each-accepts, made-accepts}
+use Rattle.sheets.proofs.Each.{each-made, each-accepts, made-accepts}
 use Rattle.demands.proofs.Trims.{ends-given}
 use Rattle.demands.proofs.Marks.{equal-self, all-equal-self}
 use Rattle.demands.proofs.Rows.{row-values, row-marks, model-again, types-again}
@@ -60,8 +61,8 @@ sheet-formed list m f = record {
 module _ (list : ℕ) (types : List ℕ) (e : Carried) (f : EntryFits list types e) (p : ℕ) where
   -- 9, 13
   row-rules : rowRules p (rowOf list e) ≡ accepted tt
-  unfolding rowOf entryRules
-  row-rules = rw (demand-true (rangesOk (e .fields)) Directory p (f .ranges), ne-eqb (typeOf (e .fields)) 306 (f .no-macro))
+  unfolding rowOf
+  row-rules = rules-pass (e .fields) (f .ranges) (f .no-macro) p
 
   -- 10
   row-references : rowReferences types p (rowOf list e) ≡ accepted tt

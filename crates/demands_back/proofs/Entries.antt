@@ -4,7 +4,6 @@ use mathlib.Core.List.{List, [], _∷_, _++_, map, append-assoc}
 use Prim.Native.Nat.{ℕ, _+_, _*_, _/_, _≤_}
 use native.Mathlib.Omega.{arith}
 use lib.ListN.{length, getD}
-use borrow.Author.Tests.{ne-eqb}
 use Rattle.columns.specs.declared.Fault.the-variants.{Reference}
 use Rattle.columns.specs.Columns.{lineAt}
 use Rattle.columns.specs.First.{upFrom}
@@ -18,7 +17,8 @@ use Rattle.cards.proofs.Round.{d-line}
 use Rattle.directory.specs.declared.EntryRead.the-variants.{Spelt}
 use Rattle.directory.specs.Fields.{entryOf}
 use Rattle.directory.specs.Lines.{parameterLine, entryAt, labelAt}
-use Rattle.directory.specs.Rules.{entryRules, references, allFit, referenceRule}
+use Rattle.directory.specs.Rules.{references, allFit, referenceRule}
+use Rattle.directory.proofs.Ruled.{rules-pass}
 use Rattle.directory.specs.Reading.{firstLine, secondLine, Writable}
 use Rattle.directory.proofs.Round.{entry-read, label-read}
 use Rattle.sheets.specs.WellFormed.{Each, none, one}
@@ -31,12 +31,7 @@ use Rattle.demands_back.proofs.EachAt.{Makes, makes-none, makes-one, ea
 
 -- ---- an entry that fits
 
--- its rules pass
-rules-pass : (list : ℕ) (types : List ℕ) (e : Carried) → EntryFits list types e → (place : ℕ) → entryRules (e .fields) place ≡ accepted tt
-unfolding entryRules
-rules-pass list types e h place = rw (h .ranges, ne-eqb (typeOf (e .fields)) 306 (h .no-macro))
-
--- and its references do
+-- its references pass
 references-pass : (list : ℕ) (types : List ℕ) (e : Carried) → EntryFits list types e → (place : ℕ) → referenceRule types (e .fields) place ≡ accepted tt
 unfolding referenceRule
 references-pass list types e h place = demand-true (allFit types (references (entryOf (e .fields)))) Reference place (h .references-fit)
@@ -99,7 +94,7 @@ module _ (S G D P : List (List ℕ)) (bs : Bodies S) (bg : Bodies G) (bd : Bodie
     -- and are read as it
     entry-in : (place : ℕ) → entryIn F place (entryLine C i) ≡ accepted (listed from e)
     unfolding entryIn
-    entry-in place = rw (entry-spelt, entry-label, rules-pass list types e fit place)
+    entry-in place = rw (entry-spelt, entry-label, rules-pass (e .fields) (fit .ranges) (fit .no-macro) place)
 
   entries-made : (list : ℕ) (types : List ℕ) {i from : ℕ} {es : List Carried} → Laid D P i from es → Each (EntryFits list types) es
       → Makes (entryIn F) (map (entryLine C) (upFrom i (length es))) (listedFrom from es)

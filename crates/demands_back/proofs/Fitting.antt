@@ -7,32 +7,20 @@ use native.Mathlib.Omega.{arith}
 use lib.ListN.{length}
 use lib.Dec.{eqb}
 use borrow.Author.Tests.{eqb-true}
-use Rattle.columns.specs.declared.Signed.{Signed}
 use Rattle.columns.specs.Columns.{printable}
-use Rattle.columns.specs.Fixed.{NormalSign}
 use Rattle.columns.specs.Format.{mostLines}
 use Rattle.columns.proofs.Tests.{both}
 use Rattle.values.specs.Value.{Item, whole, Fine, fine-whole}
 use Rattle.directory.specs.declared.Fields.{Fields}
 use Rattle.directory.specs.Fields.{inOrder}
-use Rattle.directory.specs.Reading.{Normals, Writable}
+use Rattle.directory.specs.Reading.{Writable}
 use Rattle.sheets.specs.Line.{isLabel}
-use Rattle.sheets.specs.WellFormed.{Each, none, one, Proper, Numbered, Held}
+use Rattle.sheets.specs.WellFormed.{Each, one, Proper, Numbered, Held}
+use Rattle.sheets.proofs.Each.{normals}
 use Rattle.model.specs.Model.{Carried, typeOf}
 use Rattle.model.specs.Fit.{EntryFits}
 
 -- ---- its D lines
-
-normal : (x : Signed) → Proper x → NormalSign x
-normal x p z = pick (x .neg) refl
-  where
-    pick : (b : Bool) → x .neg ≡ b → b ≡ false
-    pick true e = absurd (p .minus e z)
-    pick false e = refl
-
-normals : {xs : List Signed} → Each Proper xs → Normals xs
-normals none = tt
-normals (one {x} {xs} p ps) = (normal x p, normals ps)
 
 label-parts : (t : List ℕ) → isLabel t ≡ true → (length t ≡ 8) × (printable t ≡ true)
 unfolding isLabel

@@ -4,7 +4,6 @@ use mathlib.Core.List.{List}
 use Prim.Native.Nat.{ℕ, zero, suc, _+_, _*_, _≤_, _<_}
 use native.Mathlib.Omega.{arith}
 use lib.Seq.{ext-getD}
-use borrow.Author.Tests.{ne-eqb}
 use Rattle.columns.specs.Fixed.{signedOf}
 use Rattle.columns.specs.Refusal.{accepted}
 use Rattle.values.specs.Value.{Item}
@@ -14,7 +13,8 @@ use Rattle.cards.specs.declared.Counts.{Counts}
 use Rattle.cards.specs.Cards.{entries, entryLine}
 use Rattle.cards.proofs.Complete.{rules}
 use Rattle.directory.specs.Lines.{slotIn, pointer, lines, labelAt, parameterLine as lineNumber}
-use Rattle.directory.specs.Rules.{entryRules, referenceRule}
+use Rattle.directory.specs.Rules.{referenceRule}
+use Rattle.directory.proofs.Ruled.{rules-pass}
 use Rattle.owners.specs.InFile.{ownerIn, fromIn, countIn}
 use Rattle.owners.specs.Rules.{Owns}
 use Rattle.owners.proofs.Round.{owns-passes}
@@ -91,14 +91,14 @@ module _ (list : ℕ) (f : List ℕ) (r : MeetsRules list f) where
         record { entry = o .0; name = o .1 .1 .0; has = record { is = o .1 .0; after = omega arith; before = omega arith } };
   }
 
-  rules-pass : (i : ℕ) → i < entries c → entryCheck f c i ≡ Passes
-  unfolding entryCheck entryIn entryRules
-  rules-pass i h =
+  entry-passes : (i : ℕ) → i < entries c → entryCheck f c i ≡ Passes
+  unfolding entryCheck entryIn
+  entry-passes i h =
       let m = r .entry-meets i h in
-      rw (m .spelt, m .ranges, ne-eqb (r .entry i .fields .entity .size) 306 (m .no-macro))
+      rw (m .spelt, rules-pass (r .entry i .fields) (m .ranges) (m .no-macro) (firstEntry c + 2 * i))
 
   entries-pass : passOf (entriesIn f c) ≡ Passes
-  entries-pass = entries-walk f c ∙ all-good (entryCheck f c) (entries c) 0 (λ j lo hi. rules-pass j (omega arith))
+  entries-pass = entries-walk f c ∙ all-good (entryCheck f c) (entries c) 0 (λ j lo hi. entry-passes j (omega arith))
 
   references-pass : passOf (referencesIn c (allEntries f c)) ≡ Passes
   unfolding referencesIn referenceRule

@@ -9,7 +9,6 @@ use Rattle.columns.specs.declared.Fault.{Fault}
 use Rattle.columns.specs.declared.Fault.the-variants.{FirstValue}
 use Rattle.columns.specs.Refusal.{Outcome, accepted, refused, demand, eachAt, _then_}
 use Rattle.columns.specs.Format.{mostList}
-use Rattle.columns.proofs.Outcomes.{then-accepted}
 use Rattle.values.specs.Value.{default}
 use Rattle.records.specs.Record.{Values, values, wrong, trimmed, valuesAt}
 use Rattle.layouts.specs.Known.{Inside}
@@ -20,7 +19,7 @@ use Rattle.model.specs.Model.{Carried, typeOf, entityOf}
 use Rattle.model.specs.Read.{Listed, Before, two, isType, carried, byParameters, parametersOf, entityIn, firstEntry, listedType, lastPass, modelWith, before, reads}
 use Rattle.desk.proofs.Lists.{read-list}
 use Rattle.desk.specs.Demands.{entityUnder, StopsAt, EarlierEntry, LargerRefuses, RefusedAtEntry}
-use Rattle.columns.proofs.Stops.{Stops, here, later, not-both, first-refused, stops-refused}
+use Rattle.columns.proofs.Stops.{Stops, here, later, Accepts, next, not-both, first-refused, stops-refused, all-accepted}
 
 -- ---- one entity
 
@@ -55,8 +54,7 @@ module _ {A B : Type 0} (f : ℕ → A → Outcome B) where
       record { passed = y ∷ r .passed; pass = rw (e, r .pass); entry = r .entry; others = r .others; stands = r .stands; stops = rw k (r .stops) }
 
   of-at : (p : ℕ) (xs : List A) (i : ℕ) (n : Fault) (q : ℕ) (ys : List B) (x : A) (zs : List A)
-      → eachAt two f p (take i xs) ≡ accepted ys → drop i xs ≡ x ∷ zs → f (p + 2 * i) x ≡ refused n q → Stops two f p xs i n q
-  unfolding eachAt
+      → Accepts two f p (take i xs) ys → drop i xs ≡ x ∷ zs → f (p + 2 * i) x ≡ refused n q → Stops two f p xs i n q
   of-at p [] zero n q ys x zs e d h = let z : _≡_ {A = ℕ} 0 1 = cc in absurd (omega arith)
   of-at p [] (suc i) n q ys x zs e d h = let z : _≡_ {A = ℕ} 0 1 = cc in absurd (omega arith)
   of-at p (w ∷ xs) zero n q ys x zs e d h =
@@ -64,11 +62,9 @@ module _ {A B : Type 0} (f : ℕ → A → Outcome B) where
       let g : f p x ≡ refused n q = rw k at h in
       let c : w ≡ x = cc in
       here (ap (f p) c ∙ g)
-  of-at p (w ∷ xs) (suc i) n q ys x zs e d h =
-      let b = then-accepted (f p w) _ ys e in
-      let c = then-accepted (eachAt two f (p + 2) (take i xs)) _ ys (b .second) in
+  of-at p (w ∷ xs) (suc i) n q (y ∷ ys) x zs (next e s) d h =
       let k : p + 2 * suc i ≡ p + 2 + 2 * i = omega arith in
-      later (b .value) (b .first) (of-at (p + 2) xs i n q (c .value) x zs (c .first) d (rw k at h))
+      later y e (of-at (p + 2) xs i n q ys x zs s d (rw k at h))
 
 -- ---- the whole of reading
 
@@ -102,7 +98,7 @@ turns-reads list f b h e n p i s = rw (read-list list f h, e, stops-refused two 
 pub refused-at-entry : RefusedAtEntry
 refused-at-entry list f b h e n p = (
   λ r. let t = reads-turns list f b h e n p r in (t .0, to-at _ (t .1)),
-  λ i s. turns-reads list f b h e n p i (of-at _ _ _ i n p (s .passed) (s .entry) (s .others) (s .pass) (s .stands) (s .stops)),
+  λ i s. turns-reads list f b h e n p i (of-at _ _ _ i n p (s .passed) (s .entry) (s .others) (all-accepted two _ _ _ (s .passed) (s .pass)) (s .stands) (s .stops)),
 )
 
 -- d

@@ -9,7 +9,7 @@ use lib.ListN.{length, drop}
 use borrow.Author.Tests.{le-leb}
 use Rattle.columns.specs.Refusal.{Outcome, accepted, eachAt, _then_}
 use Rattle.columns.specs.Format.{mostList}
-use Rattle.columns.proofs.Outcomes.{then-accepted}
+use Rattle.columns.proofs.Stops.{Accepts, done, next, all-accepted, accepts-all}
 use Rattle.values.specs.Value.{Item}
 use Rattle.records.specs.Record.{Values, trimmed, valuesAt}
 use Rattle.cards.specs.declared.Counts.{Counts}
@@ -23,14 +23,14 @@ use Rattle.model.proofs.ReadApart.{entity-apart, read-apart}
 use Rattle.desk.specs.Demands.{unmarked, RowsAlike, same, marks-only, AllAlike, none, more, SheetsAlike, SmallerAccepts}
 
 -- what one pass accepts another accepts alike, if it does so of each element
+accepts-too : {A B : Type 0} {takes : A → ℕ} {f g : ℕ → A → Outcome B} → ((p : ℕ) (x : A) (y : B) → g p x ≡ accepted y → f p x ≡ accepted y)
+    → {p : ℕ} {xs : List A} {ys : List B} → Accepts takes g p xs ys → Accepts takes f p xs ys
+accepts-too h done = done
+accepts-too h (next {p} {x} {xs} {y} e s) = next (h p x y e) (accepts-too h s)
+
 pub each-too : {A B : Type 0} (takes : A → ℕ) (f g : ℕ → A → Outcome B) → ((p : ℕ) (x : A) (y : B) → g p x ≡ accepted y → f p x ≡ accepted y)
     → (p : ℕ) (xs : List A) (ys : List B) → eachAt takes g p xs ≡ accepted ys → eachAt takes f p xs ≡ accepted ys
-unfolding eachAt
-each-too takes f g h p [] ys e = e
-each-too takes f g h p (x ∷ xs) ys e =
-    let b = then-accepted (g p x) _ ys e in
-    let d = then-accepted (eachAt takes g (p + takes x) xs) _ ys (b .second) in
-    rw (h p x (b .value) (b .first), each-too takes f g h (p + takes x) xs (d .value) (d .first)) (d .second)
+each-too takes f g h p xs ys e = accepts-all takes f (accepts-too h (all-accepted takes g p xs ys e))
 
 module _ (small large : ℕ) (inside : Inside small large) where
   -- an entity that the larger list accepts the smaller one accepts

@@ -5,6 +5,7 @@ use mathlib.Core.List.{List, [], _∷_, map}
 use Prim.Native.Nat.{ℕ, _+_, _*_}
 use Rattle.columns.specs.Refusal.{accepted, eachAt}
 use Rattle.columns.proofs.Outcomes.{then-accepted}
+use Rattle.columns.proofs.Stops.{Accepts, done, next, all-accepted}
 use Rattle.values.specs.Value.{Item}
 use Rattle.records.specs.Record.{Values, valuesAt}
 use Rattle.cards.specs.declared.Counts.{Counts}
@@ -59,17 +60,17 @@ unfolding rowLines rowOf entryFields
 row-first list k y ys = ap (λ (l : List LineFields). onLine list k (y .fields) (y .label) ∷ l) (past-values _ _)
 
 module _ (list : ℕ) (f : List ℕ) (c : Counts) (g : GlobalRead) (ts : List ℕ) where
+  rows-accepted : {p : ℕ} {es : List Listed} {ys : List Carried} (k : ℕ) → Accepts two (entityIn list f c g ts) p es ys
+      → map slotFields (recordsFrom list k es) ≡ entryFields (rowLines k (map (rowOf list) ys))
+  unfolding entityIn recordsFrom entryFields rowLines
+  rows-accepted k done = refl
+  rows-accepted k (next {p = p} {x = e} {xs = es} {y = y} {ys = ys} h s) =
+      let kept = parameters-keep list ts p e (valuesAt 64 (g .parameter) (g .record-end) (parametersOf f c e) 0) y h in
+      rw (row-first list k y ys, kept .fields, kept .label) (ap (λ (l : List LineFields). onLine list k (e .fields) (e .label) ∷ l) (rows-accepted (k + 1) s))
+
   slots-rows : (es : List Listed) (ys : List Carried) (p k : ℕ) → eachAt two (entityIn list f c g ts) p es ≡ accepted ys
       → map slotFields (recordsFrom list k es) ≡ entryFields (rowLines k (map (rowOf list) ys))
-  unfolding eachAt entityIn recordsFrom entryFields rowLines
-  slots-rows [] ys p k h = let q : ys ≡ [] = cc in rw q
-  slots-rows (e ∷ es) ys p k h =
-      let a = then-accepted (entityIn list f c g ts p e) _ ys h in
-      let b = then-accepted (eachAt two (entityIn list f c g ts) (p + 2) es) _ ys (a .second) in
-      let s = b .second in
-      let q : ys ≡ a .value ∷ b .value = cc in
-      let y = parameters-keep list ts p e (valuesAt 64 (g .parameter) (g .record-end) (parametersOf f c e) 0) (a .value) (a .first) in
-      rw (q, row-first list k (a .value) (b .value), y .fields, y .label) (ap (λ (l : List LineFields). onLine list k (e .fields) (e .label) ∷ l) (slots-rows es (b .value) (p + 2) (k + 1) (b .first)))
+  slots-rows es ys p k h = rows-accepted k (all-accepted two (entityIn list f c g ts) p es ys h)
 
 -- ---- the file
 

@@ -1,15 +1,14 @@
 -- A file that reading accepts meets the rules. Assumes nothing.
 use mathlib.Core.Path.{_≡_, refl, sym, ap, _∙_}
-use mathlib.Core.Bool.{Bool, true, false, not}
+use mathlib.Core.Bool.{true, false}
 use mathlib.Core.List.{List, [], _∷_}
 use Prim.Native.Nat.{ℕ, _+_, _-_, _*_, _≤_, _<_}
 use native.Mathlib.Omega.{arith}
 use lib.ListN.{getD, drop}
-use lib.Dec.{eqb}
-use borrow.Author.Tests.{eqb-true, eq-eqb}
-use Rattle.columns.specs.declared.Fault.the-variants.{Directory, Macro, Reference}
+use borrow.Author.Tests.{eqb-true}
+use Rattle.columns.specs.declared.Fault.the-variants.{Reference}
 use Rattle.columns.specs.Fixed.{signedOf}
-use Rattle.columns.specs.Refusal.{Outcome, accepted, refused, demand}
+use Rattle.columns.specs.Refusal.{Outcome, accepted, refused}
 use Rattle.columns.specs.Format.{mostList}
 use Rattle.columns.proofs.Outcomes.{then-accepted, demand-accepted}
 use Rattle.values.specs.Value.{Item, default, whole, real, text}
@@ -21,7 +20,8 @@ use Rattle.directory.specs.declared.Fields.{Fields}
 use Rattle.directory.specs.declared.EntryRead.the-variants.{Spelt}
 use Rattle.directory.specs.Fields.{entryOf as directoryEntry}
 use Rattle.directory.specs.Lines.{slotIn, pointer, lines, entryAt, parameterLine as lineNumber}
-use Rattle.directory.specs.Rules.{rangesOk, entryRules, referenceRule, references, allFit}
+use Rattle.directory.specs.Rules.{referenceRule, references, allFit}
+use Rattle.directory.proofs.Ruled.{Ruled, rules-of}
 use Rattle.owners.specs.InFile.{ownerIn, fromIn, countIn}
 use Rattle.owners.specs.Rules.{Owns}
 use Rattle.owners.proofs.Round.{passes-owns}
@@ -57,21 +57,6 @@ taken (refused n p) h = let z : _≡_ {A = ℕ} 0 1 = cc in absurd (never z)
 -- what its D lines say
 abbrev pub entryIs : Listed → EntryIs
 entryIs e = record { fields = e .fields; pointer = e .pointer; lines = e .lines }
-
-pub record Ruled (x : Fields) : Type 0 where
-  pub ranges : rangesOk x ≡ true
-  pub no-macro : typeOf x ≡ 306 → ⊥
-
-pub rules-of : (x : Fields) (p : ℕ) (u : Unit {0}) → entryRules x p ≡ accepted u → Ruled x
-unfolding entryRules
-rules-of x p u h =
-    let b = then-accepted (demand (rangesOk x) Directory p) _ u h in
-    let m = demand-accepted (not (eqb (x .entity .size) 306)) Macro p (b .second) in
-    record { ranges = demand-accepted (rangesOk x) Directory p (b .first); no-macro = λ e. other (eqb (x .entity .size) 306) (eq-eqb _ _ e) m }
-  where
-    other : (b : Bool) → b ≡ true → not b ≡ true → ⊥
-    other true e k = let z : _≡_ {A = ℕ} 0 1 = cc in never z
-    other false e k = let z : _≡_ {A = ℕ} 0 1 = cc in never z
 
 ruled : (f : List ℕ) (p k : ℕ) (x : Fields) (from count : ℕ) → entryAt f k ≡ Spelt x (lineNumber from) count → passOf (entryIn f p k) ≡ Passes → Ruled x
 ruled f p k x from count e h =

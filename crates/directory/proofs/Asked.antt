@@ -101,6 +101,14 @@ module _ (e : Entry) (j : ℕ) (r : Wanted) where
 
 pub ruleset wanting = (asks-number, asks-reference, wants-structure, wants-font, wants-level, wants-view, wants-matrix, wants-display, wants-colour)
 
+-- what one asks
+module _ (types : List ℕ) (w : Wanted) where
+  pub asks-nothing : w .asked ≡ false → true ≡ asksOk types w
+  asks-nothing e = rw e
+
+  pub asks-class : w .asked ≡ true → (class : ℕ) (r : Bool) → class ≡ classAt types (w .number .0) → r ≡ fits (w .want) class → r ≡ asksOk types w
+  asks-class e class r ec er = rw (e, er, ec)
+
 -- ---- all seven
 
 module _ (types : List ℕ) where

@@ -4,3 +4,4 @@ pub mod Ranges
 pub mod Asked
 pub mod Puts
 pub mod Round
+pub mod Ruled

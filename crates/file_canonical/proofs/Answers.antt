@@ -7,19 +7,18 @@ use native.Mathlib.Omega.{arith}
 use lib.ListN.{length, length-map}
 use lib.Dec.{leb}
 use borrow.Author.Tests.{le-leb, lt-leb, leb-true, leb-false}
-use Rattle.columns.specs.declared.Fault.the-variants.{Directory, TooLong}
-use Rattle.columns.specs.Refusal.{accepted, refused, demand}
+use Rattle.columns.specs.declared.Fault.the-variants.{TooLong}
+use Rattle.columns.specs.Refusal.{accepted, refused}
 use Rattle.columns.specs.Format.{mostLines}
-use Rattle.columns.proofs.Outcomes.{then-accepted, demand-accepted}
 use Rattle.cards.specs.declared.Counts.{Counts}
 use Rattle.cards.specs.Cards.{total}
-use Rattle.directory.specs.Rules.{rangesOk, entryRules}
+use Rattle.directory.proofs.Ruled.{rules-of}
 use Rattle.sheets.specs.declared.SheetVerdict.the-variants.{Good}
 use Rattle.sheets.specs.Sheet.{Row, Sheet, linesIn, sheetOf}
 use Rattle.sheets.specs.Order.{verdictOf}
 use Rattle.sheets.specs.WellFormed.{Each}
 use Rattle.sheets.proofs.Sheets.{verdict-written, written-read}
-use Rattle.sheets_rows.proofs.Each.{each-accepted}
+use Rattle.sheets.proofs.Each.{each-accepted}
 use Rattle.model.specs.Model.{Model, carriedOf, modelOf}
 use Rattle.model.specs.Canonical.{lineTotal, canonical}
 use Rattle.model.specs.Write.{rowSize, firstRow, rowRules, sheetRules, writeModel, writes}
@@ -34,8 +33,7 @@ use Rattle.file_canonical.proofs.Readied.{counts-are, file-length}
 
 -- rule 9 of one row
 row-ranged : (place : ℕ) (r : Row) (y : Unit {0}) → rowRules place r ≡ accepted y → Ranged r
-unfolding entryRules
-row-ranged place r y h = demand-accepted (rangesOk (r .fields)) Directory place (then-accepted (demand (rangesOk (r .fields)) Directory place) _ y h .first)
+row-ranged place r y h = rules-of (r .fields) place y h .ranges
 
 -- of all rows
 sheet-ranged : (list : ℕ) (s : Sheet) → sheetRules list s ≡ accepted tt → Each Ranged (s .rows)

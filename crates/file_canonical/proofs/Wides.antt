@@ -7,7 +7,6 @@ use native.Mathlib.Omega.{arith}
 use lib.ListN.{length, length-append}
 use lib.Dec.{leb}
 use borrow.Author.Tests.{leb-true}
-use Rattle.columns.specs.declared.Signed.{Signed}
 use Rattle.columns.specs.Decimal.{toLeft}
 use Rattle.columns.specs.Format.{mostLines}
 use Rattle.columns.proofs.Decimals.{length-left}
@@ -21,11 +20,12 @@ use Rattle.cards.specs.Written.{zeros, lineOf, totalsOf, none, one}
 use Rattle.cards.proofs.Round.{length-zeros}
 use Rattle.directory.specs.declared.Fields.{Fields}
 use Rattle.directory.specs.Lines.{entryLines}
-use Rattle.directory.specs.Reading.{Normals, Writable}
+use Rattle.directory.specs.Reading.{Writable}
 use Rattle.directory.proofs.Puts.{entry-lines}
 use Rattle.directory.proofs.Round.{first-length, second-length}
 use Rattle.sheets.specs.Sheet.{isStart, Row}
-use Rattle.sheets.specs.WellFormed.{Each, none as no-each, one as an-each, Proper, RowSpelt}
+use Rattle.sheets.specs.WellFormed.{Each, none as no-each, one as an-each, RowSpelt}
+use Rattle.sheets.proofs.Each.{normals}
 use Rattle.sheets.proofs.Round.{label-eight}
 use Rattle.model.specs.Model.{Carried, carriedOf}
 use Rattle.model.specs.Canonical.{parameterText, blockOf, directoryLines, parameterLines}
@@ -34,17 +34,6 @@ use Rattle.file_canonical.proofs.Totals.{block-lines}
 use Rattle.file_canonical.proofs.Sections.{Wide, wide-both, line-length}
 
 -- ---- the D lines have 72 columns
-
-normal : (x : Signed) → Proper x → x .size ≡ 0 → x .neg ≡ false
-normal x p z = pick (x .neg) refl
-  where
-    pick : (b : Bool) → x .neg ≡ b → b ≡ false
-    pick true e = absurd (p .minus e z)
-    pick false e = refl
-
-normals : {xs : List Signed} → Each Proper xs → Normals xs
-normals no-each = tt
-normals (an-each {x} p ps) = (normal x p, normals ps)
 
 -- a block has a line
 block-some : (n : ℕ) (e : Carried) → 1 ≤ length (blockOf n e)

@@ -26,7 +26,7 @@ use Rattle.sheets.proofs.Walk.{line-says, lines-first}
 use Rattle.model.specs.Canonical.{filled}
 use Rattle.file_blocks.specs.declared.GlobalLine.{GlobalLine}
 use Rattle.file_blocks.specs.declared.GlobalLine.the-variants.{Field, Otherwise}
-use Rattle.sheets_rows.proofs.Rows.{behind-none}
+use Rattle.sheets_rows.proofs.Rows.{behind-none, piece-gives-none}
 use Rattle.file_blocks.specs.Blocks.{globalGiven, globalsFirst, behindGlobals}
 use Rattle.file_blocks.specs.Writing.{parted, FieldStands, FieldsEnd, FieldAt}
 use Rattle.file_blocks.proofs.Ended.{put-same}
@@ -42,9 +42,8 @@ ends-at t at e h =
     record { fields = f; behind = behind-none globalGiven (linesIn (drop at t)) f }
 
 piece-ends : (t : List ℕ) → globalsFirst (lastPiece t) ≡ []
-unfolding lastPiece globalsFirst
-piece-ends [] = refl
-piece-ends (b ∷ bs) = refl
+unfolding globalsFirst
+piece-ends t = piece-gives-none globalGiven (λ b. refl) t
 
 module _ (t : List ℕ) (at end : ℕ) (run-is : end ≡ at + run 10 (drop at t)) where
   pub field-none : end ≡ length t → FieldsEnd t at

@@ -27,7 +27,7 @@ use Rattle.sheets.specs.Sheet.{Line, value, lineFrom, isMark, isValue, saysOf, 
 use Rattle.sheets.proofs.Walk.{line-says, lines-first}
 use Rattle.sheets.proofs.Valued.{no-value, value-long as begun-long, value-given, value-not}
 use Rattle.sheets_rows.specs.Rows.{valueGiven, valuesFirst}
-use Rattle.sheets_rows.proofs.Rows.{behind-none, no-values}
+use Rattle.sheets_rows.proofs.Rows.{behind-none, piece-gives-none, no-values}
 use Rattle.file_blocks.specs.Blocks.{itemsFirst, behindValues, firstBegins, Unbroken}
 use Rattle.file_blocks.specs.Writing.{parted}
 use Rattle.file_blocks.proofs.Ended.{parted-next}
@@ -37,9 +37,8 @@ use Rattle.file_blocks.proofs.Said.{line-part, lines-whole}
 
 -- the values end
 piece-ends : (t : List ℕ) → valuesFirst (lastPiece t) ≡ []
-unfolding lastPiece valuesFirst
-piece-ends [] = refl
-piece-ends (b ∷ bs) = refl
+unfolding valuesFirst
+piece-ends t = piece-gives-none valueGiven (λ b. refl) t
 
 -- a piece that no LF ends begins so or not
 piece-begins : (s : List ℕ) → isMark (getD s 0 0) ≡ true → firstBegins (behindValues (lastPiece s)) ≡ true

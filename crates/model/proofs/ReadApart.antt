@@ -30,19 +30,6 @@ use Rattle.layouts.specs.Entities.{entityCheck}
 use Rattle.model.specs.Model.{Carried, Model, typeOf, entityOf}
 use Rattle.model.specs.Read.{GlobalRead, globalRead, Listed, Before, globalText, globalLine, noStray, fieldFits, given, byValues, byOpening, globalIn, byEntry, entryIn, entriesIn, referencesIn, isType, carried, byParameters, lastPass, modelWith, before, readModel}
 
--- what each was made to, where all were accepted
-pub each-is : {A B : Type 0} (takes : A → ℕ) (f : ℕ → A → Outcome B) (made : A → B) → ((p : ℕ) (x : A) (y : B) → f p x ≡ accepted y → y ≡ made x)
-    → (p : ℕ) (xs : List A) (ys : List B) → eachAt takes f p xs ≡ accepted ys → ys ≡ map made xs
-unfolding eachAt
-each-is takes f made h p [] ys e = (cc)
-each-is takes f made h p (x ∷ xs) ys e =
-    let b = then-accepted (f p x) _ ys e in
-    let d = then-accepted (eachAt takes f (p + takes x) xs) _ ys (b .second) in
-    let first = h p x (b .value) (b .first) in
-    let rest = each-is takes f made h (p + takes x) xs (d .value) (d .first) in
-    let whole = d .second in
-    (cc)
-
 -- ---- G
 
 -- its opening alone, or its values, which fit their fields; and nothing behind them

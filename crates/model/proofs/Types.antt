@@ -1,7 +1,7 @@
 -- The types read off the D lines are those of the entries that reading lists. Assumes nothing.
 use mathlib.Core.Path.{_≡_, refl, sym, ap, ap₂, _∙_}
 use mathlib.Core.Bool.{Bool, true, false, cond, _&&_}
-use mathlib.Core.List.{List, [], _∷_, map}
+use mathlib.Core.List.{List, [], _∷_, map, map-map}
 use Prim.Native.Nat.{ℕ, suc, _+_, _*_}
 use native.Mathlib.Omega.{arith}
 use Rattle.columns.specs.declared.SignedField.{SignedField}
@@ -10,7 +10,7 @@ use Rattle.columns.specs.declared.ParameterLine.{ParameterLine}
 use Rattle.columns.specs.First.{upFrom}
 use Rattle.columns.specs.Fixed.{signedOf}
 use Rattle.columns.specs.Refusal.{accepted, eachAt, _then_}
-use Rattle.columns.proofs.Outcomes.{Both, then-accepted}
+use Rattle.columns.proofs.Stops.{each-alike}
 use Rattle.cards.specs.declared.Counts.{Counts}
 use Rattle.cards.specs.Cards.{firstD, entries, entryLine}
 use Rattle.directory.specs.declared.Fields.{Fields}
@@ -58,25 +58,9 @@ listed-type f place k y h =
 
 -- ---- all of them
 
-each-type : (f : List ℕ) (ks : List ℕ) (place : ℕ) (es : List Listed) → eachAt two (entryIn f) place ks ≡ accepted es → map listedType es ≡ map (typeOn f) ks
-unfolding eachAt
-each-type f [] place es h = let q : es ≡ [] = cc in ap (map listedType) q
-each-type f (k ∷ ks) place es h = by (then-accepted (entryIn f place k) (λ y. eachAt two (entryIn f) (place + 2) ks then λ ys. accepted (y ∷ ys)) es h) (each-type f ks (place + 2))
-  where
-    by : Both (entryIn f place k) (λ y. eachAt two (entryIn f) (place + 2) ks then λ ys. accepted (y ∷ ys)) es
-        → ((us : List Listed) → eachAt two (entryIn f) (place + 2) ks ≡ accepted us → map listedType us ≡ map (typeOn f) ks)
-        → map listedType es ≡ typeOn f k ∷ map (typeOn f) ks
-    by b others =
-        let r : Both (eachAt two (entryIn f) (place + 2) ks) (λ ys. accepted (b .value ∷ ys)) es = then-accepted (eachAt two (entryIn f) (place + 2) ks) (λ ys. accepted (b .value ∷ ys)) es (b .second) in
-        let s : accepted (b .value ∷ r .value) ≡ accepted es = r .second in
-        let q : es ≡ b .value ∷ r .value = cc in
-        ap (map listedType) q ∙ ap₂ (λ (n : ℕ) (ns : List ℕ). n ∷ ns) (listed-type f place k (b .value) (b .first)) (others (r .value) (r .first))
-
-lines-types : (f : List ℕ) (c : Counts) (is : List ℕ) → map (typeOn f) (map (entryLine c) is) ≡ map (typeOfEntry f (firstD c)) is
-lines-types f c [] = refl
-lines-types f c (i ∷ is) = ap (λ (l : List ℕ). typeOn f (firstD c + 2 * i) ∷ l) (lines-types f c is)
-
 -- the types of the entries that reading lists
 pub types-listed : (f : List ℕ) (c : Counts) (es : List Listed) → entriesIn f c ≡ accepted es → map listedType es ≡ typesAt f (firstD c) (entries c)
 unfolding entriesIn typesAt
-types-listed f c es h = each-type f (map (entryLine c) (upFrom 0 (entries c))) (firstEntry c) es h ∙ lines-types f c (upFrom 0 (entries c))
+types-listed f c es h =
+    each-alike two (entryIn f) listedType (typeOn f) (listed-type f) (firstEntry c) (map (entryLine c) (upFrom 0 (entries c))) es h
+    ∙ map-map (typeOn f) (entryLine c) (upFrom 0 (entries c))

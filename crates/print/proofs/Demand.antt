@@ -8,12 +8,12 @@ use lib.ListN.{length, length-map}
 use Rattle.columns.specs.First.{upFrom}
 use Rattle.columns.specs.Refusal.{accepted, eachAt}
 use Rattle.columns.proofs.First.{length-upFrom}
-use Rattle.columns.proofs.Outcomes.{then-accepted}
 use Rattle.cards.specs.declared.Counts.{Counts}
 use Rattle.cards.specs.Cards.{firstD, firstP, entries}
 use Rattle.directory.specs.Naming.{typesAt, typeOfEntry}
 use Rattle.sheets.specs.Sheet.{last, lineOf, sheetText}
-use Rattle.sheets.specs.WellFormed.{Each, none, one}
+use Rattle.sheets.specs.WellFormed.{Each}
+use Rattle.sheets.proofs.Each.{each-makes}
 use Rattle.model.specs.Model.{Carried, typesOf, sheetOf}
 use Rattle.model.specs.Read.{GlobalRead, Listed, startsIn, globalText, two, entityIn, entriesIn, firstEntry, listedType, lastPass, modelWith}
 use Rattle.model.proofs.Types.{types-listed}
@@ -30,14 +30,7 @@ module _ (list : ℕ) (f : List ℕ) (k : Counts) (g : GlobalRead) where
 
   -- the entries that the last pass accepts keep to their layouts
   each-kept : (types : List ℕ) (es : List Listed) (place : ℕ) (cs : List Carried) → eachAt two (entityIn list f k g types) place es ≡ accepted cs → Each (Kept list types) cs
-  unfolding eachAt
-  each-kept types [] place cs h = let z : [] ≡ cs = cc in rw (← z) none
-  each-kept types (e ∷ es) place cs h =
-      let b = then-accepted (entityIn list f k g types place e) _ cs h in
-      let r = then-accepted (eachAt two (entityIn list f k g types) (place + 2) es) _ cs (b .second) in
-      let s = r .second in
-      let z : b .value ∷ r .value ≡ cs = cc in
-      rw (← z) (one (entity-keeps list f k g types place e (b .value) (b .first)) (each-kept types es (place + 2) (r .value) (r .first)))
+  each-kept types es place cs h = each-makes two (entityIn list f k g types) (entity-keeps list f k g types) place es cs h
 
   types-kept : (es : List Listed) → typesOf (map carriedIt es) ≡ map listedType es
   types-kept [] = refl

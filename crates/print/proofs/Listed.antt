@@ -1,13 +1,13 @@
 -- The entries that reading lists have the bytes that the code writes. Assumes nothing.
-use mathlib.Core.Path.{_≡_, sym, ap, ap₂, _∙_}
+use mathlib.Core.Path.{_≡_, refl, sym, ap, ap₂}
 use mathlib.Core.List.{List, [], _∷_, _++_, map}
 use Prim.Native.Nat.{ℕ, zero, suc, _+_, _-_, _*_, _≤_}
 use lib.ListN.{length}
 use borrow.Author.Tests.{le-leb}
 use Rattle.columns.specs.Columns.{textOf}
 use Rattle.columns.specs.First.{upFrom}
-use Rattle.columns.specs.Refusal.{accepted, eachAt, _then_}
-use Rattle.columns.proofs.Outcomes.{Both, then-accepted}
+use Rattle.columns.specs.Refusal.{accepted, eachAt}
+use Rattle.columns.proofs.Stops.{Accepts, done, next, all-accepted}
 use Rattle.values.specs.Value.{Item}
 use Rattle.records.specs.Record.{valuesAt}
 use Rattle.directory.specs.Naming.{typesAt}
@@ -45,23 +45,13 @@ module _ (list : ℕ) (f : List ℕ) (first n parameters c d : ℕ) where
   lineOfEntry i = first + 2 * i
 
   -- all entries that are listed
+  all-listed : (left i place : ℕ) (es : List Listed) → Accepts two (entryIn f) place (map lineOfEntry (upFrom i left)) es → Roomy es
+      → rowsBytes list f first n parameters c d i left ≡ entriesBytes list (typesAt f first n) i (map carriedAs es)
+  unfolding upFrom rowsBytes entriesBytes
+  all-listed zero i place [] done room = refl
+  all-listed (suc left) i place (e ∷ es) (next h s) room =
+      ap₂ (λ (x y : List ℕ). x ++ y) (row-listed i place e h (room .0)) (all-listed left (i + 1) (place + 2) es s (room .1))
+
   pub rows-listed : (left i place : ℕ) (es : List Listed) → eachAt two (entryIn f) place (map lineOfEntry (upFrom i left)) ≡ accepted es → Roomy es
       → rowsBytes list f first n parameters c d i left ≡ entriesBytes list (typesAt f first n) i (map carriedAs es)
-  unfolding eachAt upFrom rowsBytes entriesBytes
-  rows-listed zero i place es h room = let q : es ≡ [] = cc in sym (ap (λ (l : List Listed). entriesBytes list (typesAt f first n) i (map carriedAs l)) q)
-  rows-listed (suc left) i place es h room =
-      by (then-accepted (entryIn f place (first + 2 * i)) (λ y. eachAt two (entryIn f) (place + 2) (map lineOfEntry (upFrom (i + 1) left)) then λ ys. accepted (y ∷ ys)) es h)
-      (rows-listed left (i + 1) (place + 2))
-    where
-      by : Both (entryIn f place (first + 2 * i)) (λ y. eachAt two (entryIn f) (place + 2) (map lineOfEntry (upFrom (i + 1) left)) then λ ys. accepted (y ∷ ys)) es
-          → ((us : List Listed) → eachAt two (entryIn f) (place + 2) (map lineOfEntry (upFrom (i + 1) left)) ≡ accepted us → Roomy us
-          → rowsBytes list f first n parameters c d (i + 1) left ≡ entriesBytes list (typesAt f first n) (i + 1) (map carriedAs us))
-          → rowBytes list f first n parameters c d i ++ rowsBytes list f first n parameters c d (i + 1) left ≡ entriesBytes list (typesAt f first n) i (map carriedAs es)
-      by b others =
-          let ks : List ℕ = map lineOfEntry (upFrom (i + 1) left) in
-          let r : Both (eachAt two (entryIn f) (place + 2) ks) (λ ys. accepted (b .value ∷ ys)) es = then-accepted (eachAt two (entryIn f) (place + 2) ks) (λ ys. accepted (b .value ∷ ys)) es (b .second) in
-          let s : accepted (b .value ∷ r .value) ≡ accepted es = r .second in
-          let q : es ≡ b .value ∷ r .value = cc in
-          let m : Roomy (b .value ∷ r .value) = rw q at room in
-          ap₂ (λ (x y : List ℕ). x ++ y) (row-listed i place (b .value) (b .first) (m .0)) (others (r .value) (r .first) (m .1))
-          ∙ ap (λ (l : List Listed). entriesBytes list (typesAt f first n) i (map carriedAs l)) (sym q)
+  rows-listed left i place es h room = all-listed left i place es (all-accepted two (entryIn f) place (map lineOfEntry (upFrom i left)) es h) room

@@ -8,6 +8,7 @@ use lib.ListN.{getD, drop}
 use Rattle.columns.specs.declared.Fault.{Fault}
 use Rattle.columns.specs.declared.Fault.the-variants.{FirstValue}
 use Rattle.columns.specs.Refusal.{Outcome, accepted, refused, demand, _then_}
+use Rattle.columns.proofs.Stops.{each-is}
 use Rattle.values.specs.Value.{default}
 use Rattle.records.specs.Record.{Values, values, wrong, valuesAt, trimmed}
 use Rattle.cards.specs.declared.Counts.{Counts}
@@ -19,7 +20,7 @@ use Rattle.layouts.specs.Fits.{Keeps}
 use Rattle.layouts.proofs.Fits.{accepts-keeps}
 use Rattle.model.specs.Model.{Carried, typeOf, entityOf}
 use Rattle.model.specs.Read.{GlobalRead, Listed, isType, byParameters, carried, parametersOf, entityIn, two, listedType, firstEntry, lastPass}
-use Rattle.model.proofs.ReadApart.{each-is, entity-apart}
+use Rattle.model.proofs.ReadApart.{entity-apart}
 use Rattle.read_entities.specs.declared.EntityAnswer.{EntityAnswer}
 use Rattle.read_entities.specs.declared.EntityAnswer.the-variants.{Good, Refused}
 use Rattle.read_entities.specs.Answers.{entityAnswer, entityPassOf}

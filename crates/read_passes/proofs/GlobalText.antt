@@ -18,16 +18,15 @@ use Rattle.cards.specs.declared.Counts.{Counts}
 use Rattle.cards.specs.Rules.{Holds}
 use Rattle.cards.specs.Shared.{fileLine}
 use Rattle.values.specs.declared.Value.{Value}
-use Rattle.values.specs.declared.Value.the-variants.{Default, Whole, Real, Text}
-use Rattle.values.specs.Value.{itemOf, seen}
+use Rattle.values.specs.declared.Value.the-variants.{Default}
+use Rattle.values.specs.Value.{seen}
 use Rattle.records.specs.declared.Got.{Got}
 use Rattle.records.specs.declared.Got.the-variants.{Found, Refused as GotRefused}
-use Rattle.records.specs.declared.GlobalKind.{GlobalKind}
-use Rattle.records.specs.declared.GlobalKind.the-variants.{String, Real as RealKind, Integer}
 use Rattle.records.specs.Record.{blanks, valueAt, startOf, behind, positionOf, startAt}
-use Rattle.records.specs.Global.{kindOf, isKind, globalFits}
+use Rattle.records.specs.Global.{globalFits}
 use Rattle.records.specs.Items.{gotItem}
 use Rattle.records.specs.Reading.{Stands, Sane}
+use Rattle.records.proofs.Globals.{fits-seen}
 use Rattle.records.proofs.Texts.{length-text, small}
 use Rattle.model.specs.Read.{globalText, globalLine, spellingLine, noStray}
 use Rattle.read_passes.specs.declared.FilePass.the-variants.{Good, Refused}
@@ -69,24 +68,10 @@ behind-in p m (Found v s next last) h = omega arith
 behind-in p m (GotRefused n s at) h = omega arith
 
 -- a field asks nothing of a string but that it is one
-fits-kind : (t : List ℕ) (k : GlobalKind) (n : ℕ) (v : Value) → isKind k n v ≡ isKind k n (seen (itemOf t v))
-fits-kind t String n Default = refl
-fits-kind t String n (Whole neg size) = refl
-fits-kind t String n (Real neg m eneg e double) = refl
-fits-kind t String n (Text start count) = refl
-fits-kind t RealKind n Default = refl
-fits-kind t RealKind n (Whole neg size) = refl
-fits-kind t RealKind n (Real neg m eneg e double) = refl
-fits-kind t RealKind n (Text start count) = refl
-fits-kind t Integer n Default = refl
-fits-kind t Integer n (Whole neg size) = refl
-fits-kind t Integer n (Real neg m eneg e double) = refl
-fits-kind t Integer n (Text start count) = refl
-
-fits-seen : (t : List ℕ) (n : ℕ) (g : Got) → globalFits n (gotValue g) ≡ globalFits n (seen (gotItem t g))
+fits-got : (t : List ℕ) (n : ℕ) (g : Got) → globalFits n (gotValue g) ≡ globalFits n (seen (gotItem t g))
 unfolding globalFits
-fits-seen t n (Found v s next last) = rw (fits-kind t (kindOf n) n v)
-fits-seen t n (GotRefused m s at) = refl
+fits-got t n (Found v s next last) = fits-seen t n v
+fits-got t n (GotRefused m s at) = refl
 
 -- the position of one more value is behind the one before it
 position-more : (w c d : ℕ) (t : List ℕ) (k p : ℕ) → positionOf w c d t p (suc k) ≡ behind (valueAt w c d t (positionOf w c d t p k))
@@ -157,7 +142,7 @@ module _ (f : List ℕ) (c : Counts) (ho : Holds f c) where
           (inv : firstNot (valueFits p d (globalText f c) from) k (n - k) ≡ firstNot (valueFits p d (globalText f c) from) 0 n) where
         fit-is : b ≡ valueFits p d (globalText f c) from k
         unfolding valueFits
-        fit-is = eb ∙ ap (globalFits (3 + k)) ex ∙ fits-seen (globalText f c) (3 + k) v ∙ ap (λ (y : Got). globalFits (3 + k) (seen (gotItem (globalText f c) y))) value-is
+        fit-is = eb ∙ ap (globalFits (3 + k)) ex ∙ fits-got (globalText f c) (3 + k) v ∙ ap (λ (y : Got). globalFits (3 + k) (seen (gotItem (globalText f c) y))) value-is
 
         pub fit-on : b ≡ true → firstNot (valueFits p d (globalText f c) from) (k + 1) (n - (k + 1)) ≡ firstNot (valueFits p d (globalText f c) from) 0 n
         fit-on e = first-on (valueFits p d (globalText f c) from) k n _ inv h (sym fit-is ∙ e)

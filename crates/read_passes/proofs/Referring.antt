@@ -13,10 +13,8 @@ use Rattle.columns.specs.declared.ParameterLine.{ParameterLine}
 use Rattle.columns.specs.Refusal.{Outcome, accepted, refused, demand, _then_}
 use Rattle.cards.specs.declared.Counts.{Counts}
 use Rattle.cards.specs.Cards.{firstD, entries, entryLine}
-use Rattle.references.specs.References.{classAt, fits}
 use Rattle.directory.specs.declared.Fields.{Fields}
 use Rattle.directory.specs.declared.Entry.{Entry}
-use Rattle.directory.specs.declared.Wanted.{Wanted}
 use Rattle.directory.specs.declared.Rule.{Rule}
 use Rattle.directory.specs.declared.Rule.the-variants.{Good as GoodRule}
 use Rattle.directory.specs.declared.EntryRead.{EntryRead}
@@ -24,9 +22,9 @@ use Rattle.directory.specs.declared.EntryRead.the-variants.{Spelt}
 use Rattle.directory.specs.Fields.{entryOf as meaningOf}
 use Rattle.directory.specs.Lines.{entryAt, labelAt}
 use Rattle.directory.specs.Rules.{allFit, references, referenceRule}
-use Rattle.directory.specs.Asking.{asksOk, ruleOf}
+use Rattle.directory.specs.Asking.{ruleOf}
 use Rattle.directory.specs.Naming.{typesAt}
-use Rattle.directory.proofs.Asked.{rest-all, rest-on, rest-no, rest-done}
+use Rattle.directory.proofs.Asked.{asks-nothing, asks-class, rest-all, rest-on, rest-no, rest-done}
 use Rattle.model.specs.Read.{Listed, firstEntry, entriesIn, referencesOf, referencesIn}
 use Rattle.model.proofs.Types.{types-listed}
 use Rattle.read_passes.specs.declared.FilePass.{FilePass}
@@ -40,13 +38,6 @@ use Rattle.read_passes.proofs.Walks.{row-walk, entries-walk, both-on, b
 use Rattle.read_passes.proofs.Whole.{good-entries}
 
 -- ---- one reference
-
-module _ (types : List ℕ) (w : Wanted) where
-  pub asks-nothing : w .asked ≡ false → true ≡ asksOk types w
-  asks-nothing e = rw e
-
-  pub asks-class : w .asked ≡ true → (class : ℕ) (r : Bool) → class ≡ classAt types (w .number .0) → r ≡ fits (w .want) class → r ≡ asksOk types w
-  asks-class e class r ec er = rw (e, er, ec)
 
 pub ruleset asks = (not-true, not-false, asks-nothing, asks-class, rest-all, rest-on, rest-no, rest-done)
 

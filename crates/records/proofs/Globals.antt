@@ -9,7 +9,8 @@ use lib.Dec.{leb, ltb, eqb}
 use borrow.Author.Tests.{eqb-false, leb-true, ltb-true, ltb-false, eq-eqb, ne-eqb, le-leb, lt-leb, not-true, not-false}
 use Rattle.columns.proofs.Tests.{both-left}
 use Rattle.values.specs.declared.Value.{Value}
-use Rattle.values.specs.declared.Value.the-variants.{Default, Whole}
+use Rattle.values.specs.declared.Value.the-variants.{Default, Whole, Real, Text}
+use Rattle.values.specs.Value.{itemOf, seen}
 use Rattle.values.specs.Number.{isDigit, joins}
 use Rattle.records.specs.declared.Opening.{Opening}
 use Rattle.records.specs.declared.Opening.the-variants.{Opened, Wrong}
@@ -248,3 +249,23 @@ unfolding globalFits
 fits-kind n v h e er = rw (er, e) (simp (le-leb n 24 h))
 
 pub ruleset fields = (kind-rest, up-sign, up-none, up-some, range-flags, range-units, range-any, is-default, is-whole, fits-past, fits-kind)
+
+-- ---- a field asks nothing of a string but that it is one
+
+kind-seen : (t : List ℕ) (k : GlobalKind) (n : ℕ) (v : Value) → isKind k n v ≡ isKind k n (seen (itemOf t v))
+kind-seen t String n Default = refl
+kind-seen t String n (Whole neg size) = refl
+kind-seen t String n (Real neg m eneg e double) = refl
+kind-seen t String n (Text start count) = refl
+kind-seen t RealKind n Default = refl
+kind-seen t RealKind n (Whole neg size) = refl
+kind-seen t RealKind n (Real neg m eneg e double) = refl
+kind-seen t RealKind n (Text start count) = refl
+kind-seen t Integer n Default = refl
+kind-seen t Integer n (Whole neg size) = refl
+kind-seen t Integer n (Real neg m eneg e double) = refl
+kind-seen t Integer n (Text start count) = refl
+
+pub fits-seen : (t : List ℕ) (n : ℕ) (v : Value) → globalFits n v ≡ globalFits n (seen (itemOf t v))
+unfolding globalFits
+fits-seen t n v = rw (kind-seen t (kindOf n) n v)

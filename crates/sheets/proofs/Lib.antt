@@ -15,3 +15,4 @@ pub mod Marks
 pub mod Bounds
 pub mod Limits
 pub mod Valued
+pub mod Each

@@ -8,7 +8,7 @@ use Rattle.values.specs.Value.{Item}
 use Rattle.sheets.specs.declared.Said.{Said}
 use Rattle.sheets.specs.declared.Said.the-variants.{Start, Global, Entry, Value as Given, Last, Nothing}
 use Rattle.sheets.specs.Reading.{NoValue}
-use Rattle.sheets.specs.Sheet.{Line, start, global, value, Row, Sheet, startLines, globalLines, valueLines, rowLines, linesOf, lineFrom}
+use Rattle.sheets.specs.Sheet.{Line, start, global, value, none, isMark, lastPiece, Row, Sheet, startLines, globalLines, valueLines, rowLines, linesOf, lineFrom}
 use Rattle.sheets_rows.specs.Rows.{onward, firstOf, past, behindOf, allOf, valueGiven, valuesFirst, typeGiven, typesIn}
 
 -- ---- lines of one kind
@@ -21,6 +21,12 @@ behind-none {A} gives (l ∷ ls) e = by (gives l) e
     by : (xs : List A) → onward xs (firstOf gives ls) ≡ [] → past xs (l ∷ ls) (behindOf gives ls) ≡ l ∷ ls
     by [] e = refl
     by (x ∷ xs) e = let z : _≡_ {A = ℕ} 0 1 = cc in absurd (omega arith)
+
+-- nor does a piece that no LF ends, which says nothing
+pub piece-gives-none : {A : Type 0} (gives : Line → List A) → ((b : Bool) → gives (none b) ≡ []) → (t : List ℕ) → firstOf gives (lastPiece t) ≡ []
+unfolding lastPiece
+piece-gives-none gives h [] = refl
+piece-gives-none gives h (b ∷ bs) = rw (h (isMark b))
 
 -- a line is made of each of a list, and others stand behind these
 pub record Lays {X : Type 0} (made : X → Line) (lay : List X → List Line → List Line) : Type 0 where

@@ -12,15 +12,10 @@ use Rattle.columns.specs.Columns.{columns}
 use Rattle.columns.specs.Refusal.{demand}
 use Rattle.columns.proofs.Columns.{columns-none, byte-of}
 use Rattle.columns.proofs.Tests.{cond-cases}
-use Rattle.values.specs.declared.Value.{Value}
-use Rattle.values.specs.declared.Value.the-variants.{Default, Whole, Real, Text}
 use Rattle.values.specs.declared.Strict.{Strict}
 use Rattle.values.specs.declared.Strict.the-variants.{Is, Not}
-use Rattle.values.specs.Value.{itemOf, seen}
 use Rattle.values.specs.Strict.{strictOf}
-use Rattle.records.specs.declared.GlobalKind.{GlobalKind}
-use Rattle.records.specs.declared.GlobalKind.the-variants.{String, Real as RealKind, Integer}
-use Rattle.records.specs.Global.{kindOf, isKind, globalFits}
+use Rattle.records.proofs.Globals.{fits-seen}
 use Rattle.sheets.specs.declared.Said.{Said}
 use Rattle.sheets.specs.declared.Said.the-variants.{Start, Global, Entry, Value as Given, Last, Nothing}
 use Rattle.sheets.specs.Plain.{plainOf, isPlain}
@@ -118,25 +113,6 @@ module _ {A : Type 0} (tell : Said → A) (same : (x : Said) → Quiet x → tel
       by false e = sym (same (saysOf l) (quiet-line l e))
 
 -- ---- 8; 9, 13
-
-fits-kind : (t : List ℕ) (k : GlobalKind) (n : ℕ) (v : Value) → isKind k n v ≡ isKind k n (seen (itemOf t v))
-fits-kind t String n Default = refl
-fits-kind t String n (Whole neg size) = refl
-fits-kind t String n (Real neg m eneg e double) = refl
-fits-kind t String n (Text start count) = refl
-fits-kind t RealKind n Default = refl
-fits-kind t RealKind n (Whole neg size) = refl
-fits-kind t RealKind n (Real neg m eneg e double) = refl
-fits-kind t RealKind n (Text start count) = refl
-fits-kind t Integer n Default = refl
-fits-kind t Integer n (Whole neg size) = refl
-fits-kind t Integer n (Real neg m eneg e double) = refl
-fits-kind t Integer n (Text start count) = refl
-
--- a field asks nothing of a string but that it is one
-fits-seen : (t : List ℕ) (n : ℕ) (v : Value) → globalFits n v ≡ globalFits n (seen (itemOf t v))
-unfolding globalFits
-fits-seen t n v = rw (fits-kind t (kindOf n) n v)
 
 said-rule : (place : ℕ) (l : List ℕ) (ls : List Line) (x : Said) → saidRule place x ≡ lineCheck globalRule rowRules place (lineFrom l x) ls
 said-rule place l ls Start = refl

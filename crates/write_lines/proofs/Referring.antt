@@ -6,14 +6,14 @@ use Prim.Native.Nat.{ℕ}
 use borrow.Author.Tests.{not-true, not-false}
 use Rattle.columns.specs.declared.Fault.the-variants.{Reference}
 use Rattle.columns.specs.declared.Signed.{Signed}
-use Rattle.references.specs.References.{classAt, fits}
+use Rattle.references.specs.References.{fits}
 use Rattle.directory.specs.declared.Fields.{Fields}
 use Rattle.directory.specs.declared.Entry.{Entry}
 use Rattle.directory.specs.declared.Wanted.{Wanted}
 use Rattle.directory.specs.Fields.{entryOf}
 use Rattle.directory.specs.Rules.{allFit, references, referenceRule}
 use Rattle.directory.specs.Asking.{asksOk}
-use Rattle.directory.proofs.Asked.{rest-all, rest-on, rest-no, rest-done}
+use Rattle.directory.proofs.Asked.{asks-nothing, asks-class, rest-all, rest-on, rest-no, rest-done}
 use Rattle.sheets.specs.declared.Said.{Said}
 use Rattle.sheets.specs.declared.Said.the-variants.{Entry as EntryLine}
 use Rattle.sheets.specs.Order.{sheetLine}
@@ -24,13 +24,6 @@ use Rattle.write_lines.proofs.Tables.{number-some}
 use Rattle.write_lines.proofs.Others.{references-other}
 
 -- ---- one reference
-
-module _ (types : List ℕ) (w : Wanted) where
-  pub asks-nothing : w .asked ≡ false → true ≡ asksOk types w
-  asks-nothing e = rw e
-
-  pub asks-class : w .asked ≡ true → (class : ℕ) (r : Bool) → class ≡ classAt types (w .number .0) → r ≡ fits (w .want) class → r ≡ asksOk types w
-  asks-class e class r ec er = rw (e, er, ec)
 
 -- where no type is asked for
 pub asks-some : (classes : List ℕ) (n : ℕ) (t : List ℕ) (w : Wanted) → Tabled classes n t → w .asked ≡ true → w .want ≡ 0 → (class : ℕ) (r : Bool) → class ≡ someAt n (w .number .0) → r ≡ fits (w .want) class

@@ -1,12 +1,16 @@
 -- What holds of each of a list, and what was asked of each.
-use mathlib.Core.Path.{_≡_, refl, ap₂}
+use mathlib.Core.Path.{_≡_, refl}
+use mathlib.Core.Bool.{Bool, true, false}
 use mathlib.Core.List.{List, [], _∷_, map}
 use Prim.Native.Nat.{ℕ, zero, suc, _+_, _≤_, _<_}
 use native.Mathlib.Omega.{arith}
+use Rattle.columns.specs.declared.Signed.{Signed}
 use Rattle.columns.specs.First.{upFrom}
+use Rattle.columns.specs.Fixed.{NormalSign}
 use Rattle.columns.specs.Refusal.{Outcome, accepted, eachAt}
-use Rattle.columns.proofs.Outcomes.{then-accepted}
-use Rattle.sheets.specs.WellFormed.{Each, none, one}
+use Rattle.columns.proofs.Stops.{Accepts, done, next, all-accepted}
+use Rattle.directory.specs.Reading.{Normals}
+use Rattle.sheets.specs.WellFormed.{Each, none, one, Proper}
 
 -- a weaker fact holds of each too
 pub each-also : {A : Type 0} {P Q : A → Type 0} → ((x : A) → P x → Q x) → {xs : List A} → Each P xs → Each Q xs
@@ -48,40 +52,45 @@ made-accepts takes f g h p (one {x} {xs} q qs) =
     (tt ∷ r .0, rw (h p x q, r .1))
 
 -- what was accepted as a whole, each was
+accepted-each : {A B : Type 0} {P : A → Type 0} {takes : A → ℕ} {f : ℕ → A → Outcome B} → ((p : ℕ) (x : A) (y : B) → f p x ≡ accepted y → P x)
+    → {p : ℕ} {xs : List A} {ys : List B} → Accepts takes f p xs ys → Each P xs
+accepted-each h done = none
+accepted-each h (next {p} {x} {xs} {y} e s) = one (h p x y e) (accepted-each h s)
+
 pub each-accepted : {A B : Type 0} {P : A → Type 0} (takes : A → ℕ) (f : ℕ → A → Outcome B) → ((p : ℕ) (x : A) (y : B) → f p x ≡ accepted y → P x)
     → (p : ℕ) (xs : List A) (ys : List B) → eachAt takes f p xs ≡ accepted ys → Each P xs
-unfolding eachAt
-each-accepted takes f h p [] ys e = none
-each-accepted takes f h p (x ∷ xs) ys e =
-    let b = then-accepted (f p x) _ ys e in
-    let d = then-accepted (eachAt takes f (p + takes x) xs) _ ys (b .second) in
-    one (h p x (b .value) (b .first)) (each-accepted takes f h (p + takes x) xs (d .value) (d .first))
+each-accepted takes f h p xs ys e = accepted-each h (all-accepted takes f p xs ys e)
+
+-- what is made of each holds something
+made-each : {A B : Type 0} {Q : B → Type 0} {takes : A → ℕ} {f : ℕ → A → Outcome B} → ((p : ℕ) (x : A) (y : B) → f p x ≡ accepted y → Q y)
+    → {p : ℕ} {xs : List A} {ys : List B} → Accepts takes f p xs ys → Each Q ys
+made-each h done = none
+made-each h (next {p} {x} {xs} {y} e s) = one (h p x y e) (made-each h s)
+
+pub each-makes : {A B : Type 0} {Q : B → Type 0} (takes : A → ℕ) (f : ℕ → A → Outcome B) → ((p : ℕ) (x : A) (y : B) → f p x ≡ accepted y → Q y)
+    → (p : ℕ) (xs : List A) (ys : List B) → eachAt takes f p xs ≡ accepted ys → Each Q ys
+each-makes takes f h p xs ys e = made-each h (all-accepted takes f p xs ys e)
 
 -- what is known of each before holds of what was made of it
+made-from : {A B : Type 0} {P : A → Type 0} {Q : B → Type 0} {takes : A → ℕ} {f : ℕ → A → Outcome B} → ((p : ℕ) (x : A) (y : B) → P x → f p x ≡ accepted y → Q y)
+    → {p : ℕ} {xs : List A} {ys : List B} → Each P xs → Accepts takes f p xs ys → Each Q ys
+made-from h none done = none
+made-from h (one q qs) (next {p} {x} {xs} {y} e s) = one (h p x y q e) (made-from h qs s)
+
 pub each-from : {A B : Type 0} {P : A → Type 0} {Q : B → Type 0} (takes : A → ℕ) (f : ℕ → A → Outcome B) → ((p : ℕ) (x : A) (y : B) → P x → f p x ≡ accepted y → Q y)
     → (p : ℕ) {xs : List A} → Each P xs → (ys : List B) → eachAt takes f p xs ≡ accepted ys → Each Q ys
-unfolding eachAt
-each-from {Q = Q} takes f h p none ys e =
-    let z : [] ≡ ys = cc in
-    rw (← z) none
-each-from {Q = Q} takes f h p (one {x} {xs} q qs) ys e =
-    let b = then-accepted (f p x) _ ys e in
-    let d = then-accepted (eachAt takes f (p + takes x) xs) _ ys (b .second) in
-    let s = d .second in
-    let z : b .value ∷ d .value ≡ ys = cc in
-    rw (← z) (one (h p x (b .value) q (b .first)) (each-from takes f h (p + takes x) qs (d .value) (d .first)))
+each-from takes f h p {xs} qs ys e = made-from h qs (all-accepted takes f p xs ys e)
 
--- what is made keeps what it was made of
-pub each-keeps : {A B C D : Type 0} (takes : A → ℕ) (f : ℕ → A → Outcome B) (old : A → D) (mid : B → C) (new : C → D)
-    → ((p : ℕ) (x : A) (y : B) → f p x ≡ accepted y → new (mid y) ≡ old x)
-    → (p : ℕ) (xs : List A) (ys : List B) → eachAt takes f p xs ≡ accepted ys → map new (map mid ys) ≡ map old xs
-unfolding eachAt
-each-keeps takes f old mid new h p [] ys e =
-    let z : [] ≡ ys = cc in
-    rw (← z)
-each-keeps {D = D} takes f old mid new h p (x ∷ xs) ys e =
-    let b = then-accepted (f p x) _ ys e in
-    let d = then-accepted (eachAt takes f (p + takes x) xs) _ ys (b .second) in
-    let s = d .second in
-    let z : b .value ∷ d .value ≡ ys = cc in
-    rw (← z) (ap₂ (λ (u : D) (us : List D). u ∷ us) (h p x (b .value) (b .first)) (each-keeps takes f old mid new h (p + takes x) xs (d .value) (d .first)))
+-- ---- numbers of an entry
+
+-- none of them is a nought with a sign
+normal : (x : Signed) → Proper x → NormalSign x
+normal x p z = pick (x .neg) refl
+  where
+    pick : (b : Bool) → x .neg ≡ b → b ≡ false
+    pick true e = absurd (p .minus e z)
+    pick false e = refl
+
+pub normals : {xs : List Signed} → Each Proper xs → Normals xs
+normals none = tt
+normals (one {x} p ps) = (normal x p, normals ps)
