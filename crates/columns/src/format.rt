@@ -30,3 +30,6 @@ pub const MOST_LIST: u64 = 16383;
 
 // The size of an integer.
 pub const MOST_INTEGER: u32 = 2147483647;
+
+// The same where a larger number is compared with it.
+pub const MOST_INTEGER_WIDE: u64 = MOST_INTEGER as u64;

@@ -2,7 +2,7 @@
 use columns::Signed;
 use columns::byte_u32;
 use columns::byte_u64;
-use columns::format::MOST_INTEGER;
+use columns::format::MOST_INTEGER_WIDE;
 ghost use mathlib.Core.Path.{_≡_};
 ghost use mathlib.Core.Bool.{true, false};
 ghost use Prim.Native.Nat.{_+_, _-_, _≤_, _<_};
@@ -12,9 +12,7 @@ ghost use Rattle.columns.specs.Letters.{tab};
 ghost use Rattle.sheets.specs.Line.{run};
 ghost use Rattle.sheets.specs.Folds.{unread, digitAfter, sizeFrom, minusOf, signedFold, statusFrom, entryFold};
 
-// The largest number. Past it one number says that the text is misspelt, and one that nothing was read yet.
-pub const MOST: u64 = MOST_INTEGER as u64;
-
+// Past the largest number one says that the text is misspelt, and one that nothing was read yet.
 const MISSPELT: u64 = 2147483648;
 
 pub const UNREAD: u64 = 2147483649;
@@ -44,7 +42,7 @@ fn add_digit(n: u64, b: u8) -> u64
         return MISSPELT;
     }
     let m = n * 10 + byte_u64(b - b'0');
-    if MOST < m {
+    if MOST_INTEGER_WIDE < m {
         return MISSPELT;
     }
     m

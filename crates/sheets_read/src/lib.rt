@@ -1,6 +1,8 @@
 // Sheets in: where a line ends and what it says.
 use columns::Signed;
 use columns::format::FIELD_COLUMNS;
+use columns::format::MOST_INTEGER;
+use columns::format::MOST_INTEGER_WIDE;
 use columns::format::TEXT_COLUMNS;
 use columns::look;
 use directory::Fields;
@@ -75,7 +77,7 @@ fn numbers(s: &[u8], at: usize, end: usize, known: bool) -> EntryLine
             return EntryLine::Wrong;
         }
         let x = f.number;
-        if x.size > sheets_numbers::MOST as u32 {
+        if x.size > MOST_INTEGER {
             return EntryLine::Wrong;
         }
         xs[k] = x;
@@ -223,7 +225,7 @@ fn last_line(s: &[u8], at: usize, end: usize) -> Said
     ensures { λ r. ⌜ r ≡ lastLine (columns (now (s .entry)) at end) ⌝ }
 {
     let n = sheets_numbers::size_at(s, sheets_numbers::UNREAD, at, end);
-    if sheets_numbers::MOST < n {
+    if MOST_INTEGER_WIDE < n {
         return Said::Nothing(false);
     }
     Said::Last(n as usize)

@@ -1,5 +1,5 @@
 // The number that digits, a point and an exponent make, within its limits.
-use columns::format::MOST_INTEGER;
+use columns::format::MOST_INTEGER_WIDE;
 use values::Number;
 use values::Power;
 use values::Run;
@@ -10,14 +10,11 @@ ghost use Prim.Native.Nat.{_+_, _-_, _^_, _≤_, _<_};
 ghost use Rattle.values.specs.Number.{wholeOf, normal};
 ghost use Rattle.values.specs.Reading.{finishRun};
 
-// The size of an integer.
-const MOST: u64 = MOST_INTEGER as u64;
-
 // An integer within its limit.
 fn whole_of(neg: bool, v: u64, end: usize) -> Token
     ensures { λ r. ⌜ r ≡ wholeOf neg v end ⌝ }
 {
-    if MOST < v {
+    if MOST_INTEGER_WIDE < v {
         return Token {
             number: Number::Beyond,
             len: end,

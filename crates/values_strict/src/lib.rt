@@ -1,6 +1,6 @@
 // A value's one spelling read back, and no other: straight from the text, by what stands behind its sign and its digits.
 use columns::byte_u64;
-use columns::format::MOST_INTEGER;
+use columns::format::MOST_INTEGER_WIDE;
 use columns::look;
 use values::Decimal;
 use values::Strict;
@@ -16,9 +16,6 @@ ghost use Rattle.values.specs.declared.Strict.the-variants.{Is};
 ghost use Rattle.values.specs.Strict.{strictOf, meant};
 ghost use Rattle.values.specs.Writing.{front, Placed};
 ghost use Rattle.values.specs.Direct.{decimal, isWhole, isNought, isNormal, asWhole, asReal, behindLetter, behindPoint, behindCount};
-
-// The size of an integer.
-const MOST: u64 = MOST_INTEGER as u64;
 
 // Where digits are read to: a number has seventeen at most, and the text ends at n.
 fn stop_of(n: usize, at: usize) -> usize
@@ -72,7 +69,7 @@ fn minus_len(neg: bool) -> usize
 fn is_whole(neg: bool, size: u64) -> bool
     ensures { λ r. ⌜ r ≡ isWhole neg size ⌝ }
 {
-    if MOST < size {
+    if MOST_INTEGER_WIDE < size {
         return false;
     }
     if neg {

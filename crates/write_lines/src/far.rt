@@ -9,8 +9,8 @@
 use crate::table::PARTS;
 use columns::DirectoryNumber;
 use columns::byte_u32;
+use columns::format::MOST_INTEGER_WIDE;
 use references::NO_ENTRY;
-use sheets_numbers::MOST;
 use sheets_numbers::UNREAD;
 use sheets_numbers::find;
 use sheets_numbers::size_at;
@@ -278,7 +278,7 @@ fn class_typed(t: &[u8], at: usize) -> u8
 {
     let tab = find(t, b'\t', at, t.len());
     let typ = size_at(t, UNREAD, at, tab);
-    if MOST < typ {
+    if MOST_INTEGER_WIDE < typ {
         return NO_ENTRY;
     }
     references::class_of(typ as u32)

@@ -35,7 +35,6 @@ numbers-spec =
     (λ c. search (needs, rows))
     (λ c. search (needs, rows))
     (λ c. search (needs, rows))
-    (λ c. search (needs, rows))
     (λ c κs. search (needs, rows))
     (λ c κs. search (needs, rows))
     (λ c. search (needs, rows))
