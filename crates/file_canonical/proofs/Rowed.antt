@@ -21,7 +21,7 @@ use Rattle.sheets.specs.Line.{run, entryOf}
 use Rattle.sheets.specs.Sheet.{linesIn}
 use Rattle.model.specs.Model.{Carried}
 use Rattle.model.specs.Canonical.{parameterText, blockOf, parameterLines}
-use Rattle.file_blocks.specs.Blocks.{behindValues, firstBegins, recordText, blockLines}
+use Rattle.file_blocks.specs.Blocks.{behindValues, firstBegins, recordText, blockLines, BlockHasRoom}
 use Rattle.file_canonical.specs.declared.EntryPlace.{EntryPlace}
 use Rattle.file_canonical.specs.Laying.{carried, entriesIn, entriesAt, numberOf, directoryBytes, parameterBytes, Owing, OwingAt, bothLaid, Turn, Turned, valuesBehind, blockCount, labelBefore, EntryHasRoom, EntryLaid}
 use Rattle.file_canonical.proofs.Totals.{block-lines}
@@ -76,17 +76,23 @@ module _ (t : List ℕ) (x : EntryPlace) (k e : ℕ) (f : Fields) (u : Turn t x 
   row-few : x .from .0 + blockCount t e (f .entity .size) ≤ 9999999
   row-few = omega (arith, u .few, lines-are)
 
+  row-number : 2 * k + 2 ≤ 9999999
+  row-number = omega (arith, u .numbers, ap length (s .entries))
+
   pub row-fits : EntryHasRoom t x k e (f .entity .size)
   row-fits = record {
-    low = omega (arith, s .low);
-    high = s .high;
-    small = s .small;
+    label = omega (arith, s .low);
     d = omega (arith, u .apart, u .room);
-    p = omega (arith, u .room);
-    few = row-few;
-    room = block-room (x .from .0) (recordText (f .entity .size) (valuesBehind t e)) row-few;
-    unbroken = ap firstBegins (s .behind) ∙ rows-begin (k + 1) (s .rest);
-    number = omega (arith, u .numbers, ap length (s .entries));
+    number = row-number;
+    block = record {
+      inside = omega (arith, s .high);
+      low = omega (arith, u .room);
+      small = s .small;
+      room = block-room (x .from .0) (recordText (f .entity .size) (valuesBehind t e)) row-few;
+      numbered = omega (arith, row-number);
+      few = row-few;
+      unbroken = ap firstBegins (s .behind) ∙ rows-begin (k + 1) (s .rest);
+    };
   }
 
   module _ (o o′ : List ℕ) (y : EntryPlace) (w : EntryLaid o t x k e f o′ y) where
@@ -94,7 +100,7 @@ module _ (t : List ℕ) (x : EntryPlace) (k e : ℕ) (f : Fields) (u : Turn t x 
     same = ap entriesIn (w .lines)
 
     owed : Owing (bothLaid o t x k) o′ (y .d) (directoryBytes (k + 1) (x .from .0 + blockCount t e (f .entity .size)) later) (x .p + 81 * blockCount t e (f .entity .size)) (parameterBytes (k + 1) (x .from .0 + blockCount t e (f .entity .size)) later)
-    owed = rw (s .entries, ← count-is) (laid-first o o′ k (x .from .0) (x .d) (x .p) (y .d) here later (rw (s .entries) at (u .apart)) (omega (arith, row-fits .number)) (rw count-is (row-fits .few)) (rw (count-is, block-same (numberOf k) f (labelBefore t e) (valuesBehind t e)) (w .wrote)))
+    owed = rw (s .entries, ← count-is) (laid-first o o′ k (x .from .0) (x .d) (x .p) (y .d) here later (rw (s .entries) at (u .apart)) (omega (arith, row-number)) (rw count-is row-few) (rw (count-is, block-same (numberOf k) f (labelBefore t e) (valuesBehind t e)) (w .wrote)))
 
     owed-there : OwingAt (bothLaid o t x k) o′ t y (k + 1)
     owed-there = rw (same, w .from, w .p) owed
@@ -129,17 +135,17 @@ pub entry-laid : {o o1 o2 : List ℕ} {next lines d number : ℕ} (t : List ℕ)
 entry-laid t x k end f n b c l i w = record { wrote = rw (← n, ← c, ← b) w; p = rw c; from = rw c; lines = l; inside = i }
 
 pub count-few : {lines : ℕ} (t : List ℕ) (x : EntryPlace) (k end typ : ℕ) → EntryHasRoom t x k end typ → lines ≡ blockCount t end typ → x .from .0 + lines ≤ 9999999
-count-few t x k end typ f e = omega (arith, f .few)
+count-few t x k end typ f e = omega (arith, f .block .few)
 
 -- its directory number has room in its columns, and so has the one behind it
 module _ {number : ℕ} (t : List ℕ) (x : EntryPlace) (k end typ : ℕ) (f : EntryHasRoom t x k end typ) (e : number ≡ numberOf k) where
-  pub number-few : number ≤ 9999999
-  number-few = omega (arith, f .number)
+  pub block-fits : BlockHasRoom t (end + 1) (x .p) typ number (x .from .0)
+  block-fits = rw e (f .block)
 
   pub number-next : number + 1 ≤ 9999999
   number-next = omega (arith, f .number)
 
-pub ruleset entering = (entry-laid, count-few, number-few, number-next, wrote-length, length-laid)
+pub ruleset entering = (entry-laid, count-few, block-fits, number-next, wrote-length, length-laid)
 
 module _ (t : List ℕ) (x : EntryPlace) (k e : ℕ) (u : Turn t x k) (some : 0 < length (entriesAt t (x .at))) (en : e ≡ x .at + run 10 (drop (x .at) t)) (lo : x .at ≤ e) (hi : e ≤ length t) {y : EntryLine} (p : y ≡ entryOf (columns t (x .at) e)) where
   module _ {known : Bool} {n : Signed} {f : Fields} (g : y ≡ Got known n f) where

@@ -8,7 +8,7 @@ use lib.ListN.{length, take, drop}
 use Rattle.columns.specs.Columns.{joined}
 use Rattle.columns.specs.Decimal.{toLeft}
 use Rattle.columns.specs.Laid.{laid, Wrote}
-use Rattle.columns.specs.Format.{lineBytes, textColumns, parameterColumns, fieldColumns, mostLines, mostInteger}
+use Rattle.columns.specs.Format.{lineBytes, textColumns, parameterColumns, fieldColumns, mostLines}
 use Rattle.columns.specs.Letters.{letterD, letterP, letterS, letterT}
 use Rattle.values.specs.Value.{Item}
 use Rattle.records.specs.Flow.{lineCount}
@@ -22,7 +22,7 @@ use Rattle.sheets.specs.Sheet.{Line, start, global, entry, value, last, none, R
 use Rattle.sheets_rows.specs.Rows.{linesAt, firstOf, behindOf, allOf}
 use Rattle.model.specs.Model.{Carried}
 use Rattle.model.specs.Canonical.{globalText, directoryLines, parameterLines}
-use Rattle.file_blocks.specs.Blocks.{behindValues, Unbroken, itemsFirst, itemsAt, globalsFirst, behindGlobals}
+use Rattle.file_blocks.specs.Blocks.{behindValues, BlockHasRoom, itemsFirst, itemsAt, globalsFirst, behindGlobals}
 use Rattle.file_blocks.specs.Blocks.{globalBytes, recordText, blockLines}
 use Rattle.file_canonical.specs.declared.EntryPlace.{EntryPlace}
 
@@ -139,15 +139,10 @@ labelBefore t end = take (end - (end - fieldColumns)) (drop (end - fieldColumns)
 
 -- its line is whole, and its D and P lines have room where they come
 pub record EntryHasRoom (t : List ℕ) (x : EntryPlace) (k end typ : ℕ) : Type 0 where
-  pub low : fieldColumns ≤ end
-  pub high : end < length t
-  pub small : typ ≤ mostInteger
+  pub label : fieldColumns ≤ end
   pub d : x .d ≤ 2 ^ 36
-  pub p : x .p ≤ 2 ^ 36
-  pub few : x .from .0 + blockCount t end typ ≤ 9999999
-  pub room : length (recordText typ (valuesBehind t end)) ≤ 2 ^ 36
-  pub unbroken : Unbroken (linesAt t (end + 1))
   pub number : 2 * k + 2 ≤ 9999999
+  pub block : BlockHasRoom t (end + 1) (x .p) typ (numberOf k) (x .from .0)
 
 -- they are laid, and y is where the next entry stands
 pub record EntryLaid (o t : List ℕ) (x : EntryPlace) (k end : ℕ) (f : Fields) (o′ : List ℕ) (y : EntryPlace) : Type 0 where
