@@ -1,8 +1,8 @@
 -- What reading accepted, taken apart: each of its steps was accepted. Assumes nothing.
 use mathlib.Core.Path.{_≡_, refl, _∙_}
 use mathlib.Core.Bool.{true, false}
-use mathlib.Core.List.{List, [], _∷_, map}
-use Prim.Native.Nat.{ℕ, _+_, _≤_}
+use mathlib.Core.List.{List, []}
+use Prim.Native.Nat.{ℕ, _≤_}
 use native.Mathlib.Omega.{arith}
 use lib.ListN.{length, getD, drop}
 use lib.Dec.{leb, eqb}
@@ -10,7 +10,7 @@ use borrow.Author.Tests.{leb-true, eqb-true}
 use Rattle.columns.specs.declared.Fault.the-variants.{ListOrLength, Global, FirstValue}
 use Rattle.columns.specs.declared.ParameterLine.{ParameterLine}
 use Rattle.columns.specs.First.{firstNot}
-use Rattle.columns.specs.Refusal.{Outcome, accepted, demand, eachAt, _then_}
+use Rattle.columns.specs.Refusal.{accepted, demand, _then_}
 use Rattle.columns.specs.Format.{mostList}
 use Rattle.columns.proofs.Outcomes.{then-accepted, demand-accepted}
 use Rattle.values.specs.Value.{Item, default}

@@ -1,15 +1,15 @@
 -- The types read off the D lines are those of the entries that reading lists. Assumes nothing.
-use mathlib.Core.Path.{_≡_, refl, sym, ap, ap₂, _∙_}
+use mathlib.Core.Path.{_≡_, refl, sym, ap, _∙_}
 use mathlib.Core.Bool.{Bool, true, false, cond, _&&_}
-use mathlib.Core.List.{List, [], _∷_, map, map-map}
-use Prim.Native.Nat.{ℕ, suc, _+_, _*_}
+use mathlib.Core.List.{List, _∷_, map, map-map}
+use Prim.Native.Nat.{ℕ, suc, _+_}
 use native.Mathlib.Omega.{arith}
 use Rattle.columns.specs.declared.SignedField.{SignedField}
 use Rattle.columns.specs.declared.SignedField.the-variants.{Number, Bad}
 use Rattle.columns.specs.declared.ParameterLine.{ParameterLine}
 use Rattle.columns.specs.First.{upFrom}
 use Rattle.columns.specs.Fixed.{signedOf}
-use Rattle.columns.specs.Refusal.{accepted, eachAt, _then_}
+use Rattle.columns.specs.Refusal.{accepted}
 use Rattle.columns.proofs.Stops.{each-alike}
 use Rattle.cards.specs.declared.Counts.{Counts}
 use Rattle.cards.specs.Cards.{firstD, entries, entryLine}
@@ -17,7 +17,7 @@ use Rattle.directory.specs.declared.Fields.{Fields}
 use Rattle.directory.specs.declared.EntryRead.the-variants.{Spelt, Wrong}
 use Rattle.directory.specs.Fields.{typeAt, fieldsOf}
 use Rattle.directory.specs.Lines.{number, again, pointer, lines, slotIn, numberIn, Numbers, numbers, misspelt, with, numbersFrom, isSame, positive, parameterLine, sizeOf, spelt, entryAt}
-use Rattle.directory.specs.Naming.{typeOn, typeOfEntry, typesAt}
+use Rattle.directory.specs.Naming.{typeOn, typesAt}
 use Rattle.model.specs.Model.{typeOf}
 use Rattle.model.specs.Read.{Listed, entryIn, two, firstEntry, entriesIn, listedType}
 use Rattle.model.proofs.ReadApart.{entry-apart}

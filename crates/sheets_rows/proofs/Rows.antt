@@ -22,7 +22,7 @@ behind-none {A} gives (l ∷ ls) e = by (gives l) e
     by [] e = refl
     by (x ∷ xs) e = let z : _≡_ {A = ℕ} 0 1 = cc in absurd (omega arith)
 
--- nor does a piece that no LF ends, which says nothing
+-- a piece that no LF ends gives nothing
 pub piece-gives-none : {A : Type 0} (gives : Line → List A) → ((b : Bool) → gives (none b) ≡ []) → (t : List ℕ) → firstOf gives (lastPiece t) ≡ []
 unfolding lastPiece
 piece-gives-none gives h [] = refl
