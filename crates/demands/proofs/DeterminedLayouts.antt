@@ -24,8 +24,8 @@ use Rattle.layouts_rows.proofs.rests_in.Kinds as layoutrows-rests-in-kinds
 use Rattle.layouts_rows.proofs.rests_in.Reads as layoutrows-rests-in-reads
 use Rattle.layouts_takes.proofs.takes_in.Kinds as takes-takes-in-kinds
 use Rattle.layouts_takes.proofs.takes_in.Reads as takes-takes-in-reads
-use Rattle.layouts_rows.proofs.told.real_in.Kinds as layoutrows-told-real-in-kinds
-use Rattle.layouts_rows.proofs.told.real_in.Reads as layoutrows-told-real-in-reads
+use Rattle.layouts_rows.proofs.told.numeric_in.Kinds as layoutrows-told-numeric-in-kinds
+use Rattle.layouts_rows.proofs.told.numeric_in.Reads as layoutrows-told-numeric-in-reads
 use Rattle.layouts_rows.proofs.told.above_in.Kinds as layoutrows-told-above-in-kinds
 use Rattle.layouts_rows.proofs.told.above_in.Reads as layoutrows-told-above-in-reads
 use Rattle.layouts_rows.proofs.told.text_in.Kinds as layoutrows-told-text-in-kinds
@@ -83,8 +83,8 @@ takes-takes-in κs a z z′ left left′ p q = (once p q, refl)
 
 -- ---- layouts_rows::told
 
-pub layoutrows-told-real-in : NoSecond layoutrows-told-real-in-kinds.ps layoutrows-told-real-in-kinds.r layoutrows-told-real-in-reads.Post
-layoutrows-told-real-in κs a z z′ left left′ p q = (once p q, refl)
+pub layoutrows-told-numeric-in : NoSecond layoutrows-told-numeric-in-kinds.ps layoutrows-told-numeric-in-kinds.r layoutrows-told-numeric-in-reads.Post
+layoutrows-told-numeric-in κs a z z′ left left′ p q = (once p q, refl)
 
 pub layoutrows-told-above-in : NoSecond layoutrows-told-above-in-kinds.ps layoutrows-told-above-in-kinds.r layoutrows-told-above-in-reads.Post
 layoutrows-told-above-in κs a z z′ left left′ p q = (once p q, refl)

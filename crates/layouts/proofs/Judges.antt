@@ -22,7 +22,7 @@ use Rattle.references.specs.References.{fits}
 use Rattle.layouts.specs.Named.{named}
 use Rattle.layouts.specs.Layout.{_of_}
 use Rattle.layouts.specs.Table.{placeAt}
-use Rattle.layouts.specs.Tests.{integer, real, above, text, within}
+use Rattle.layouts.specs.Tests.{integer, numeric, above, text, within}
 use Rattle.layouts.specs.Machine.{need, refer, takes, rests, refers, kindAt, moved, step, closed, after, finish, end, follow, enter, beyond, ifEmpty, settle, onward}
 use Rattle.layouts.specs.Entities.{everywhere, referencePlaces}
 use Rattle.layouts.specs.Walk.{run, verdictFrom, marksFrom}
@@ -85,8 +85,8 @@ module _ (types : List ℕ) where
     takes-is : (k : Kind) (v : Value) → takes k (standing i n c b) v (named types v)
         ≡ need (suits (ask k c) v) (standing i n (counted k v c) (b || not (refersWell types (ask k c) v)))
     unfolding takes
-    takes-is R v = plain (real v || isMissing v) c
-    takes-is Given v = plain (real v) c
+    takes-is R v = plain (numeric v || isMissing v) c
+    takes-is Given v = plain (numeric v) c
     takes-is Weight v = plain (above v) c
     takes-is S v = plain (text v || isMissing v) c
     takes-is (I low high) v = plain (within false low high v) c

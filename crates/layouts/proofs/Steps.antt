@@ -20,7 +20,7 @@ use Rattle.layouts.specs.declared.LayoutVerdict.{LayoutVerdict}
 use Rattle.layouts.specs.declared.LayoutVerdict.the-variants.{Layout}
 use Rattle.layouts.specs.Layout.{mostUpper, paper, bitOf}
 use Rattle.layouts.specs.Table.{placeAt, starts, startOf}
-use Rattle.layouts.specs.Machine.{fresh, start, real, above, text, need, refer, takes, settle, onward, rests, moved, step, closed, after, finish, end, within, size, withK1, withK2, withM1, withM2, withBad, stand, follow, enter, beyond, reals, kindAt, runsOn}
+use Rattle.layouts.specs.Machine.{fresh, start, numeric, above, text, need, refer, takes, settle, onward, rests, moved, step, closed, after, finish, end, within, size, withK1, withK2, withM1, withM2, withBad, stand, follow, enter, beyond, reals, kindAt, runsOn}
 use Rattle.references.specs.References.{fits}
 use Rattle.layouts.specs.declared.Then.{Then}
 use Rattle.layouts.specs.declared.Then.the-variants.{Next}
@@ -45,8 +45,8 @@ refer-at free want s (Text start count) class = refl
 
 takes-at : (k : Kind) (s : LayoutState) (v : Value) (class : ℕ) → place (takes k s v class) (s .at) ≡ s .at
 unfolding takes
-takes-at R s v class = need-at (real v || isMissing v) s
-takes-at Given s v class = need-at (real v) s
+takes-at R s v class = need-at (numeric v || isMissing v) s
+takes-at Given s v class = need-at (numeric v) s
 takes-at Weight s v class = need-at (above v) s
 takes-at S s v class = need-at (text v || isMissing v) s
 takes-at (I low high) s v class = need-at (within false low high v) s
@@ -99,27 +99,27 @@ pub ruleset steps = (room-here, step-bad, step-rest, step-go)
 
 -- ---- a run goes on
 
-runs-parts : (s : LayoutState) (v : Value) → runsOn s v ≡ true → (1 < s .left) × ((reals (kindAt s) ≡ true) × (real v ≡ true))
+runs-parts : (s : LayoutState) (v : Value) → runsOn s v ≡ true → (1 < s .left) × ((reals (kindAt s) ≡ true) × (numeric v ≡ true))
 unfolding runsOn
 runs-parts s v e =
-    let p = and-both (ltb 1 (s .left)) (reals (kindAt s) && real v) e in
-    (ltb-true 1 (s .left) (p .0), and-both (reals (kindAt s)) (real v) (p .1))
+    let p = and-both (ltb 1 (s .left)) (reals (kindAt s) && numeric v) e in
+    (ltb-true 1 (s .left) (p .0), and-both (reals (kindAt s)) (numeric v) (p .1))
 
 pub runs-few : (s : LayoutState) (v : Value) → s .left ≤ 1 → false ≡ runsOn s v
 unfolding runsOn
 runs-few s v h = simp (le-ltb 1 (s .left) h)
 
-pub runs-real : (s : LayoutState) (v : Value) (b r : Bool) → 1 < s .left → b ≡ reals (placeAt (s .at) .kind) → b ≡ true → r ≡ real v → r ≡ runsOn s v
+pub runs-real : (s : LayoutState) (v : Value) (b r : Bool) → 1 < s .left → b ≡ reals (placeAt (s .at) .kind) → b ≡ true → r ≡ numeric v → r ≡ runsOn s v
 unfolding runsOn
-runs-real s v b r h e t q = q ∙ sym (ap₂ (λ (x y : Bool). x && (y && real v)) (lt-ltb 1 (s .left) h) (sym e ∙ t))
+runs-real s v b r h e t q = q ∙ sym (ap₂ (λ (x y : Bool). x && (y && numeric v)) (lt-ltb 1 (s .left) h) (sym e ∙ t))
 
 pub runs-other : (s : LayoutState) (v : Value) (b : Bool) → 1 < s .left → b ≡ reals (placeAt (s .at) .kind) → b ≡ false → false ≡ runsOn s v
 unfolding runsOn
-runs-other s v b h e t = sym (ap₂ (λ (x y : Bool). x && (y && real v)) (lt-ltb 1 (s .left) h) (sym e ∙ t))
+runs-other s v b h e t = sym (ap₂ (λ (x y : Bool). x && (y && numeric v)) (lt-ltb 1 (s .left) h) (sym e ∙ t))
 
 pub ruleset running = (runs-few, runs-real, runs-other)
 
-reals-take : (k : Kind) (s : LayoutState) (v : Value) (class : ℕ) → reals k ≡ true → real v ≡ true → moved (rests k) (takes k s v class) ≡ Go (onward s)
+reals-take : (k : Kind) (s : LayoutState) (v : Value) (class : ℕ) → reals k ≡ true → numeric v ≡ true → moved (rests k) (takes k s v class) ≡ Go (onward s)
 unfolding takes
 reals-take R s v class e r = ap (λ (b : Bool). moved false (need (b || isMissing v) s)) r
 reals-take Given s v class e r = ap (λ (b : Bool). moved false (need b s)) r
@@ -184,8 +184,8 @@ refer-last free want s (Text start count) class = refl
 
 takes-last : (k : Kind) (s : LayoutState) (v : Value) (class : ℕ) → moved false (takes k (stand s (s .at) 1) v class) ≡ passed (takes k s v class)
 unfolding takes
-takes-last R s v class = need-last (real v || isMissing v) s
-takes-last Given s v class = need-last (real v) s
+takes-last R s v class = need-last (numeric v || isMissing v) s
+takes-last Given s v class = need-last (numeric v) s
 takes-last Weight s v class = need-last (above v) s
 takes-last S s v class = need-last (text v || isMissing v) s
 takes-last (I low high) s v class = need-last (within false low high v) s

@@ -28,6 +28,12 @@ above-neg v neg m eneg e double p q = rw (p, q)
 pub above-pos : (v : Value) (neg : Bool) (m : ℕ) (eneg : Bool) (e : ℕ) (double : Bool) → v ≡ Real neg m eneg e double → neg ≡ false → ltb 0 m ≡ above v
 above-pos v neg m eneg e double p q = rw (p, q)
 
+pub above-minus : (v : Value) (neg : Bool) (n : ℕ) → v ≡ Whole neg n → neg ≡ true → false ≡ above v
+above-minus v neg n p q = rw (p, q)
+
+pub above-whole : (v : Value) (neg : Bool) (n : ℕ) → v ≡ Whole neg n → neg ≡ false → ltb 0 n ≡ above v
+above-whole v neg n p q = rw (p, q)
+
 pub within-none : (given : Bool) (low high : ℕ) (v : Value) → v ≡ Default → given ≡ false → eqb low 0 ≡ within given low high v
 within-none given low high v p q = rw (p, q)
 
@@ -37,7 +43,7 @@ within-high given low high v neg n p q h = rw (p, q) (simp (le-leb low n h))
 pub within-low : (given : Bool) (low high : ℕ) (v : Value) (neg : Bool) (n : ℕ) → v ≡ Whole neg n → neg ≡ false → n < low → false ≡ within given low high v
 within-low given low high v neg n p q h = rw (p, q) (simp (lt-leb low n h))
 
-pub ruleset values = (above-neg, above-pos, within-none, within-high, within-low)
+pub ruleset values = (above-neg, above-pos, above-minus, above-whole, within-none, within-high, within-low)
 
 pub need-go : (b : Bool) (s : LayoutState) → b ≡ true → Go s ≡ need b s
 need-go b s e = rw e

@@ -18,13 +18,13 @@ use Rattle.values.specs.Value.{Item, default, seen, isMissing}
 use Rattle.references.specs.References.{fits}
 use Rattle.layouts.specs.Named.{named}
 use Rattle.layouts.specs.Layout.{Row, mostUpper, paper, groups, bitOf}
-use Rattle.layouts.specs.Tests.{real, above, text, within, size, integer}
+use Rattle.layouts.specs.Tests.{numeric, above, text, within, size, integer}
 use Rattle.layouts.specs.Entity.{Entity}
 
 -- ---- what one place asks
 
 pub data Ask : Type 0 where
-  -- r: a real, a default is zero; one that must be given; one above zero that must be given
+  -- r: a real or an integer, a default is zero; one that must be given; one above zero that must be given
   aReal aGivenReal aWeight : Ask
   -- s: a string, or missing
   aString : Ask
@@ -37,8 +37,8 @@ pub data Ask : Type 0 where
 
 -- a value of the kind and in the range that is asked: what fails here is 14
 abbrev pub suits : Ask → Value → Bool
-suits aReal v = real v || isMissing v
-suits aGivenReal v = real v
+suits aReal v = numeric v || isMissing v
+suits aGivenReal v = numeric v
 suits aWeight v = above v
 suits aString v = text v || isMissing v
 suits (anInteger given low high) v = within given low high v

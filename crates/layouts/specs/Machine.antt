@@ -19,7 +19,7 @@ use Rattle.layouts.specs.declared.Stepped.the-variants.{Go, Bad}
 use Rattle.layouts.specs.declared.LayoutVerdict.{LayoutVerdict}
 use Rattle.layouts.specs.declared.LayoutVerdict.the-variants.{Good, Layout, LayoutReference}
 use Rattle.references.specs.References.{noEntry, fits}
-pub use Rattle.layouts.specs.Tests.{real, above, text, within, size}
+pub use Rattle.layouts.specs.Tests.{numeric, above, text, within, size}
 use Rattle.layouts.specs.Layout.{mostUpper, bitOf}
 use Rattle.layouts.specs.Table.{placeAt, startOf}
 
@@ -102,8 +102,8 @@ refer free want s (Text start count) class = Bad
 
 -- what the place of a kind makes of a value; class is that of the entry that it names
 unfoldable pub takes : Kind → LayoutState → Value → ℕ → Stepped
-takes R s v class = need (real v || isMissing v) s
-takes Given s v class = need (real v) s
+takes R s v class = need (numeric v || isMissing v) s
+takes Given s v class = need (numeric v) s
 takes Weight s v class = need (above v) s
 takes S s v class = need (text v || isMissing v) s
 takes (I low high) s v class = need (within false low high v) s
@@ -157,7 +157,7 @@ refers (Q want) = true
 refers (Bound want) = true
 refers Rest = false
 
--- a place that takes reals as they come
+-- a place that takes numbers as they come
 abbrev pub reals : Kind → Bool
 reals R = true
 reals Given = true
@@ -193,9 +193,9 @@ start typ form = enter (stand fresh (startOf (bitOf typ form)) 0)
 unfoldable pub step : LayoutState → Value → ℕ → Stepped
 step s v class = moved (rests (kindAt s)) (takes (kindAt s) s v class)
 
--- a real stands where more of its kind follow
+-- a number stands at a place that takes it as it comes, and more of the place follow
 unfoldable pub runsOn : LayoutState → Value → Bool
-runsOn s v = ltb 1 (s .left) && (reals (kindAt s) && real v)
+runsOn s v = ltb 1 (s .left) && (reals (kindAt s) && numeric v)
 
 -- ---- the end: what is missing is a default
 

@@ -5,17 +5,17 @@ use lib.Dec.{eqb, leb, ltb}
 use Rattle.values.specs.declared.Value.{Value}
 use Rattle.values.specs.declared.Value.the-variants.{Default, Whole, Real, Text}
 
--- a real
-abbrev pub real : Value → Bool
-real Default = false
-real (Whole neg n) = false
-real (Real neg m eneg e double) = true
-real (Text start count) = false
+-- a number: a real, or an integer, which counts as that whole number
+abbrev pub numeric : Value → Bool
+numeric Default = false
+numeric (Whole neg n) = true
+numeric (Real neg m eneg e double) = true
+numeric (Text start count) = false
 
--- a real above zero
+-- a number above zero
 abbrev pub above : Value → Bool
 above Default = false
-above (Whole neg n) = false
+above (Whole neg n) = not neg && ltb 0 n
 above (Real neg m eneg e double) = not neg && ltb 0 m
 above (Text start count) = false
 

@@ -15,7 +15,7 @@ use layouts_lists::ROWS;
 use layouts_lists::bit_of;
 use layouts_rows::look;
 use layouts_rows::rests_in;
-use layouts_rows::told::real_in;
+use layouts_rows::told::numeric_in;
 use layouts_takes::takes_in;
 use references::NO_ENTRY;
 use values::Value;
@@ -157,14 +157,14 @@ fn told_by(low: u64, high: u64, at: usize) -> bool
     }
 }
 
-// Whether a place takes reals as they come: R and Given.
+// Whether a place takes numbers as they come: R and Given.
 fn reals_at(at: usize) -> bool
     ensures { λ r. ⌜ r ≡ reals (placeAt at .kind) ⌝ }
 {
     told_by(REALS_LOW, REALS_HIGH, at)
 }
 
-// Whether a real stands where more of its kind follow: most values do.
+// Whether a number stands where more of its kind follow: most values do.
 pub fn runs_on(s: LayoutState, v: Value) -> bool
     ensures { λ r. ⌜ r ≡ runsOn s v ⌝ }
 {
@@ -172,7 +172,7 @@ pub fn runs_on(s: LayoutState, v: Value) -> bool
         return false;
     }
     if reals_at(s.at) {
-        return real_in(v);
+        return numeric_in(v);
     }
     false
 }

@@ -1,14 +1,15 @@
 // What a place must know of a value.
 ghost use mathlib.Core.Path.{_≡_};
-ghost use Rattle.layouts.specs.Machine.{real, above, text, within, size};
+ghost use Rattle.layouts.specs.Machine.{numeric, above, text, within, size};
 use values::Value;
 
-pub fn real_in(v: Value) -> bool
-    ensures { λ r. ⌜ r ≡ real v ⌝ }
+// A real, or an integer, which counts as that whole number.
+pub fn numeric_in(v: Value) -> bool
+    ensures { λ r. ⌜ r ≡ numeric v ⌝ }
 {
     match v {
         Value::Default => false,
-        Value::Whole { .. } => false,
+        Value::Whole { .. } => true,
         Value::Real { .. } => true,
         Value::Text { .. } => false,
     }
@@ -20,7 +21,7 @@ pub fn above_in(v: Value) -> bool
 {
     match v {
         Value::Default => false,
-        Value::Whole { .. } => false,
+        Value::Whole { neg, size: n } => if neg { false } else { 0 < n },
         Value::Real { neg, m, .. } => if neg { false } else { 0 < m },
         Value::Text { .. } => false,
     }

@@ -12,11 +12,11 @@ use Rattle.values.specs.Value.{isMissing}
 use Rattle.layouts.specs.declared.LayoutState.{LayoutState}
 use Rattle.layouts.specs.declared.Stepped.{Stepped}
 use Rattle.layouts.specs.Layout.{mostUpper}
-use Rattle.layouts.specs.Machine.{real, above, text, within, size, need, refer, takes, withK1, withK2, withM1, withM2}
+use Rattle.layouts.specs.Machine.{numeric, above, text, within, size, need, refer, takes, withK1, withK2, withM1, withM2}
 use Rattle.layouts.proofs.Values.{within-size}
 
 module _ (k : Kind) (s : LayoutState) (v : Value) (class : ℕ) (r : Stepped) where
-  pub takes-r : (x y b : Bool) → k ≡ R → x ≡ real v → y ≡ isMissing v → b ≡ (x || y) → r ≡ need b s → r ≡ takes k s v class
+  pub takes-r : (x y b : Bool) → k ≡ R → x ≡ numeric v → y ≡ isMissing v → b ≡ (x || y) → r ≡ need b s → r ≡ takes k s v class
   unfolding takes
   takes-r x y b e ex ey eb q = rw (e, ← ex, ← ey, ← eb) q
 
@@ -24,7 +24,7 @@ module _ (k : Kind) (s : LayoutState) (v : Value) (class : ℕ) (r : Stepped) wh
   unfolding takes
   takes-s x y b e ex ey eb q = rw (e, ← ex, ← ey, ← eb) q
 
-  pub takes-given : (b : Bool) → k ≡ Given → b ≡ real v → r ≡ need b s → r ≡ takes k s v class
+  pub takes-given : (b : Bool) → k ≡ Given → b ≡ numeric v → r ≡ need b s → r ≡ takes k s v class
   unfolding takes
   takes-given b e eb q = rw (e, ← eb) q
 

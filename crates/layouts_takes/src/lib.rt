@@ -9,7 +9,7 @@ use layouts::Kind;
 use layouts::LayoutState;
 use layouts::Stepped;
 use layouts_rows::told::above_in;
-use layouts_rows::told::real_in;
+use layouts_rows::told::numeric_in;
 use layouts_rows::told::size_in;
 use layouts_rows::told::text_in;
 use layouts_rows::told::within_in;
@@ -104,8 +104,8 @@ pub fn takes_in(k: Kind, s: LayoutState, v: Value, class: u8) -> Stepped
     ensures { λ r. ⌜ r ≡ takes k s v class ⌝ }
 {
     match k {
-        Kind::R => need_of(either(real_in(v), is_missing(v)), s),
-        Kind::Given => need_of(real_in(v), s),
+        Kind::R => need_of(either(numeric_in(v), is_missing(v)), s),
+        Kind::Given => need_of(numeric_in(v), s),
         Kind::Weight => need_of(above_in(v), s),
         Kind::S => need_of(either(text_in(v), is_missing(v)), s),
         Kind::I { low, high } => need_of(within_in(false, low, high, v), s),

@@ -56,7 +56,7 @@ fn put_owed(
     Behind { next: end, marks }
 }
 
-// The values behind the type, up to the last that is no default, each with its mark. Most are reals where more of their kind follow,
+// The values behind the type, up to the last that is no default, each with its mark. Most are numbers where more of their kind follow,
 // with no default owed before them: they are answered here, for a state or a value that is passed on is copied through memory.
 pub fn put_values(
     out: &mut [u8],

@@ -42,7 +42,7 @@ fn behind_defaults(file: &[u8], first: usize, n: usize, g: Stepped, owed: usize)
     state
 }
 
-// The layout behind this value and the defaults owed before it; a default is owed. Most values are reals where more of their kind follow:
+// The layout behind this value and the defaults owed before it; a default is owed. Most values are numbers where more of their kind follow:
 // they are answered here, for a state or a value that is passed on is copied through memory.
 fn state_after(file: &[u8], first: usize, n: usize, g: Stepped, owed: usize, v: Value) -> Stepped
     requires { ⌜ lineBytes * (first + 2 * n) ≤ length (now file) ⌝ }

@@ -78,14 +78,14 @@ upTo high neg size = not neg && within 1 high size
 unfoldable pub inRange : ℕ → Bool → ℕ → Bool
 inRange n neg size = cond (eqb n 14) (upTo 11 neg size) (cond (eqb n 23) (upTo 6 neg size) true)
 
--- a default fits every kind; an integer its range too
+-- a default fits every kind; a real's field takes an integer too; where an integer is asked for, it keeps to its range
 abbrev pub isKind : GlobalKind → ℕ → Value → Bool
 isKind String n Default = true
 isKind String n (Whole neg size) = false
 isKind String n (Real neg m eneg e double) = false
 isKind String n (Text start count) = true
 isKind RealKind n Default = true
-isKind RealKind n (Whole neg size) = false
+isKind RealKind n (Whole neg size) = true
 isKind RealKind n (Real neg m eneg e double) = true
 isKind RealKind n (Text start count) = false
 isKind Integer n Default = true

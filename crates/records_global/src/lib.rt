@@ -176,7 +176,7 @@ fn is_kind(k: GlobalKind, n: u32, v: Value) -> bool
         Value::Default => true,
         Value::Whole { neg, size } => match k {
             GlobalKind::String => false,
-            GlobalKind::Real => false,
+            GlobalKind::Real => true,
             GlobalKind::Integer => in_range(n, neg, size),
         },
         Value::Real { .. } => match k {
