@@ -1,11 +1,15 @@
 -- What follows from the demands. Assumes nothing.
 use mathlib.Core.Path.{_≡_, sym, ap, _∙_}
-use Rattle.columns.specs.Refusal.{accepted}
-use Rattle.model.specs.Read.{reads}
-use Rattle.model.specs.Write.{writes}
-use Rattle.demands.specs.Corollaries.{CanonicalRead, ModelKept, OneModel, OneSheet, ReadsBack, WrittenAgain}
+use mathlib.Core.List.{List}
+use Prim.Native.Nat.{ℕ}
+use Rattle.columns.specs.Refusal.{Outcome, accepted}
+use Rattle.model.specs.Model.{Model}
+use Rattle.model.specs.Read.{readModel, reads}
+use Rattle.model.specs.Write.{writeModel, writes}
+use Rattle.demands.specs.Corollaries.{CanonicalRead, ModelKept, OneModel, OneSheet, ReadsBack, WrittenAgain, CarriedAll, OneModelInAll, IntegersOf, IntegerKept}
 use Rattle.demands_back.proofs.Whole.{back}
 use Rattle.demands.proofs.FromFile.{read-fits}
+use Rattle.demands.proofs.ToSheet.{fits-writes}
 use Rattle.demands.proofs.ThereAndBack.{read-to, tells-model, written-reads}
 
 pub one-model : OneModel
@@ -35,3 +39,31 @@ written-again list s g u h r =
     let a : reads list g ≡ accepted s = written-reads list s g h in
     let e : s ≡ u = cc in
     ap (writes list) (sym e) ∙ h
+
+-- ---- what a file carries is carried all the way
+
+pub one-model-in-all : OneModelInAll
+one-model-in-all list f s h =
+    let a = read-to list f s h in (
+      a .model,
+      record {
+        file = a .read;
+        sheet = ap (writeModel list) (sym (a .text)) ∙ fits-writes list (a .model) (a .fits);
+        written = λ g w.
+            let b = read-to list g s (written-reads list s g w) in
+            b .read ∙ ap accepted (sym (tells-model list g s b) ∙ tells-model list f s a);
+      },
+    )
+
+-- an outcome has one value
+the-one : {o : Outcome Model} {m k : Model} → o ≡ accepted m → o ≡ accepted k → m ≡ k
+the-one p q = cc
+
+same-integers : {m k : Model} → m ≡ k → IntegersOf m k
+same-integers e = rw e (record { values = λ i j neg size h. h; fields = λ n neg size h. h })
+
+pub integer-kept : IntegerKept
+integer-kept list f s g m k n h file sheet w written =
+    let a = one-model-in-all list f s h in
+    let e : a .0 ≡ m = the-one (a .1 .file) file in
+    (same-integers (sym e ∙ the-one (a .1 .sheet) sheet), same-integers (sym e ∙ the-one (a .1 .written g w) written))

@@ -1,13 +1,17 @@
 -- What follows from the demands for files and sheets that are carried back and forth, as statements over the definitions.
 use mathlib.Core.Path.{_≡_}
-use mathlib.Core.List.{List}
+use mathlib.Core.Bool.{Bool, cond}
+use mathlib.Core.List.{List, [], _∷_, map}
 use Prim.Native.Nat.{ℕ, _≤_}
+use lib.Dec.{eqb}
+use lib.ListN.{getD}
 use Rattle.columns.specs.Refusal.{accepted}
 use Rattle.columns.specs.Format.{mostLines}
-use Rattle.model.specs.Model.{Model}
+use Rattle.values.specs.Value.{Item, default, whole}
+use Rattle.model.specs.Model.{Carried, Model}
 use Rattle.model.specs.Canonical.{lineTotal, canonical}
 use Rattle.model.specs.Read.{readModel, reads}
-use Rattle.model.specs.Write.{writes}
+use Rattle.model.specs.Write.{writeModel, writes}
 use Rattle.model.specs.Fit.{Fits}
 
 -- the canonical file of a model that fits is read as that model, if it keeps to the limit
@@ -37,3 +41,40 @@ ReadsBack = (list : ℕ) (s g : List ℕ) → writes list s ≡ accepted g → r
 abbrev pub WrittenAgain : Type 0
 WrittenAgain =
     (list : ℕ) (s g u : List ℕ) → writes list s ≡ accepted g → reads list g ≡ accepted u → writes list u ≡ accepted g
+
+-- ---- what a file carries is carried all the way
+
+-- a file, its sheet, and the file that is written of the sheet carry the model m
+pub record CarriedAll (list : ℕ) (f s : List ℕ) (m : Model) : Type 0 where
+  pub file : readModel list f ≡ accepted m
+  pub sheet : writeModel list s ≡ accepted m
+  pub written : (g : List ℕ) → writes list s ≡ accepted g → readModel list g ≡ accepted m
+
+abbrev pub OneModelInAll : Type 0
+OneModelInAll = (list : ℕ) (f s : List ℕ) → reads list f ≡ accepted s → (m : Model) × CarriedAll list f s m
+
+-- the values of an entry
+abbrev pub valuesIn : Carried → List Item
+valuesIn e = e .values
+
+-- value j of entry i, both from 0
+abbrev pub valueIn : Model → ℕ → ℕ → Item
+valueIn m i j = getD (getD (map valuesIn (m .entries)) i []) j default
+
+-- the Global field of a number
+abbrev pub fieldIn : List (ℕ × Item) → ℕ → Item
+fieldIn [] n = default
+fieldIn (g ∷ gs) n = cond (eqb (g .0) n) (g .1) (fieldIn gs n)
+
+-- what is an integer in one model is that integer in the other
+pub record IntegersOf (m k : Model) : Type 0 where
+  pub values : (i j : ℕ) (neg : Bool) (size : ℕ) → valueIn m i j ≡ whole neg size → valueIn k i j ≡ whole neg size
+  pub fields : (n : ℕ) (neg : Bool) (size : ℕ) → fieldIn (m .globals) n ≡ whole neg size
+      → fieldIn (k .globals) n ≡ whole neg size
+
+-- an integer of a file, wherever it stands, is that integer in its sheet and in the file that is written of the sheet
+abbrev pub IntegerKept : Type 0
+IntegerKept =
+    (list : ℕ) (f s g : List ℕ) (m k n : Model) → reads list f ≡ accepted s → readModel list f ≡ accepted m
+    → writeModel list s ≡ accepted k → writes list s ≡ accepted g → readModel list g ≡ accepted n
+    → IntegersOf m k × IntegersOf m n
