@@ -1,6 +1,6 @@
 # make sample      the sheet of the sample file
 # make tools       the command line program, target/host/szelmikra
-# make check-host  vectors, archive against plain, command line, the list of what has to be believed
+# make check-host  vectors, archive against plain, command line, what igsheet prints, the list of what has to be believed
 # make test        every crate is proved from nothing, every must-fail edit refused, every program's output compared; then all of that
 # make install     header, archive, program, pkg-config and CMake files under PREFIX
 # make check-install  installs to a temporary folder and builds the example there with pkg-config and CMake
@@ -23,7 +23,7 @@ endif
 
 include host/host.mk
 
-.PHONY: test fmt lib tools sample check-host check-vectors check-random check-large check-cli check-believed check-install bench stack example install
+.PHONY: test fmt lib tools sample check-host check-vectors check-random check-large check-cli check-printed check-believed check-install bench stack example install
 .DELETE_ON_ERROR:
 .DEFAULT_GOAL = tools
 
@@ -63,7 +63,7 @@ PROGRAMS = $(OUT)/szelmikra $(OUT)/bench $(TESTS)/vectors $(TESTS)/differential 
 $(PROGRAMS): $(ARCHIVE) | $(CROSS_LIBM)
 	@$(HOST_CXX) $(CXXFLAGS) -pthread $(HOST_LINK) -o $@ $(filter %.o,$^) $(ARCHIVE)
 
-check-host: check-large check-random check-vectors check-cli check-believed
+check-host: check-large check-random check-vectors check-cli check-printed check-believed
 
 check-vectors: $(TESTS)/vectors
 	@$(HOST_RUN) $< crates/vectors/stdin
@@ -76,6 +76,13 @@ check-large: $(TESTS)/differential
 
 check-cli: $(OUT)/szelmikra
 	@host/tests/cli.sh $(HOST_RUN) $<
+
+# The archive first, so that no two provers work on one crate.
+target/bin/igsheet: target/staticlib/libszelmikra.a
+	@rt check igsheet >target/igsheet.log 2>&1 || { cat target/igsheet.log; exit 1; }
+
+check-printed: target/bin/igsheet | toolchain
+	@host/tests/printed.sh $(HOST_RUN) $<
 
 check-believed:
 	@host/tests/believed.sh

@@ -73,12 +73,19 @@ std::uint64_t splitFields(const std::string &file) {
 }
 
 struct Times {
-    std::size_t lines;
+    std::size_t lines, values;
     double read, write, plainRead, plainWrite, pass, copy;
 };
 
-Times measure(std::size_t lines) {
-    const std::string file = tests::largeFile(lines);
+// A sheet has a line for each value, but for those of defaults at an entry's end.
+std::size_t valuesIn(const std::string &sheet) {
+    std::size_t values = 0;
+    for (std::size_t at = 0; at < sheet.size(); at = sheet.find('\n', at) + 1) values += sheet[at] == 'V' || sheet[at] == 'R';
+    return values;
+}
+
+Times measure(std::size_t lines, tests::Coordinates coordinates) {
+    const std::string file = tests::largeFile(lines, coordinates);
     const std::string sheet = plain::read(allTypes, file, noLimit).bytes;
     std::vector<std::uint8_t> output(std::max(file.size(), sheet.size()));
     const std::vector<double> least = leastTimes({
@@ -92,7 +99,7 @@ Times measure(std::size_t lines) {
             sink = output[file.size() / 2];
         },
     });
-    return {lines, least[0], least[1], least[2], least[3], least[4], least[5]};
+    return {lines, valuesIn(sheet), least[0], least[1], least[2], least[3], least[4], least[5]};
 }
 
 // How much longer a sheet of 132,000 entries takes than one of 66,000, each of which names two others at random. A file can hold
@@ -111,6 +118,22 @@ void target(const char *what, double ratio, double limit) {
     std::printf("%-48s %6.2f   target at most %4.1f   %s\n", what, ratio, limit, ratio <= limit ? "met" : "not met");
 }
 
+void printTimes(const Times &t) {
+    std::printf("%8zu %10.3f %10.3f %12.3f %12.3f %12.3f %10.3f\n", t.lines, t.read, t.write, t.plainRead, t.plainWrite, t.pass,
+                t.copy);
+    std::fflush(stdout);
+}
+
+// A file whose coordinates are integers takes no longer for each value than one of reals.
+void compareIntegers(const Times &reals) {
+    std::printf("\nthe same with integers at all real places\n");
+    const Times integers = measure(reals.lines, tests::Coordinates::Integers);
+    printTimes(integers);
+    const auto each = [](double time, const Times &t) { return time / static_cast<double>(t.values); };
+    target("read a value, integers over reals", each(integers.read, integers) / each(reals.read, reals), 1.0);
+    target("write a value, integers over reals", each(integers.write, integers) / each(reals.write, reals), 1.0);
+}
+
 }  // namespace
 
 int main() {
@@ -119,11 +142,8 @@ int main() {
                 "memcpy");
     std::vector<Times> all;
     for (const std::size_t lines : std::initializer_list<std::size_t>{2'000, 20'000, 200'000}) {
-        all.push_back(measure(lines));
-        const Times &t = all.back();
-        std::printf("%8zu %10.3f %10.3f %12.3f %12.3f %12.3f %10.3f\n", t.lines, t.read, t.write, t.plainRead, t.plainWrite, t.pass,
-                    t.copy);
-        std::fflush(stdout);
+        all.push_back(measure(lines, tests::Coordinates::Reals));
+        printTimes(all.back());
     }
     std::printf("\n%8s %17s %19s %17s %14s\n", "lines", "read/plain read", "write/plain write", "read/plain pass", "read/memcpy");
     for (const Times &t : all)
@@ -141,5 +161,6 @@ int main() {
     target("write, growth from 66,000 to 132,000 entries", growthOfEntries(any), 2.4);
     // Up to 66,665 entries a type is one look into a table; past that an entry is searched for.
     target("the same where all are asked for their types", growthOfEntries(typed), 2.4);
+    compareIntegers(last);
     return 0;
 }

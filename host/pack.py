@@ -1,5 +1,5 @@
 #!/usr/bin/env python3
-"""pack.py FOLDER >PACK   packs the vectors of a folder, as its MANIFEST.tsv lists them: for each seven numbers of eight digits (0 to read and 1 to write;
+"""pack.py FOLDER >PACK   packs the vectors to read and to write of a folder, as its MANIFEST.tsv lists them: for each seven numbers of eight digits (0 to read and 1 to write;
 list; number and place of the answer; how long its name, its input and its expected output are), an LF, and those three."""
 import os
 import sys
@@ -9,7 +9,10 @@ out = sys.stdout.buffer
 for line in open(os.path.join(folder, 'MANIFEST.tsv'), encoding='ascii'):
     if line.startswith('#'):
         continue
-    op, types, name, verdict, a, b = line.rstrip('\n').split('\t')
+    op, *rest = line.rstrip('\n').split('\t')
+    if op not in ('read', 'write'):
+        continue
+    types, name, verdict, a, b = rest
     given = open(os.path.join(folder, name), 'rb').read()
     accepted = verdict == 'ok'
     expected = open(os.path.join(folder, b), 'rb').read() if accepted else b''

@@ -47,7 +47,13 @@ std::optional<Opening> openingOf(std::string_view text) {
 constexpr std::string_view kinds = "ssssiiiiisrisirsrrssii";
 static_assert(kinds.size() == lastGlobalField - firstGlobalField + 1);
 
-Kind kindOf(char letter) { return letter == 's' ? Kind::String : letter == 'r' ? Kind::Real : Kind::Integer; }
+bool isOfKind(char letter, const Value &value) {
+    switch (letter) {
+        case 's': return value.kind == Kind::String;
+        case 'r': return value.isNumber();
+        default: return value.kind == Kind::Integer;
+    }
+}
 
 bool inRange(std::size_t number, std::int32_t whole) {
     switch (number) {
@@ -62,7 +68,7 @@ bool inRange(std::size_t number, std::int32_t whole) {
 void checkGlobalField(const GlobalField &field) {
     if (field.number > lastGlobalField) refuse(Fault::Global, field.place);
     if (field.value.kind == Kind::Default) return;
-    const bool rightKind = field.value.kind == kindOf(kinds[field.number - firstGlobalField]);
+    const bool rightKind = isOfKind(kinds[field.number - firstGlobalField], field.value);
     if (!rightKind || !inRange(field.number, field.value.whole)) refuse(Fault::Global, field.place);
 }
 

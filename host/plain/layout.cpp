@@ -130,7 +130,7 @@ void Walk::end() {
 void Walk::eachReal(std::int64_t times, Want want, bool aboveZero) {
     for (; times > 0 && at_ < count_; --times, ++at_) {
         const Value &value = values_[at_];
-        require(value.kind == Kind::Real || (value.kind == Kind::Default && want == Want::Any));
+        require(value.isNumber() || (value.kind == Kind::Default && want == Want::Any));
         require(!aboveZero || value.aboveZero);
     }
     require(times == 0 || want == Want::Any);

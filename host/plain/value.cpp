@@ -157,9 +157,9 @@ Value RecordReader::takeNumber(const Number &number, std::string &spelt) {
     Value value;
     value.start = spelt.size();
     const bool negative = number.negative && number.m != 0;
+    value.aboveZero = !negative && number.m != 0;
     if (number.isReal) {
         value.kind = Kind::Real;
-        value.aboveZero = !negative && number.m != 0;
         const auto m = static_cast<std::int64_t>(number.m);
         appendNumber(spelt, negative ? -m : m);
         spelt.push_back('.');
@@ -249,6 +249,7 @@ std::optional<Value> spelledValue(std::string_view spelling) {
         good = worth.has_value();
         value.kind = Kind::Integer;
         value.whole = worth.value_or(0);
+        value.aboveZero = value.whole > 0;
     } else if (unsignedPart[digits] == '.') {
         good = isSpelledReal(unsignedPart.substr(0, digits), unsignedPart.substr(digits + 1), negative);
         value.kind = Kind::Real;

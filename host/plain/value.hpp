@@ -17,11 +17,12 @@ struct Value {
     std::int32_t whole = 0;    // an integer's worth; 0 for the other kinds
     std::uint16_t length = 0;  // of its spelling
     Kind kind = Kind::Default;
-    bool aboveZero : 1;  // a real's
+    bool aboveZero : 1;  // a number's
     bool reference : 1;  // it stands at a reference place of a known entity
 
     Value() : aboveZero(false), reference(false) {}
     std::string_view spelling(std::string_view text) const { return text.substr(start, length); }
+    bool isNumber() const { return kind == Kind::Real || kind == Kind::Integer; }  // what a real place takes
 };
 
 struct Delimiters {

@@ -20,7 +20,7 @@ run() { "${program[@]}" "$@"; }
 try() { run "$@" >out 2>err </dev/null; status=$?; }
 
 cp "$sample" chair.igs
-sed 's/15\.E-1/15    /' chair.igs >wrong.igs
+sed 's/15\.E-1/1HA   /' chair.igs >wrong.igs
 head -c 485 chair.igs >short.igs
 printf 'S\tSET PIECE\nG\t3\t5HCHAIR\nG\t4\t7Hset.igs\nE\t1\t116\t0\t0\t0\t0\t0\t0\t0\t01000000\t0\t0\t0\t   PIN01\nV\t15.E-1\nV\t0.\nV\t2.\nZ\t1\n' >chair.sheet
 sed 's/^V\t2\.$/V\t2.0/' chair.sheet >wrong.sheet
@@ -49,6 +49,22 @@ same 'list status' "$status" 0
 holds 'with list 0 the entity is unknown' grep -q '^U' out
 try sheet --list=0 -- chair.igs
 holds 'list=0' grep -q '^U' out
+
+# Whole numbers at real places stay whole numbers, in the sheet and in the file that is written of it; a weight is above zero.
+sed 's/116,15\.E-1,0\.,2\.;/116,15,0,2.;     /' chair.igs >whole.igs
+sed 's/^V\t15\.E-1$/V\t15/; s/^V\t0\.$/V\t0/' chair.sheet >whole.sheet
+try sheet whole.igs
+same 'whole numbers status' "$status" 0
+holds 'whole numbers in the sheet' cmp -s out whole.sheet
+try wrap whole.sheet
+same 'whole numbers wrapped status' "$status" 0
+holds 'whole numbers in the written file' cmp -s out whole.igs
+{ printf 'S\tCURVE\nG\t13\t1\nE\t1\t126\t0\t0\t0\t0\t0\t0\t0\t00000000\t0\t0\t0\t        \nV\t1\nV\t1\nV\t0\nV\t0\nV\t0\nV\t0\n'
+  printf 'V\t%s\n' 0 0 1 1 1 2 0 0 0 -1 0 0 0 1; printf 'Z\t1\n'; } >curve.sheet
+sed '14s/1/0/' curve.sheet >weightless.sheet
+same 'a curve of whole numbers' "$(run wrap curve.sheet | run sheet)" "$(cat curve.sheet)"
+try wrap weightless.sheet
+same 'a weight of 0' "$(cut -d' ' -f1-3 err)" 'weightless.sheet:3: refused 14:'
 
 # Refusals: message, status, no output.
 try sheet wrong.igs

@@ -26,6 +26,8 @@ std::string written(const std::string &sheet) {
 // Puts a sheet together, entry by entry.
 class SheetMaker {
 public:
+    explicit SheetMaker(Coordinates coordinates = Coordinates::Reals) : coordinates_(coordinates) {}
+
     std::size_t entry(int type, int form = 0) {
         const std::size_t number = 2 * entries_++ + 1;
         body_ += "E\t" + std::to_string(number) + "\t" + std::to_string(type) + "\t" + std::to_string(form) +
@@ -36,11 +38,12 @@ public:
         for (; count > 0; --count) {
             body_ += random_.oneIn(3) ? "V\t-" : "V\t";
             body_ += std::to_string(digits());
-            body_ += ".E-" + std::to_string(random_.between(1, 6)) + "\n";
+            if (coordinates_ == Coordinates::Reals) body_ += ".E-" + std::to_string(random_.between(1, 6));
+            body_ += "\n";
         }
     }
     void weights(std::size_t count) {
-        for (; count > 0; --count) body_ += "V\t1.\n";
+        for (; count > 0; --count) body_ += coordinates_ == Coordinates::Reals ? "V\t1.\n" : "V\t1\n";
     }
     void whole(std::size_t number) { body_ += "V\t" + std::to_string(number) + "\n"; }
     void name(std::size_t number) { body_ += "R\t" + std::to_string(number) + "\n"; }
@@ -59,6 +62,7 @@ private:
         return 10 * before + random_.between(1, 9);
     }
 
+    Coordinates coordinates_;
     Random random_{1};
     std::string body_;
     std::size_t entries_ = 0;
@@ -93,10 +97,10 @@ std::string number(std::size_t worth, std::size_t width, char fill) {
 
 }  // namespace
 
-std::string largeFile(std::size_t lines) {
+std::string largeFile(std::size_t lines, Coordinates coordinates) {
     // The lines of one round, where the numbers are widest.
     constexpr std::size_t linesOfOneRound = 43;
-    SheetMaker sheet;
+    SheetMaker sheet(coordinates);
     for (std::size_t round = 0; round < (lines - 5) / linesOfOneRound; ++round) oneOfEach(sheet);
     const std::size_t others = written(sheet.finished(1)).size() / lineBytes - 1;
     if (others >= lines) {

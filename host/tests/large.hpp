@@ -6,8 +6,11 @@
 
 namespace tests {
 
+// What stands at the real places of a file.
+enum class Coordinates { Reals, Integers };
+
 // A canonical file with just that many lines (at least 100), of points, lines, curves, matrices, groups and instances.
-std::string largeFile(std::size_t lines);
+std::string largeFile(std::size_t lines, Coordinates coordinates = Coordinates::Reals);
 
 // The same entities with their P blocks in another order.
 std::string shuffledBlocks(const std::string &canonical);

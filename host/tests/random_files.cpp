@@ -39,6 +39,14 @@ Token realToken(Random &random, bool aboveZero) {
     return {inOrder({sign, mantissa, std::string(1, random.from("ED")), signs[random.below(3)], power}), ""};
 }
 
+// What stands at a real place: a real, or now and then an integer.
+Token numberToken(Random &random, bool aboveZero) {
+    if (!random.oneIn(6)) return realToken(random, aboveZero);
+    const std::int64_t size = static_cast<std::int64_t>(random.oneIn(50) ? 2147483647 : random.below(12));
+    if (aboveZero) return integerToken(random, random.oneIn(30) ? size - 5 : size + (size == 0));
+    return integerToken(random, random.oneIn(3) ? -size : size);
+}
+
 Token stringToken(Random &random) {
     const std::size_t length = random.oneIn(50) ? random.between(90, 999) : random.between(1, 14);
     const std::string count = std::to_string(length);
@@ -175,7 +183,7 @@ private:
         if (random_.oneIn(4)) return {};
         if (random_.oneIn(250)) return anyToken(random_);
         if (kind == 's') return stringToken(random_);
-        if (kind == 'r') return realToken(random_, false);
+        if (kind == 'r') return numberToken(random_, false);
         const std::size_t limit = number == 14 ? 11 : number == 23 ? 6 : 1000;
         return integerToken(random_, static_cast<std::int64_t>(random_.oneIn(200) ? random_.below(14) : random_.between(1, limit)));
     }
@@ -184,10 +192,10 @@ private:
     std::vector<Token> values(const Kinds &kinds) {
         std::vector<Token> all;
         const auto reals = [&](std::size_t n) {
-            while (n-- > 0) all.push_back(random_.oneIn(12) ? Token{} : realToken(random_, false));
+            while (n-- > 0) all.push_back(random_.oneIn(12) ? Token{} : numberToken(random_, false));
         };
         const auto given = [&](std::size_t n) {
-            while (n-- > 0) all.push_back(realToken(random_, false));
+            while (n-- > 0) all.push_back(numberToken(random_, false));
         };
         const auto whole = [&](std::size_t n) { all.push_back(integerToken(random_, static_cast<std::int64_t>(n))); };
         const auto names = [&](std::size_t n, int type) {
@@ -199,7 +207,7 @@ private:
             random_.oneIn(2) ? name(type) : all.push_back(random_.oneIn(2) ? Token{} : Token{"0", ""});
         };
         const auto weights = [&](std::size_t n) {
-            while (n-- > 0) all.push_back(realToken(random_, true));
+            while (n-- > 0) all.push_back(numberToken(random_, true));
         };
         const auto flags = [&](std::size_t n) {
             while (n-- > 0) whole(random_.below(2));

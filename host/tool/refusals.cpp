@@ -30,7 +30,8 @@ constexpr Meaning meanings[] = {
      "from\n"
      "the last of these digits, lies in -400..400."},
     {SZELMIKRA_GLOBAL, "a Global field has the wrong kind or is out of range, or there are more than 24",
-     "Fields 3-6, 12, 15, 18, 21 and 22 are strings, 13, 17, 19 and 20 reals, the others integers; 14 is 1..11 and 23 is 1..6."},
+     "Fields 3-6, 12, 15, 18, 21 and 22 are strings, 13, 17, 19 and 20 reals, for which an integer will do, too, the others\n"
+     "integers; 14 is 1..11 and 23 is 1..6."},
     {SZELMIKRA_DIRECTORY, "a directory field is misspelt or out of range",
      "Numbers stand at the right of their eight columns. Type, view, matrix, label display, weight, form and subscript are 0 or "
      "more,\n"
@@ -46,8 +47,8 @@ constexpr Meaning meanings[] = {
      "The first value of an entity's parameters is the type number that its directory entry has."},
     {SZELMIKRA_MACRO, "type 306, which isn't read", "Type 306 holds MACRO text, which is another language."},
     {SZELMIKRA_LAYOUT, "an entity's values don't fit the layout of its type",
-     "A value has the wrong kind, a count or flag is out of range, there is a value too many, or one is missing that a spline "
-     "needs."},
+     "A value has the wrong kind, a count or flag is out of range, a weight isn't above zero, there is a value too many, or\n"
+     "one is missing that a spline needs. Where a real is asked for an integer will do, but not the other way round."},
     {SZELMIKRA_LAYOUT_REFERENCE, "an entity names an entry that isn't there, has the wrong type, or must be given and isn't",
      "A reference is the odd number of an entry of the file. Type 408 names a 308, the boundaries of type 144 are of type 142."},
     {SZELMIKRA_ROOM, "the output is too short",
