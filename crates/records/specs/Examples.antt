@@ -1,7 +1,7 @@
--- Worked examples: texts in lines of w columns, with ',' and ';', and the values that they hold or their refusal; openings; a record as it
--- is written.
+-- Worked examples: texts in lines of w columns, with ',' and ';', and the values that they hold or their refusal; openings; values of
+-- Global fields; a record as it is written.
 use mathlib.Core.Path.{_≡_, refl}
-use mathlib.Core.Bool.{true, false}
+use mathlib.Core.Bool.{Bool, true, false}
 use mathlib.Core.List.{List, [], _∷_, map}
 use Prim.Native.Nat.{ℕ}
 use Prim.Native.String.{String}
@@ -9,13 +9,13 @@ use Rattle.columns.specs.declared.Fault.the-variants.{Spelling, Limit}
 use Rattle.columns.specs.Decimal.{dec, lastDigits, toLeft}
 use Rattle.values.specs.Number.{numberOf, powerAt, power}
 use Rattle.values.specs.Head.{headOf}
-use Rattle.values.specs.Value.{default, whole, real, text, spelled}
+use Rattle.values.specs.Value.{Item, default, whole, real, text, seen, spelled}
 use Rattle.columns.specs.Quoted.{codes}
 use Rattle.records.specs.declared.Opening.{Opening}
 use Rattle.records.specs.declared.Opening.the-variants.{Opened, Wrong}
 use Rattle.records.specs.Record.{nextAt, valueAt, Values, values, wrong, valuesFrom, valuesAt, trimmed}
 use Rattle.records.specs.Flow.{firm, gap, piece, flow, lineCount, cut, inLines}
-use Rattle.records.specs.Global.{mayDelimit, opened, recordDelimiter, openingOf}
+use Rattle.records.specs.Global.{mayDelimit, opened, recordDelimiter, openingOf, kindOf, inRange, globalFits}
 
 -- the columns of a line, the text, and its values with the position behind them, or the refusal, where its value starts and where it shows
 abbrev records : List (ℕ × String × Values)
@@ -67,11 +67,31 @@ openings =
     ∷ ("        ", Wrong)
     ∷ []
 
+-- a Global field's number, a value, and whether the field may hold it
+abbrev globals : List (ℕ × Item × Bool)
+globals =
+    (3, text (codes "CHAIR"), true)
+    ∷ (3, whole false 1, false)
+    ∷ (13, real false 1 false 0 false, true)
+    ∷ (13, whole false 1, true)
+    ∷ (17, whole true 12, true)
+    ∷ (19, whole false 0, true)
+    ∷ (20, whole false 2147483647, true)
+    ∷ (20, text (codes "0"), false)
+    ∷ (14, whole false 11, true)
+    ∷ (14, whole false 12, false)
+    ∷ (14, real false 1 false 0 false, false)
+    ∷ (23, default, true)
+    ∷ (24, whole true 7, true)
+    ∷ (25, default, false)
+    ∷ []
+
 -- what is computed is what is expected
 pub record Examples : Type 0 where
   pub read : map (λ (e : ℕ × String × Values). valuesAt (e .0) 44 59 (codes (e .1)) 0) records
       ≡ map (λ (e : ℕ × String × Values). e .2) records
   pub opened : map (λ (e : String × Opening). openingOf (codes (e .0))) openings ≡ map (λ (e : String × Opening). e .1) openings
+  pub fit : map (λ (e : ℕ × Item × Bool). globalFits (e .0) (seen (e .1))) globals ≡ map (λ (e : ℕ × Item × Bool). e .2) globals
   -- a value that has no room goes to the next line, and so does a count with its H and first character; a string's text flows on
   pub written : inLines 8
       (flow 8 0 (whole false 116
@@ -81,6 +101,6 @@ pub record Examples : Type 0 where
 
 -- all of them
 pub examples : Examples
-unfolding valuesAt valuesFrom valueAt nextAt headOf numberOf powerAt power mayDelimit opened recordDelimiter openingOf inLines lineCount cut
-    toLeft flow piece gap firm spelled dec lastDigits
-examples = record { read = refl; opened = refl; written = refl; kept = refl }
+unfolding valuesAt valuesFrom valueAt nextAt headOf numberOf powerAt power mayDelimit opened recordDelimiter openingOf kindOf inRange
+    globalFits inLines lineCount cut toLeft flow piece gap firm spelled dec lastDigits
+examples = record { read = refl; opened = refl; fit = refl; written = refl; kept = refl }
