@@ -4,6 +4,7 @@
 #include <chrono>
 #include <cstdint>
 #include <cstdio>
+#include <cstdlib>
 #include <cstring>
 #include <functional>
 #include <initializer_list>
@@ -72,6 +73,13 @@ std::uint64_t splitFields(const std::string &file) {
     return sum;
 }
 
+// What is refused early is quick, and no measure of anything.
+void mustAccept(const szelmikra_answer &answer) {
+    if (answer.number == 0) return;
+    std::fprintf(stderr, "bench: refused %d at %d\n", static_cast<int>(answer.number), static_cast<int>(answer.place));
+    std::exit(3);
+}
+
 struct Times {
     std::size_t lines, values;
     double read, write, plainRead, plainWrite, pass, copy;
@@ -88,9 +96,12 @@ Times measure(std::size_t lines, tests::Coordinates coordinates) {
     const std::string file = tests::largeFile(lines, coordinates);
     const std::string sheet = plain::read(allTypes, file, noLimit).bytes;
     std::vector<std::uint8_t> output(std::max(file.size(), sheet.size()));
+    const auto read = [&] { return szelmikra_read(allTypes, bytesOf(file), file.size(), output.data(), output.size()); };
+    const auto write = [&] { return szelmikra_write(allTypes, bytesOf(sheet), sheet.size(), output.data(), output.size()); };
+    mustAccept(read()), mustAccept(write());
     const std::vector<double> least = leastTimes({
-        [&] { sink = szelmikra_read(allTypes, bytesOf(file), file.size(), output.data(), output.size()).length; },
-        [&] { sink = szelmikra_write(allTypes, bytesOf(sheet), sheet.size(), output.data(), output.size()).length; },
+        [&] { sink = read().length; },
+        [&] { sink = write().length; },
         [&] { sink = plain::read(allTypes, file, noLimit).length; },
         [&] { sink = plain::write(allTypes, sheet, noLimit).length; },
         [&] { sink = splitFields(file); },
