@@ -50,6 +50,7 @@ pub record CarriedAll (list : ℕ) (f s : List ℕ) (m : Model) : Type 0 where
   pub sheet : writeModel list s ≡ accepted m
   pub written : (g : List ℕ) → writes list s ≡ accepted g → readModel list g ≡ accepted m
 
+-- every file that is read has such a model
 abbrev pub OneModelInAll : Type 0
 OneModelInAll = (list : ℕ) (f s : List ℕ) → reads list f ≡ accepted s → (m : Model) × CarriedAll list f s m
 
