@@ -1,6 +1,7 @@
 #!/usr/bin/env python3
-"""pack.py FOLDER >PACK   packs the vectors to read and to write of a folder, as its MANIFEST.tsv lists them: for each seven numbers of eight digits (0 to read and 1 to write;
-list; number and place of the answer; how long its name, its input and its expected output are), an LF, and those three."""
+"""pack.py FOLDER >PACK   packs the vectors to read and to write of a folder, as its MANIFEST.tsv lists them: for each seven numbers
+of eight digits (0 to read and 1 to write; list; number and place of the answer; how long its name, its input and its expected
+output are), an LF, and those three."""
 import os
 import sys
 

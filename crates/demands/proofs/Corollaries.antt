@@ -1,12 +1,10 @@
 -- What follows from the demands. Assumes nothing.
 use mathlib.Core.Path.{_≡_, sym, ap, _∙_}
-use mathlib.Core.List.{List}
-use Prim.Native.Nat.{ℕ}
 use Rattle.columns.specs.Refusal.{Outcome, accepted}
 use Rattle.model.specs.Model.{Model}
-use Rattle.model.specs.Read.{readModel, reads}
+use Rattle.model.specs.Read.{reads}
 use Rattle.model.specs.Write.{writeModel, writes}
-use Rattle.demands.specs.Corollaries.{CanonicalRead, ModelKept, OneModel, OneSheet, ReadsBack, WrittenAgain, CarriedAll, OneModelInAll, IntegersOf, IntegerKept}
+use Rattle.demands.specs.Corollaries.{CanonicalRead, ModelKept, OneModel, OneSheet, ReadsBack, WrittenAgain, OneModelInAll, IntegersIn, IntegerKept}
 use Rattle.demands_back.proofs.Whole.{back}
 use Rattle.demands.proofs.FromFile.{read-fits}
 use Rattle.demands.proofs.ToSheet.{fits-writes}
@@ -55,15 +53,12 @@ one-model-in-all list f s h =
       },
     )
 
--- an outcome has one value
-the-one : {o : Outcome Model} {m k : Model} → o ≡ accepted m → o ≡ accepted k → m ≡ k
-the-one p q = cc
-
-same-integers : {m k : Model} → m ≡ k → IntegersOf m k
-same-integers e = rw e (record { values = λ i j neg size h. h; fields = λ n neg size h. h })
+kept : {told : Outcome Model} {m : Model} → told ≡ accepted m → IntegersIn told m
+kept {m = m} e = record { model = m; is-told = e; values = λ i j neg size h. h; fields = λ n neg size h. h }
 
 pub integer-kept : IntegerKept
-integer-kept list f s g m k n h file sheet w written =
+integer-kept list f s m h r =
     let a = one-model-in-all list f s h in
-    let e : a .0 ≡ m = the-one (a .1 .file) file in
-    (same-integers (sym e ∙ the-one (a .1 .sheet) sheet), same-integers (sym e ∙ the-one (a .1 .written g w) written))
+    let b = a .1 .file in
+    let e : a .0 ≡ m = cc in
+    (kept (a .1 .sheet ∙ ap accepted e), λ g w. kept (a .1 .written g w ∙ ap accepted e))

@@ -5,7 +5,7 @@ use mathlib.Core.List.{List, [], _∷_, map}
 use Prim.Native.Nat.{ℕ, _≤_}
 use lib.Dec.{eqb}
 use lib.ListN.{getD}
-use Rattle.columns.specs.Refusal.{accepted}
+use Rattle.columns.specs.Refusal.{Outcome, accepted}
 use Rattle.columns.specs.Format.{mostLines}
 use Rattle.values.specs.Value.{Item, default, whole}
 use Rattle.model.specs.Model.{Carried, Model}
@@ -59,23 +59,24 @@ abbrev pub valuesIn : Carried → List Item
 valuesIn e = e .values
 
 -- value j of entry i, both from 0
-abbrev pub valueIn : Model → ℕ → ℕ → Item
-valueIn m i j = getD (getD (map valuesIn (m .entries)) i []) j default
+abbrev pub entryValue : Model → ℕ → ℕ → Item
+entryValue m i j = getD (getD (map valuesIn (m .entries)) i []) j default
 
 -- the Global field of a number
-abbrev pub fieldIn : List (ℕ × Item) → ℕ → Item
-fieldIn [] n = default
-fieldIn (g ∷ gs) n = cond (eqb (g .0) n) (g .1) (fieldIn gs n)
+abbrev pub globalField : List (ℕ × Item) → ℕ → Item
+globalField [] n = default
+globalField (g ∷ gs) n = cond (eqb (g .0) n) (g .1) (globalField gs n)
 
--- what is an integer in one model is that integer in the other
-pub record IntegersOf (m k : Model) : Type 0 where
-  pub values : (i j : ℕ) (neg : Bool) (size : ℕ) → valueIn m i j ≡ whole neg size → valueIn k i j ≡ whole neg size
-  pub fields : (n : ℕ) (neg : Bool) (size : ℕ) → fieldIn (m .globals) n ≡ whole neg size
-      → fieldIn (k .globals) n ≡ whole neg size
+-- a model is told, and in it every integer of m stands where it stands in m
+pub record IntegersIn (told : Outcome Model) (m : Model) : Type 0 where
+  pub model : Model
+  pub is-told : told ≡ accepted model
+  pub values : (i j : ℕ) (neg : Bool) (size : ℕ) → entryValue m i j ≡ whole neg size → entryValue model i j ≡ whole neg size
+  pub fields : (n : ℕ) (neg : Bool) (size : ℕ) → globalField (m .globals) n ≡ whole neg size
+      → globalField (model .globals) n ≡ whole neg size
 
--- an integer of a file, wherever it stands, is that integer in its sheet and in the file that is written of the sheet
+-- an integer of a file, wherever it stands, is that integer in its sheet, and in the file that is written of the sheet
 abbrev pub IntegerKept : Type 0
 IntegerKept =
-    (list : ℕ) (f s g : List ℕ) (m k n : Model) → reads list f ≡ accepted s → readModel list f ≡ accepted m
-    → writeModel list s ≡ accepted k → writes list s ≡ accepted g → readModel list g ≡ accepted n
-    → IntegersOf m k × IntegersOf m n
+    (list : ℕ) (f s : List ℕ) (m : Model) → reads list f ≡ accepted s → readModel list f ≡ accepted m
+    → IntegersIn (writeModel list s) m × ((g : List ℕ) → writes list s ≡ accepted g → IntegersIn (readModel list g) m)
