@@ -1,5 +1,5 @@
-// plain: reading and writing as document 01 says it, in ordinary C++ and apart from the proved code. The tests compare the two,
-// and the bench takes this one as what a careful programmer would have written by hand.
+// plain: reading and writing as documents 01 and 02 say it, in ordinary C++ and apart from the proved code. The tests compare the
+// two, and the bench takes this one as what a careful programmer would have written by hand.
 #pragma once
 
 #include <cstddef>

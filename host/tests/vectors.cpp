@@ -1,4 +1,4 @@
-// Runs the archive and plain over the vectors: inputs with the answer that document 01 gives, worked out apart from both.
+// Runs the archive and plain over the vectors: inputs with the answer that documents 01 and 02 give, worked out apart from both.
 //
 // The vectors stand in one file, which the proved program `vectors` reads too; host/pack.py makes it. For each seven numbers of
 // eight digits (0 to read and 1 to write; list; number and place of the answer; how long its name, its input and its output are), a
