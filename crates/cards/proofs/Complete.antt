@@ -13,15 +13,15 @@ use Rattle.cards.specs.declared.Placed.TheVariants.{Here}
 use Rattle.cards.specs.declared.LineStep.TheVariants.{Next}
 use Rattle.cards.specs.declared.CardsRead.TheVariants.{Counted}
 use Rattle.columns.specs.Columns.{line_at}
-use Rattle.columns.specs.Format.{mostLines}
-use Rattle.cards.specs.Cards.{lines_from, lines_of, counts, place_of, numberedOf, step_of, pass, totals, closes, start, cardsOf, total}
-use Rattle.cards.specs.Rules.{Holds, LineIs, letterAt, number_at, Meets}
+use Rattle.columns.specs.Format.{most_lines}
+use Rattle.cards.specs.Cards.{lines_from, lines_of, counts, place_of, numbered_of, step_of, pass, totals, closes, start, cards_of, total}
+use Rattle.cards.specs.Rules.{Holds, LineIs, letter_at, number_at, Meets}
 use Rattle.cards.proofs.Growth.{at-s, at_g, at-d, at_p, at-t, sound}
-use Rattle.cards.proofs.Laws.{here-here, place-s, place-g, place-d, place-p, place-t, whole-lines, file-good}
+use Rattle.cards.proofs.Laws.{here-here, place-s, place-g, place-d, place-p, place-t, whole_lines, file_good}
 
-line-steps : {b n : ℕ} {l : List ℕ} → LineIs b n l → (c q : Counts) (left : ℕ) → place_of c left b ≡ Here q n → step_of c left l ≡ Next q
-unfolding step_of numberedOf
-line-steps h c q left e = rw (h.ok, h.letter, e, h.number)
+line_steps : {b n : ℕ} {l : List ℕ} → LineIs b n l → (c q : Counts) (left : ℕ) → place_of c left b ≡ Here q n → step_of c left l ≡ Next q
+unfolding step_of numbered_of
+line_steps h c q left e = rw (h.ok, h.letter, e, h.number)
 
 pass-one : (c q : Counts) (k : ℕ) (l : List ℕ) (ls : List (List ℕ)) → step_of c (length ls) l ≡ Next q → pass c k (l ∷ ls) ≡ pass q (k + 1) ls
 unfolding pass
@@ -43,7 +43,7 @@ module _ (f : List ℕ) (b : ℕ) (C : ℕ → Counts) (ok : (n left : ℕ) → 
       let ls : List (List ℕ) = lines_from f (at + 1) m ++ rest in
       let (i, j) : (n + 1 + m ≡ n + suc m) × (k + 1 + m ≡ k + suc m) = (omega arith, omega arith) in
       let l : LineIs b (n + 1) (line_at f at) = rw (add-zero n, add-zero at) at (h 0 (omega arith)) in
-      pass-one (C n) (C (n + 1)) k (line_at f at) ls (line-steps l (C n) (C (n + 1)) (length ls) (ok n (length ls) (λ z. omega (arith, length-append (lines_from f (at + 1) m) rest))))
+      pass-one (C n) (C (n + 1)) k (line_at f at) ls (line_steps l (C n) (C (n + 1)) (length ls) (ok n (length ls) (λ z. omega (arith, length-append (lines_from f (at + 1) m) rest))))
       ∙ (rw (← i, ← j) (pass-from m (n + 1) (at + 1) (k + 1) rest (λ i l. shift i (h (suc i) (omega arith))) r))
     where
       shift : (i : ℕ) → LineIs b (n + suc i + 1) (line_at f (at + suc i)) → LineIs b (n + 1 + i + 1) (line_at f (at + 1 + i))
@@ -55,20 +55,20 @@ module _ (f : List ℕ) (b : ℕ) (C : ℕ → Counts) (ok : (n left : ℕ) → 
   pass-run m at k rest h r = rw (zero-add m) at (pass-from m 0 at k rest (λ i l. rw (zero-add i) (h i l)) r)
 
 -- what each letter does where it stands
-ok-s : (n left : ℕ) → (left ≡ 0 → ⊥) → place_of (counts n 0 0 0 0) left 83 ≡ Here (counts (n + 1) 0 0 0 0) (n + 1)
-ok-s n left m = sym (place-s (counts n 0 0 0 0) left 83 (λ z. omega arith) m _ _ refl refl refl)
+ok_s : (n left : ℕ) → (left ≡ 0 → ⊥) → place_of (counts n 0 0 0 0) left 83 ≡ Here (counts (n + 1) 0 0 0 0) (n + 1)
+ok_s n left m = sym (place-s (counts n 0 0 0 0) left 83 (λ z. omega arith) m _ _ refl refl refl)
 
-ok-g : (s : ℕ) → 1 ≤ s → (n left : ℕ) → (left ≡ 0 → ⊥) → place_of (counts s n 0 0 0) left 71 ≡ Here (counts s (n + 1) 0 0 0) (n + 1)
-ok-g s h n left m = sym (place-g (counts s n 0 0 0) left 71 (λ z. omega arith) m (λ z. omega arith) _ _ refl refl (here-here s 0 (n + 1) (counts s (n + 1) 0 0 0) (λ z. omega arith) refl))
+ok_g : (s : ℕ) → 1 ≤ s → (n left : ℕ) → (left ≡ 0 → ⊥) → place_of (counts s n 0 0 0) left 71 ≡ Here (counts s (n + 1) 0 0 0) (n + 1)
+ok_g s h n left m = sym (place-g (counts s n 0 0 0) left 71 (λ z. omega arith) m (λ z. omega arith) _ _ refl refl (here-here s 0 (n + 1) (counts s (n + 1) 0 0 0) (λ z. omega arith) refl))
 
-ok-d : (s g : ℕ) → 1 ≤ g → (n left : ℕ) → (left ≡ 0 → ⊥) → place_of (counts s g n 0 0) left 68 ≡ Here (counts s g (n + 1) 0 0) (n + 1)
-ok-d s g h n left m = sym (place-d (counts s g n 0 0) left 68 (λ z. omega arith) m (λ z. omega arith) (λ z. omega arith) _ _ refl refl (here-here g 0 (n + 1) (counts s g (n + 1) 0 0) (λ z. omega arith) refl))
+ok_d : (s g : ℕ) → 1 ≤ g → (n left : ℕ) → (left ≡ 0 → ⊥) → place_of (counts s g n 0 0) left 68 ≡ Here (counts s g (n + 1) 0 0) (n + 1)
+ok_d s g h n left m = sym (place-d (counts s g n 0 0) left 68 (λ z. omega arith) m (λ z. omega arith) (λ z. omega arith) _ _ refl refl (here-here g 0 (n + 1) (counts s g (n + 1) 0 0) (λ z. omega arith) refl))
 
-ok-p : (s g d : ℕ) → 1 ≤ g → (n left : ℕ) → (left ≡ 0 → ⊥) → place_of (counts s g d n 0) left 80 ≡ Here (counts s g d (n + 1) 0) (n + 1)
-ok-p s g d h n left m = sym (place-p (counts s g d n 0) left 80 (λ z. omega arith) m (λ z. omega arith) (λ z. omega arith) (λ z. omega arith) _ _ refl refl (here-here g 0 (n + 1) (counts s g d (n + 1) 0) (λ z. omega arith) refl))
+ok_p : (s g d : ℕ) → 1 ≤ g → (n left : ℕ) → (left ≡ 0 → ⊥) → place_of (counts s g d n 0) left 80 ≡ Here (counts s g d (n + 1) 0) (n + 1)
+ok_p s g d h n left m = sym (place-p (counts s g d n 0) left 80 (λ z. omega arith) m (λ z. omega arith) (λ z. omega arith) (λ z. omega arith) _ _ refl refl (here-here g 0 (n + 1) (counts s g d (n + 1) 0) (λ z. omega arith) refl))
 
-ok-t : (s g d p : ℕ) → 1 ≤ g → place_of (counts s g d p 0) 0 84 ≡ Here (counts s g d p 1) 1
-ok-t s g d p h = sym (place-t (counts s g d p 0) 0 84 _ _ refl refl (here-here g 0 1 (counts s g d p 1) (λ z. omega arith) refl))
+ok_t : (s g d p : ℕ) → 1 ≤ g → place_of (counts s g d p 0) 0 84 ≡ Here (counts s g d p 1) 1
+ok_t s g d p h = sym (place-t (counts s g d p 0) 0 84 _ _ refl refl (here-here g 0 1 (counts s g d p 1) (λ z. omega arith) refl))
 
 -- ---- the whole file
 
@@ -82,9 +82,9 @@ lines_split f (suc a) b k =
 -- the same rules, section by section
 pub record Sections (f : List ℕ) (s g d p : ℕ) : Type 0 where
   pub size : length f ≡ 81 * (s + g + d + p + 1)
-  pub most : s + g + d + p + 1 ≤ mostLines
-  pub has-s : 1 ≤ s
-  pub has-g : 1 ≤ g
+  pub most : s + g + d + p + 1 ≤ most_lines
+  pub has_s : 1 ≤ s
+  pub has_g : 1 ≤ g
   pub even : d % 2 ≡ 0
   pub s-lines : Run f 83 0 s
   pub g-lines : Run f 71 s g
@@ -106,35 +106,35 @@ module _ (f : List ℕ) (s g d p : ℕ) (h : Sections f s g d p) where
   pass-file : pass start 1 (lines_of f) ≡ Counted (counts s g d p 1)
   unfolding pass
   pass-file = rw all_lines
-      (pass-run f 83 (λ n. counts n 0 0 0 0) ok-s s 0 1 _ h.s-lines (simp length-append (omega arith))
-      ∙ pass-run f 71 (λ n. counts s n 0 0 0) (ok-g s h.has-s) g s _ _ h.g-lines (simp length-append (omega arith))
-      ∙ pass-run f 68 (λ n. counts s g n 0 0) (ok-d s g h.has-g) d (s + g) _ _ h.d-lines (simp length-append (omega arith))
-      ∙ pass-run f 80 (λ n. counts s g d n 0) (ok-p s g d h.has-g) p (s + g + d) _ (T ∷ []) h.p-lines (omega arith)
-      ∙ pass-one (counts s g d p 0) (counts s g d p 1) _ T [] (line-steps h.t-line (counts s g d p 0) (counts s g d p 1) 0 (ok-t s g d p h.has-g)))
+      (pass-run f 83 (λ n. counts n 0 0 0 0) ok_s s 0 1 _ h.s-lines (simp length-append (omega arith))
+      ∙ pass-run f 71 (λ n. counts s n 0 0 0) (ok_g s h.has_s) g s _ _ h.g-lines (simp length-append (omega arith))
+      ∙ pass-run f 68 (λ n. counts s g n 0 0) (ok_d s g h.has_g) d (s + g) _ _ h.d-lines (simp length-append (omega arith))
+      ∙ pass-run f 80 (λ n. counts s g d n 0) (ok_p s g d h.has_g) p (s + g + d) _ (T ∷ []) h.p-lines (omega arith)
+      ∙ pass-one (counts s g d p 0) (counts s g d p 1) _ T [] (line_steps h.t-line (counts s g d p 0) (counts s g d p 1) 0 (ok_t s g d p h.has_g)))
 
   closing : closes (counts s g d p 1) T ≡ true
   unfolding closes
   closing = rw (eq-eqb _ _ h.even) h.t-totals
 
-  pub accepted : cardsOf f ≡ Counted (counts s g d p 1)
+  pub accepted : cards_of f ≡ Counted (counts s g d p 1)
   accepted =
       let size : length f ≡ 81 * (s + g + d + p + 1) = h.size in
-      let most : s + g + d + p + 1 ≤ mostLines = h.most in
+      let most : s + g + d + p + 1 ≤ most_lines = h.most in
       let at : length f / 81 - 1 ≡ s + g + d + p = omega arith in
-      sym (file-good f true (whole-lines (length f) true (omega arith) (omega arith) (sym (le-leb (length f / 81) mostLines (omega arith)))) refl (counts s g d p 1) true (sym pass-file) (sym (rw at closing)) refl)
+      sym (file_good f true (whole_lines (length f) true (omega arith) (omega arith) (sym (le-leb (length f / 81) most_lines (omega arith)))) refl (counts s g d p 1) true (sym pass-file) (sym (rw at closing)) refl)
 
 -- ---- a file is accepted exactly if it meets the rules
 
-meets-sections : (f : List ℕ) (c : Counts) → Meets f c → Sections f c.s c.g c.d c.p
+meets_sections : (f : List ℕ) (c : Counts) → Meets f c → Sections f c.s c.g c.d c.p
 unfolding totals
-meets-sections f c m =
+meets_sections f c m =
     let h : Holds f c = m.holds in
-    let t : c.t ≡ 1 = h.has-t in
+    let t : c.t ≡ 1 = h.has_t in
     record {
       size = omega (arith, h.size);
       most = omega (arith, h.most);
-      has-s = h.has-s;
-      has-g = h.has-g;
+      has_s = h.has_s;
+      has_g = h.has_g;
       even = h.even;
       s-lines = λ i h. line-at (0 + i) (i + 1) (omega arith) (at-s c (0 + i) i (omega arith) h);
       g-lines = λ i h. line-at (c.s + i) (i + 1) (omega arith) (at_g c (c.s + i) i refl h);
@@ -144,11 +144,11 @@ meets-sections f c m =
       t-totals = m.tells;
     }
   where
-    line-at : {b : ℕ} (i n : ℕ) → i < total c → (letterAt c i ≡ b) × (number_at c i ≡ n) → LineIs b n (line_at f i)
+    line-at : {b : ℕ} (i n : ℕ) → i < total c → (letter_at c i ≡ b) × (number_at c i ≡ n) → LineIs b n (line_at f i)
     line-at i n h e = rw (e.0, e.1) at (m.line i h)
 
-pub complete : (f : List ℕ) (c : Counts) → Meets f c → cardsOf f ≡ Counted c
-complete f c m = accepted f c.s c.g c.d c.p (meets-sections f c m) ∙ ap (λ (t : ℕ). Counted (counts c.s c.g c.d c.p t)) (sym m.holds.has-t)
+pub complete : (f : List ℕ) (c : Counts) → Meets f c → cards_of f ≡ Counted c
+complete f c m = accepted f c.s c.g c.d c.p (meets_sections f c m) ∙ ap (λ (t : ℕ). Counted (counts c.s c.g c.d c.p t)) (sym m.holds.has_t)
 
-pub rules : (f : List ℕ) (c : Counts) → (cardsOf f ≡ Counted c) ↔ Meets f c
-rules f c = (λ e. sound f c (cardsOf f) refl e, complete f c)
+pub rules : (f : List ℕ) (c : Counts) → (cards_of f ≡ Counted c) ↔ Meets f c
+rules f c = (λ e. sound f c (cards_of f) refl e, complete f c)

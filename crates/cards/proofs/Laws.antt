@@ -12,7 +12,7 @@ use Rattle.columns.specs.Columns.{columns, printable, blank, line_at}
 use Rattle.columns.specs.Fixed.{field_of, is_number}
 use Rattle.columns.proofs.Columns.{byte_of, columns_of}
 use Rattle.columns.proofs.Tests.{both_left, both_right}
-use Rattle.cards.specs.Shared.{fileLine}
+use Rattle.cards.specs.Shared.{file_line}
 use Rattle.cards.specs.declared.Counts.{Counts}
 use Rattle.cards.specs.declared.Placed.{Placed}
 use Rattle.cards.specs.declared.Placed.TheVariants.{Here, Nowhere}
@@ -22,26 +22,26 @@ use Rattle.cards.specs.declared.CardsRead.{CardsRead}
 use Rattle.cards.specs.declared.CardsRead.TheVariants.{Counted, Refused}
 use Rattle.columns.specs.declared.Fault.{Fault}
 use Rattle.columns.specs.declared.Fault.TheVariants.{ListOrLength, Byte, Section, Sequence, Terminate}
-use Rattle.columns.specs.Format.{mostLines}
-use Rattle.cards.proofs.Growth.{one_more, length-linesFrom}
-use Rattle.cards.specs.Cards.{lines_from, lines_of, lineOk, seven, counts, here, place_of, numberedOf, step_of, pass, tells, totals, closes, start, closed, lengthOk, cardsOf}
+use Rattle.columns.specs.Format.{most_lines}
+use Rattle.cards.proofs.Growth.{one_more, length_lines_from}
+use Rattle.cards.specs.Cards.{lines_from, lines_of, line_ok, seven, counts, here, place_of, numbered_of, step_of, pass, tells, totals, closes, start, closed, length_ok, cards_of}
 
 -- ---- a line's bytes and LF
 
-pub line-no-end : (f : List ℕ) (at : ℕ) → (get_or f (at + 80) 0 ≡ 10 → ⊥) → eqb (get_or f (at + 80) 0) 10 ≡ lineOk (columns f at (at + 81))
-unfolding lineOk
-line-no-end f at h = rw (byte_of f at (at + 81) 80 (omega arith), ne_eqb _ _ h)
+pub line_no_end : (f : List ℕ) (at : ℕ) → (get_or f (at + 80) 0 ≡ 10 → ⊥) → eqb (get_or f (at + 80) 0) 10 ≡ line_ok (columns f at (at + 81))
+unfolding line_ok
+line_no_end f at h = rw (byte_of f at (at + 81) 80 (omega arith), ne_eqb _ _ h)
 
-pub line-end : (f : List ℕ) (at : ℕ) (r : Bool) → get_or f (at + 80) 0 ≡ 10 → r ≡ printable (columns f at (at + 80)) → r ≡ lineOk (columns f at (at + 81))
-unfolding lineOk
+pub line-end : (f : List ℕ) (at : ℕ) (r : Bool) → get_or f (at + 80) 0 ≡ 10 → r ≡ printable (columns f at (at + 80)) → r ≡ line_ok (columns f at (at + 81))
+unfolding line_ok
 line-end f at r h e = rw (byte_of f at (at + 81) 80 (omega arith), eq-eqb _ _ h, columns_of f at (at + 81) 0 80 (omega arith) (omega arith), add-zero) e
 
-pub ruleset lines = (line-no-end, line-end)
+pub ruleset lines = (line_no_end, line-end)
 
 -- ---- where a line stands
 
-pub here-first : (before later n : ℕ) (c : Counts) → before ≡ 0 → Nowhere ≡ here before later c n
-here-first before later n c h = rw h
+pub here_first : (before later n : ℕ) (c : Counts) → before ≡ 0 → Nowhere ≡ here before later c n
+here_first before later n c h = rw h
 
 pub here_later : (before later n : ℕ) (c : Counts) → (before ≡ 0 → ⊥) → (later ≡ 0 → ⊥) → Nowhere ≡ here before later c n
 here_later before later n c h k = rw (lt-ltb 0 before (omega arith), ne_eqb _ _ k)
@@ -55,9 +55,9 @@ module _ (c : Counts) (left b : ℕ) where
   place-t r q h k e = rw (eq-eqb _ _ h, ← k) e
 
   module _ (n84 : b ≡ 84 → ⊥) where
-    pub place-last : left ≡ 0 → Nowhere ≡ place_of c left b
+    pub place_last : left ≡ 0 → Nowhere ≡ place_of c left b
     unfolding place_of
-    place-last h = rw (ne_eqb _ _ n84, h)
+    place_last h = rw (ne_eqb _ _ n84, h)
 
     module _ (more : left ≡ 0 → ⊥) where
       pub place-s : (r : Placed) (q : Counts) → b ≡ 83 → q ≡ counts (c.s + 1) c.g c.d c.p c.t → r ≡ here 1 (c.g + c.d + c.p + c.t) q (c.s + 1) → r ≡ place_of c left b
@@ -83,7 +83,7 @@ module _ (c : Counts) (left b : ℕ) where
             unfolding place_of
             place_none h = rw (ne_eqb _ _ n84, ne_eqb _ _ more, ne_eqb _ _ n83, ne_eqb _ _ n71, ne_eqb _ _ n68, ne_eqb _ _ h)
 
-pub ruleset places = (here-first, here_later, here-here, place-t, place-last, place-s, place-g, place-d, place-p, place_none)
+pub ruleset places = (here_first, here_later, here-here, place-t, place_last, place-s, place-g, place-d, place-p, place_none)
 
 -- ---- one line
 
@@ -100,29 +100,29 @@ tells-line : (f : List ℕ) (at a b n : ℕ) → a + 8 ≤ 81 → tells (columns
 unfolding tells
 tells-line f at a b n h = rw (byte_of f at (at + 81) a (omega arith), seven-line f at (a + 1) n (omega arith), ← add_assoc)
 
-module _ (f : List ℕ) (k left : ℕ) (c : Counts) (ok : Bool) (eo : ok ≡ lineOk (columns f (81 * k) (81 * k + 81))) where
+module _ (f : List ℕ) (k left : ℕ) (c : Counts) (ok : Bool) (eo : ok ≡ line_ok (columns f (81 * k) (81 * k + 81))) where
   pub step-bytes : ok ≡ false → Wrong Byte ≡ step_of c left (line_at f k)
   unfolding step_of line_at
   step-bytes h = rw (← eo, h)
 
   module _ (h : ok ≡ true) (x : Placed) (ex : x ≡ place_of c left (get_or f (81 * k + 72) 0)) where
-    place_at : step_of c left (line_at f k) ≡ numberedOf x (columns f (81 * k) (81 * k + 81))
+    place_at_lem : step_of c left (line_at f k) ≡ numbered_of x (columns f (81 * k) (81 * k + 81))
     unfolding step_of line_at
-    place_at = rw (← eo, h, byte_of f (81 * k) (81 * k + 81) 72 (omega arith), ← ex)
+    place_at_lem = rw (← eo, h, byte_of f (81 * k) (81 * k + 81) 72 (omega arith), ← ex)
 
-    pub step-order : x ≡ Nowhere → Wrong Section ≡ step_of c left (line_at f k)
-    unfolding numberedOf
-    step-order e = rw (place_at, e)
+    pub step_order : x ≡ Nowhere → Wrong Section ≡ step_of c left (line_at f k)
+    unfolding numbered_of
+    step_order e = rw (place_at_lem, e)
 
     pub step-number : (q : Counts) (n : ℕ) (y : Bool) → x ≡ Here q n → y ≡ is_number (field_of (columns f (81 * k + 73) (81 * k + 80))) n → y ≡ false → Wrong Sequence ≡ step_of c left (line_at f k)
-    unfolding numberedOf
-    step-number q n y e ey z = rw (place_at, e, number-line f (81 * k) n, ← ey, z)
+    unfolding numbered_of
+    step-number q n y e ey z = rw (place_at_lem, e, number-line f (81 * k) n, ← ey, z)
 
     pub step-next : (q : Counts) (n : ℕ) (y : Bool) → x ≡ Here q n → y ≡ is_number (field_of (columns f (81 * k + 73) (81 * k + 80))) n → y ≡ true → Next q ≡ step_of c left (line_at f k)
-    unfolding numberedOf
-    step-next q n y e ey z = rw (place_at, e, number-line f (81 * k) n, ← ey, z)
+    unfolding numbered_of
+    step-next q n y e ey z = rw (place_at_lem, e, number-line f (81 * k) n, ← ey, z)
 
-pub ruleset steps = (not-true, not-false, step-bytes, step-order, step-number, step-next)
+pub ruleset steps = (not-true, not-false, step-bytes, step_order, step-number, step-next)
 
 -- ---- the T line
 
@@ -130,9 +130,9 @@ pub tells-not : (f : List ℕ) (at b n : ℕ) → (get_or f at 0 ≡ b → ⊥) 
 unfolding tells
 tells-not f at b n h = rw (ne_eqb _ _ h)
 
-pub tells-so : (f : List ℕ) (at b n : ℕ) (r : Bool) → get_or f at 0 ≡ b → r ≡ is_number (field_of (columns f (at + 1) (at + 8))) n → r ≡ tells f at b n
+pub tells_so : (f : List ℕ) (at b n : ℕ) (r : Bool) → get_or f at 0 ≡ b → r ≡ is_number (field_of (columns f (at + 1) (at + 8))) n → r ≡ tells f at b n
 unfolding tells seven
-tells-so f at b n r h e =
+tells_so f at b n r h e =
     let z : at + 1 + 7 ≡ at + 8 = omega arith in
     rw (eq-eqb _ _ h, z) e
 
@@ -140,11 +140,11 @@ pub closes-odd : (f : List ℕ) (k : ℕ) (c : Counts) → (c.d % 2 ≡ 0 → �
 unfolding closes
 closes-odd f k c h = rw (ne_eqb _ _ h)
 
-pub closes-all : (f : List ℕ) (k : ℕ) (c : Counts) (r s g d p b : Bool) → c.d % 2 ≡ 0
+pub closes_all : (f : List ℕ) (k : ℕ) (c : Counts) (r s g d p b : Bool) → c.d % 2 ≡ 0
     → s ≡ tells f (81 * k) 83 c.s → g ≡ tells f (81 * k + 8) 71 c.g → d ≡ tells f (81 * k + 16) 68 c.d → p ≡ tells f (81 * k + 24) 80 c.p
     → b ≡ blank (columns f (81 * k + 32) (81 * k + 72)) → r ≡ s && (g && (d && (p && b))) → r ≡ closes c (line_at f k)
 unfolding closes totals line_at
-closes-all f k c r s g d p b h es eg ed ep eb e =
+closes_all f k c r s g d p b h es eg ed ep eb e =
     rw (
       eq-eqb _ _ h,
       tells-line f (81 * k) 0 83 c.s (omega arith),
@@ -161,7 +161,7 @@ closes-all f k c r s g d p b h es eg ed ep eb e =
     ) e
 
 -- tests one after the other
-pub ruleset ends = (tells-not, tells-so, closes-odd, closes-all)
+pub ruleset ends = (tells-not, tells_so, closes-odd, closes_all)
 
 -- ---- all lines: r is the answer
 
@@ -173,13 +173,13 @@ lines_more f k n h =
 
 module _ (r : CardsRead) (f : List ℕ) (c : Counts) (k n : ℕ) (inv : pass c (k + 1) (lines_from f k (n - k)) ≡ r) where
   module _ (lt : k < n) (x : LineStep) (ex : x ≡ step_of c (n - (k + 1)) (line_at f k)) where
-    pub pass-wrong : (w : Fault) → x ≡ Wrong w → Refused w (fileLine (k + 1)) ≡ r
+    pub pass-wrong : (w : Fault) → x ≡ Wrong w → Refused w (file_line (k + 1)) ≡ r
     unfolding pass
-    pass-wrong w e = simp (pass, length-linesFrom, ← ex, e) at (rw (lines_more f k n lt) at inv)
+    pass-wrong w e = simp (pass, length_lines_from, ← ex, e) at (rw (lines_more f k n lt) at inv)
 
     pub pass-next : (q : Counts) → x ≡ Next q → pass q (k + 1 + 1) (lines_from f (k + 1) (n - (k + 1))) ≡ r
     unfolding pass
-    pass-next q e = simp (pass, length-linesFrom, ← ex, e) at (rw (lines_more f k n lt) at inv)
+    pass-next q e = simp (pass, length_lines_from, ← ex, e) at (rw (lines_more f k n lt) at inv)
 
   pub pass-end : k ≤ n → n ≤ k → Counted c ≡ r
   unfolding pass lines_from
@@ -190,53 +190,53 @@ module _ (r : CardsRead) (f : List ℕ) (c : Counts) (k n : ℕ) (inv : pass c (
 -- ---- the whole file
 
 -- a length that is no good
-pub not-whole : (n : ℕ) → (n % 81 ≡ 0 → ⊥) → false ≡ lengthOk n
-unfolding lengthOk
-not-whole n h = rw (ne_eqb _ _ h)
+pub not_whole : (n : ℕ) → (n % 81 ≡ 0 → ⊥) → false ≡ length_ok n
+unfolding length_ok
+not_whole n h = rw (ne_eqb _ _ h)
 
-pub no_lines : (n : ℕ) → n % 81 ≡ 0 → n / 81 < 1 → false ≡ lengthOk n
-unfolding lengthOk
+pub no_lines : (n : ℕ) → n % 81 ≡ 0 → n / 81 < 1 → false ≡ length_ok n
+unfolding length_ok
 no_lines n w h = rw (eq-eqb _ _ w, lt-leb _ _ h)
 
-pub whole-lines : (n : ℕ) (r : Bool) → n % 81 ≡ 0 → 1 ≤ n / 81 → r ≡ leb (n / 81) mostLines → r ≡ lengthOk n
-unfolding lengthOk
-whole-lines n r w lo e = rw (eq-eqb _ _ w, le-leb _ _ lo) e
+pub whole_lines : (n : ℕ) (r : Bool) → n % 81 ≡ 0 → 1 ≤ n / 81 → r ≡ leb (n / 81) most_lines → r ≡ length_ok n
+unfolding length_ok
+whole_lines n r w lo e = rw (eq-eqb _ _ w, le-leb _ _ lo) e
 
-pub ruleset lengths = (not-whole, no_lines, whole-lines)
+pub ruleset lengths = (not_whole, no_lines, whole_lines)
 
 -- a length that is good
-pub some-lines : (n : ℕ) (x : Bool) → x ≡ lengthOk n → x ≡ true → 1 ≤ n / 81
-unfolding lengthOk
-some-lines n x ex h = leb-true _ _ (both_left (leb 1 (n / 81)) (leb (n / 81) mostLines) (both_right (eqb (n % 81) 0) _ (sym ex ∙ h)))
+pub some_lines : (n : ℕ) (x : Bool) → x ≡ length_ok n → x ≡ true → 1 ≤ n / 81
+unfolding length_ok
+some_lines n x ex h = leb-true _ _ (both_left (leb 1 (n / 81)) (leb (n / 81) most_lines) (both_right (eqb (n % 81) 0) _ (sym ex ∙ h)))
 
-pub few-lines : (n : ℕ) (x : Bool) → x ≡ lengthOk n → x ≡ true → n / 81 ≤ mostLines
-unfolding lengthOk
-few-lines n x ex h = leb-true _ _ (both_right (leb 1 (n / 81)) (leb (n / 81) mostLines) (both_right (eqb (n % 81) 0) _ (sym ex ∙ h)))
+pub few_lines : (n : ℕ) (x : Bool) → x ≡ length_ok n → x ≡ true → n / 81 ≤ most_lines
+unfolding length_ok
+few_lines n x ex h = leb-true _ _ (both_right (leb 1 (n / 81)) (leb (n / 81) most_lines) (both_right (eqb (n % 81) 0) _ (sym ex ∙ h)))
 
 module _ (f : List ℕ) where
-  pub not-long : (x : Bool) → x ≡ lengthOk (length f) → x ≡ false → Refused ListOrLength (fileLine 0) ≡ cardsOf f
-  unfolding cardsOf
-  not-long x ex h = rw (← ex, h)
+  pub not_long : (x : Bool) → x ≡ length_ok (length f) → x ≡ false → Refused ListOrLength (file_line 0) ≡ cards_of f
+  unfolding cards_of
+  not_long x ex h = rw (← ex, h)
 
-  module _ (y : Bool) (ey : y ≡ lengthOk (length f)) (ok : y ≡ true) where
-    inside : (r : CardsRead) → r ≡ pass start 1 (lines_of f) → cardsOf f ≡ closed f (length f / 81) r
-    unfolding cardsOf
+  module _ (y : Bool) (ey : y ≡ length_ok (length f)) (ok : y ≡ true) where
+    inside : (r : CardsRead) → r ≡ pass start 1 (lines_of f) → cards_of f ≡ closed f (length f / 81) r
+    unfolding cards_of
     inside r e = rw (← ey, ok, ← e)
 
-    pub file-wrong : (w : Fault) (k : ℕ) → Refused w (fileLine k) ≡ pass start 1 (lines_of f) → Refused w (fileLine k) ≡ cardsOf f
+    pub file-wrong : (w : Fault) (k : ℕ) → Refused w (file_line k) ≡ pass start 1 (lines_of f) → Refused w (file_line k) ≡ cards_of f
     unfolding closed
     file-wrong w k e = sym (inside _ e)
 
-    pub file-open : (c : Counts) (x : Bool) → Counted c ≡ pass start 1 (lines_of f) → x ≡ closes c (line_at f (length f / 81 - 1)) → x ≡ false → Refused Terminate (fileLine (length f / 81)) ≡ cardsOf f
+    pub file_open : (c : Counts) (x : Bool) → Counted c ≡ pass start 1 (lines_of f) → x ≡ closes c (line_at f (length f / 81 - 1)) → x ≡ false → Refused Terminate (file_line (length f / 81)) ≡ cards_of f
     unfolding closed
-    file-open c x e ex h = rw (inside _ e, ← ex, h)
+    file_open c x e ex h = rw (inside _ e, ← ex, h)
 
-    pub file-good : (c : Counts) (x : Bool) → Counted c ≡ pass start 1 (lines_of f) → x ≡ closes c (line_at f (length f / 81 - 1)) → x ≡ true → Counted c ≡ cardsOf f
+    pub file_good : (c : Counts) (x : Bool) → Counted c ≡ pass start 1 (lines_of f) → x ≡ closes c (line_at f (length f / 81 - 1)) → x ≡ true → Counted c ≡ cards_of f
     unfolding closed
-    file-good c x e ex h = rw (inside _ e, ← ex, h)
+    file_good c x e ex h = rw (inside _ e, ← ex, h)
 
 pub at-start : (f : List ℕ) → pass start (0 + 1) (lines_from f 0 (length f / 81 - 0)) ≡ pass start 1 (lines_of f)
 unfolding lines_of
 at-start f = rw sub-zero
 
-pub ruleset files = (not-true, not-false, pass-wrong, pass-next, pass-end, one_more, some-lines, few-lines, not-long, file-wrong, file-open, file-good, at-start)
+pub ruleset files = (not-true, not-false, pass-wrong, pass-next, pass-end, one_more, some_lines, few_lines, not_long, file-wrong, file_open, file_good, at-start)

@@ -5,8 +5,8 @@ use Rattle.columns.specs.declared.Fault.TheVariants.{ListOrLength, Byte, Section
 use Rattle.columns.specs.Refusal.{Outcome, accepted, refused}
 use Rattle.columns.specs.Columns.{columns, printable, blank, line_at}
 use Rattle.columns.specs.Fixed.{field_of, is_number}
-use Rattle.columns.specs.Format.{lineColumns, lineBytes, textColumns, fieldColumns, mostLines}
-use Rattle.columns.specs.Letters.{newline, letterD, letterG, letterP, letterS, letterT}
+use Rattle.columns.specs.Format.{line_columns, line_bytes, text_columns, field_columns, most_lines}
+use Rattle.columns.specs.Letters.{newline, letter_d, letter_g, letter_p, letter_s, letter_t}
 use Rattle.cards.specs.declared.Counts.{Counts}
 use Rattle.cards.specs.declared.Placed.{Placed}
 use Rattle.cards.specs.declared.Placed.TheVariants.{Here, Nowhere}
@@ -14,7 +14,7 @@ use Rattle.cards.specs.declared.LineStep.{LineStep}
 use Rattle.cards.specs.declared.LineStep.TheVariants.{Next, Wrong}
 use Rattle.cards.specs.declared.CardsRead.{CardsRead}
 use Rattle.cards.specs.declared.CardsRead.TheVariants.{Counted, Refused}
-use Rattle.cards.specs.Shared.{fileLine}
+use Rattle.cards.specs.Shared.{file_line}
 
 -- n lines of a file, from line k on
 unfoldable pub lines_from : List ℕ → ℕ → ℕ → List (List ℕ)
@@ -23,11 +23,11 @@ lines_from f k (suc n) = line_at f k ∷ lines_from f (k + 1) n
 
 -- all lines of a file
 unfoldable pub lines_of : List ℕ → List (List ℕ)
-lines_of f = lines_from f 0 (length f / lineBytes)
+lines_of f = lines_from f 0 (length f / line_bytes)
 
 -- 80 bytes from 32 to 126, then LF
-unfoldable pub lineOk : List ℕ → Bool
-lineOk l = eqb (get_or l lineColumns 0) newline && printable (columns l 0 lineColumns)
+unfoldable pub line_ok : List ℕ → Bool
+line_ok l = eqb (get_or l line_columns 0) newline && printable (columns l 0 line_columns)
 
 -- the seven columns from at on hold n
 unfoldable pub seven : List ℕ → ℕ → ℕ → Bool
@@ -49,27 +49,27 @@ here before later c n = cond (ltb 0 before && eqb later 0) (Here c n) Nowhere
 unfoldable pub place_of : Counts → ℕ → ℕ → Placed
 place_of c left b =
     let (s, g, d, p, t) : ℕ × ℕ × ℕ × ℕ × ℕ = (c.s, c.g, c.d, c.p, c.t) in
-    cond (eqb b letterT) (here g t (counts s g d p (t + 1)) (t + 1))
+    cond (eqb b letter_t) (here g t (counts s g d p (t + 1)) (t + 1))
     (cond (eqb left 0) Nowhere
-    (cond (eqb b letterS) (here 1 (g + d + p + t) (counts (s + 1) g d p t) (s + 1))
-    (cond (eqb b letterG) (here s (d + p + t) (counts s (g + 1) d p t) (g + 1))
-    (cond (eqb b letterD) (here g (p + t) (counts s g (d + 1) p t) (d + 1))
-    (cond (eqb b letterP) (here g t (counts s g d (p + 1) t) (p + 1))
+    (cond (eqb b letter_s) (here 1 (g + d + p + t) (counts (s + 1) g d p t) (s + 1))
+    (cond (eqb b letter_g) (here s (d + p + t) (counts s (g + 1) d p t) (g + 1))
+    (cond (eqb b letter_d) (here g (p + t) (counts s g (d + 1) p t) (d + 1))
+    (cond (eqb b letter_p) (here g t (counts s g d (p + 1) t) (p + 1))
     Nowhere)))))
 
 -- its number in columns 74-80
-unfoldable pub numberedOf : Placed → List ℕ → LineStep
-numberedOf Nowhere l = Wrong Section
-numberedOf (Here c n) l = cond (seven l (textColumns + 1) n) (Next c) (Wrong Sequence)
+unfoldable pub numbered_of : Placed → List ℕ → LineStep
+numbered_of Nowhere l = Wrong Section
+numbered_of (Here c n) l = cond (seven l (text_columns + 1) n) (Next c) (Wrong Sequence)
 
 -- one line: its bytes, then its place, then its number
 unfoldable pub step_of : Counts → ℕ → List ℕ → LineStep
-step_of c left l = cond (lineOk l) (numberedOf (place_of c left (get_or l textColumns 0)) l) (Wrong Byte)
+step_of c left l = cond (line_ok l) (numbered_of (place_of c left (get_or l text_columns 0)) l) (Wrong Byte)
 
 -- line by line, the first of them line k of the file
 unfoldable pub pass : Counts → ℕ → List (List ℕ) → CardsRead
 pass c k [] = Counted c
-pass c k (l ∷ ls) = elim (step_of c (length ls) l) [ Wrong w ↦ Refused w (fileLine k) | Next q ↦ pass q (k + 1) ls ]
+pass c k (l ∷ ls) = elim (step_of c (length ls) l) [ Wrong w ↦ Refused w (file_line k) | Next q ↦ pass q (k + 1) ls ]
 
 -- a letter and a section's last sequence number
 unfoldable pub tells : List ℕ → ℕ → ℕ → ℕ → Bool
@@ -78,10 +78,10 @@ tells l at b n = eqb (get_or l at 0) b && seven l (at + 1) n
 -- the T line: four of these, then blanks
 unfoldable pub totals : Counts → List ℕ → Bool
 totals c l =
-    tells l 0 letterS c.s
-    && (tells l fieldColumns letterG c.g
-    && (tells l (2 * fieldColumns) letterD c.d
-    && (tells l (3 * fieldColumns) letterP c.p && blank (columns l (4 * fieldColumns) textColumns))))
+    tells l 0 letter_s c.s
+    && (tells l field_columns letter_g c.g
+    && (tells l (2 * field_columns) letter_d c.d
+    && (tells l (3 * field_columns) letter_p c.p && blank (columns l (4 * field_columns) text_columns))))
 
 -- the D lines are even in number, and T tells the counts
 unfoldable pub closes : Counts → List ℕ → Bool
@@ -94,15 +94,15 @@ start = counts 0 0 0 0 0
 -- after all lines: the T line, which is line n
 unfoldable pub closed : List ℕ → ℕ → CardsRead → CardsRead
 closed f n (Refused w k) = Refused w k
-closed f n (Counted c) = cond (closes c (line_at f (n - 1))) (Counted c) (Refused Terminate (fileLine n))
+closed f n (Counted c) = cond (closes c (line_at f (n - 1))) (Counted c) (Refused Terminate (file_line n))
 
 -- a length of whole lines, from 1 to the most
-unfoldable pub lengthOk : ℕ → Bool
-lengthOk n = eqb (n % lineBytes) 0 && (leb 1 (n / lineBytes) && leb (n / lineBytes) mostLines)
+unfoldable pub length_ok : ℕ → Bool
+length_ok n = eqb (n % line_bytes) 0 && (leb 1 (n / line_bytes) && leb (n / line_bytes) most_lines)
 
 -- the counts of a file's sections, or its first refusal of 1 to 5
-unfoldable pub cardsOf : List ℕ → CardsRead
-cardsOf f = cond (lengthOk (length f)) (closed f (length f / lineBytes) (pass start 1 (lines_of f))) (Refused ListOrLength (fileLine 0))
+unfoldable pub cards_of : List ℕ → CardsRead
+cards_of f = cond (length_ok (length f)) (closed f (length f / line_bytes) (pass start 1 (lines_of f))) (Refused ListOrLength (file_line 0))
 
 -- the same as an outcome
 abbrev pub outcome : CardsRead → Outcome Counts
@@ -110,29 +110,29 @@ outcome (Counted c) = accepted c
 outcome (Refused w k) = refused w k.0
 
 -- where the sections start: the index of each one's first line, from 0; of G,
-abbrev pub firstG : Counts → ℕ
-firstG c = c.s
+abbrev pub first_g : Counts → ℕ
+first_g c = c.s
 
 -- of D,
-abbrev pub firstD : Counts → ℕ
-firstD c = c.s + c.g
+abbrev pub first_d : Counts → ℕ
+first_d c = c.s + c.g
 
 -- of P,
-abbrev pub firstP : Counts → ℕ
-firstP c = c.s + c.g + c.d
+abbrev pub first_p : Counts → ℕ
+first_p c = c.s + c.g + c.d
 
 -- and the T line's
-abbrev pub firstT : Counts → ℕ
-firstT c = c.s + c.g + c.d + c.p
+abbrev pub first_t : Counts → ℕ
+first_t c = c.s + c.g + c.d + c.p
 
 -- how many entries there are: two D lines each
 abbrev pub entries : Counts → ℕ
 entries c = c.d / 2
 
 -- the index of entry i's first line; entries are counted from 0
-abbrev pub entryLine : Counts → ℕ → ℕ
-entryLine c i = firstD c + 2 * i
+abbrev pub entry_line : Counts → ℕ → ℕ
+entry_line c i = first_d c + 2 * i
 
 -- the index of P line k; P lines are counted from 1
-abbrev pub parameterLine : Counts → ℕ → ℕ
-parameterLine c k = firstP c + (k - 1)
+abbrev pub parameter_line : Counts → ℕ → ℕ
+parameter_line c k = first_p c + (k - 1)

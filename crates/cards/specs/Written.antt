@@ -1,15 +1,15 @@
 -- A file that is put together: 72 columns, the section's letter, the number in its section with leading zeros, LF; the T line last.
 use Rattle.std.specs.Prelude.{ℕ, ◌+◌, ◌-◌, ◌*◌, ◌≡◌, true, List, [], ◌∷◌, ◌++◌, length, replicate}
 use Rattle.columns.specs.Columns.{printable, joined}
-use Rattle.columns.specs.Decimal.{zeroFilled}
-use Rattle.columns.specs.Format.{textColumns, fieldColumns, numberColumns}
-use Rattle.columns.specs.Letters.{newline, space, letterD, letterG, letterP, letterS, letterT}
+use Rattle.columns.specs.Decimal.{zero_filled}
+use Rattle.columns.specs.Format.{text_columns, field_columns, number_columns}
+use Rattle.columns.specs.Letters.{newline, space, letter_d, letter_g, letter_p, letter_s, letter_t}
 use Rattle.cards.specs.declared.Counts.{Counts}
 use Rattle.cards.specs.Cards.{counts}
 
 -- the 72 columns of a line
 pub record Body (x : List ℕ) : Type 0 where
-  pub wide : length x ≡ textColumns
+  pub wide : length x ≡ text_columns
   pub good : printable x ≡ true
 
 -- all of a list are such
@@ -23,7 +23,7 @@ Bodies = All Body
 
 -- n in seven columns
 unfoldable pub zeros : ℕ → List ℕ
-zeros n = zeroFilled numberColumns n
+zeros n = zero_filled number_columns n
 
 -- a line of these columns, this letter and this number
 unfoldable pub line_of : List ℕ → ℕ → ℕ → List ℕ
@@ -35,22 +35,22 @@ section b n [] = []
 section b n (x ∷ xs) = line_of x b n ∷ section b (n + 1) xs
 
 -- the columns of T
-unfoldable pub totalsOf : Counts → List ℕ
-totalsOf c =
-    (letterS ∷ zeros c.s)
-    ++ ((letterG ∷ zeros c.g)
-    ++ ((letterD ∷ zeros c.d) ++ ((letterP ∷ zeros c.p) ++ replicate (textColumns - 4 * fieldColumns) space)))
+unfoldable pub totals_of : Counts → List ℕ
+totals_of c =
+    (letter_s ∷ zeros c.s)
+    ++ ((letter_g ∷ zeros c.g)
+    ++ ((letter_d ∷ zeros c.d) ++ ((letter_p ∷ zeros c.p) ++ replicate (text_columns - 4 * field_columns) space)))
 
 -- the counts of a file with these S, G, D and P lines
-abbrev pub countsOf : List (List ℕ) → List (List ℕ) → List (List ℕ) → List (List ℕ) → Counts
-countsOf S G D P = counts (length S) (length G) (length D) (length P) 1
+abbrev pub counts_of : List (List ℕ) → List (List ℕ) → List (List ℕ) → List (List ℕ) → Counts
+counts_of S G D P = counts (length S) (length G) (length D) (length P) 1
 
 -- all its lines
-unfoldable pub fileLines : List (List ℕ) → List (List ℕ) → List (List ℕ) → List (List ℕ) → List (List ℕ)
-fileLines S G D P =
-    section letterS 1 S ++ (section letterG 1 G
-    ++ (section letterD 1 D ++ (section letterP 1 P ++ (line_of (totalsOf (countsOf S G D P)) letterT 1 ∷ []))))
+unfoldable pub file_lines : List (List ℕ) → List (List ℕ) → List (List ℕ) → List (List ℕ) → List (List ℕ)
+file_lines S G D P =
+    section letter_s 1 S ++ (section letter_g 1 G
+    ++ (section letter_d 1 D ++ (section letter_p 1 P ++ (line_of (totals_of (counts_of S G D P)) letter_t 1 ∷ []))))
 
 -- the file, given the columns of its S, G, D and P lines
-unfoldable pub fileOf : List (List ℕ) → List (List ℕ) → List (List ℕ) → List (List ℕ) → List ℕ
-fileOf S G D P = joined (fileLines S G D P)
+unfoldable pub file_of : List (List ℕ) → List (List ℕ) → List (List ℕ) → List (List ℕ) → List ℕ
+file_of S G D P = joined (file_lines S G D P)

@@ -2,7 +2,7 @@
 // Crate `cards_line` looks at one line, `cards_pass` goes over all.
 
 ghost use Rattle.std.specs.Prelude.{◌≡◌, ◌+◌, ◌*◌, ◌^◌, ◌<◌, ◌≤◌};
-ghost use Rattle.cards.specs.Cards.{lengthOk, entryLine, parameterLine};
+ghost use Rattle.cards.specs.Cards.{length_ok, entry_line, parameter_line};
 
 use columns::format::{LINE_BYTES, MOST_LINES};
 use columns::{DirectoryNumber, Fault, FileLine, ParameterLine, wide};
@@ -40,7 +40,7 @@ pub enum CardsRead {
 
 // Whether a length is one of whole lines, from 1 to the most.
 pub fn length_ok(len: usize) -> bool
-    ensures { result ≡ lengthOk len }
+    ensures { result ≡ length_ok len }
 {
     if len % LINE_BYTES != 0 {
         return false;
@@ -67,7 +67,7 @@ pub fn entry_number(i: usize) -> DirectoryNumber
 // The index of entry i's first line.
 pub fn entry_line(c: Counts, i: usize) -> usize
     requires { i < 2 ^ 32 }
-    ensures { (result ≡ entryLine c i) × (result < 2 ^ 40) }
+    ensures { (result ≡ entry_line c i) × (result < 2 ^ 40) }
 {
     wide(c.s) + wide(c.g) + 2 * i
 }
@@ -75,7 +75,7 @@ pub fn entry_line(c: Counts, i: usize) -> usize
 // The index of P line k.
 pub fn parameter_line(c: Counts, k: ParameterLine) -> usize
     requires { 1 ≤ k.0 }
-    ensures { (result ≡ parameterLine c k.0) × (result < 2 ^ 40) }
+    ensures { (result ≡ parameter_line c k.0) × (result < 2 ^ 40) }
 {
     wide(c.s) + wide(c.g) + wide(c.d) + (wide(k.0) - 1)
 }

@@ -1,8 +1,8 @@
 // One line: its bytes, where it stands, its number.
 ghost use Rattle.std.specs.Prelude.{◌≡◌, ◌+◌, ◌*◌, ◌<◌, ◌≤◌, length};
 ghost use Rattle.columns.specs.Columns.{columns, line_at};
-ghost use Rattle.columns.specs.Format.{lineBytes, mostLines};
-ghost use Rattle.cards.specs.Cards.{lineOk, counts, here, place_of, step_of, total};
+ghost use Rattle.columns.specs.Format.{line_bytes, most_lines};
+ghost use Rattle.cards.specs.Cards.{line_ok, counts, here, place_of, step_of, total};
 
 use cards::{Counts, LineStep, Placed};
 use columns::Fault;
@@ -13,8 +13,8 @@ const NUMBER: usize = TEXT_COLUMNS + 1;
 
 // Whether the line from `at` on has 80 bytes from 32 to 126, then LF.
 fn line_ok(file: &[u8], at: usize) -> bool
-    requires { at + lineBytes ≤ length file.now }
-    ensures { result ≡ lineOk (columns file.now at (at + lineBytes)) }
+    requires { at + line_bytes ≤ length file.now }
+    ensures { result ≡ line_ok (columns file.now at (at + line_bytes)) }
 {
     file[at + LINE_COLUMNS] == b'\n' && columns::look::is_printable(file, at, at + LINE_COLUMNS)
 }
@@ -40,7 +40,7 @@ fn counted(s: u32, g: u32, d: u32, p: u32, t: u32) -> Counts
 
 // Where a line of this letter stands, of which `left` more lines follow.
 fn place(c: Counts, left: usize, letter: u8) -> Placed
-    requires { total c < mostLines }
+    requires { total c < most_lines }
     ensures { result ≡ place_of c left letter }
 {
     let s = c.s;
@@ -71,8 +71,8 @@ fn place(c: Counts, left: usize, letter: u8) -> Placed
 
 // What line k does, of which `left` more lines follow.
 pub fn step_line(file: &[u8], k: usize, left: usize, c: Counts) -> LineStep
-    requires line_bytes_in_bounds { lineBytes * k + lineBytes ≤ length file.now }
-    requires c_bound { total c < mostLines }
+    requires line_bytes_in_bounds { line_bytes * k + line_bytes ≤ length file.now }
+    requires c_bound { total c < most_lines }
     ensures { result ≡ step_of c left (line_at file.now k) }
 {
     let at = LINE_BYTES * k;

@@ -2,7 +2,7 @@
 mod terminate;
 
 ghost use Rattle.std.specs.Prelude.{◌≡◌, ◌+◌, ◌<◌};
-ghost use Rattle.cards.specs.Cards.{cardsOf};
+ghost use Rattle.cards.specs.Cards.{cards_of};
 ghost use Rattle.cards.specs.Rules.{Known};
 
 use cards::{CardsRead, Counts, LineStep, length_ok};
@@ -11,7 +11,7 @@ use columns::{Fault, FileLine};
 
 // The counts of a file's sections, or the first refusal of its lines.
 pub fn cards(file: &[u8]) -> CardsRead
-    ensures value { result ≡ cardsOf file.now }
+    ensures value { result ≡ cards_of file.now }
     ensures known { Known file.now result }
 {
     if !length_ok(file.len()) {

@@ -1,7 +1,7 @@
 // The T line, the last of a file: it tells the counts of the sections.
 ghost use Rattle.std.specs.Prelude.{◌≡◌, false, ◌&&◌, ◌+◌, ◌*◌, ◌≤◌, length};
 ghost use Rattle.columns.specs.Columns.{line_at};
-ghost use Rattle.columns.specs.Format.{lineBytes};
+ghost use Rattle.columns.specs.Format.{line_bytes};
 ghost use Rattle.cards.specs.Cards.{tells, closes};
 
 use cards::Counts;
@@ -33,7 +33,7 @@ fn all_five(a: bool, b: bool, c: bool, d: bool, e: bool) -> bool
 
 // Whether line k is the T line of these counts.
 pub fn closes_at(file: &[u8], k: usize, c: Counts) -> bool
-    requires { lineBytes * k + lineBytes ≤ length file.now }
+    requires { line_bytes * k + line_bytes ≤ length file.now }
     ensures { result ≡ closes c (line_at file.now k) }
 {
     let at = LINE_BYTES * k;

@@ -30,13 +30,13 @@ columns-end s i end h =
     rw e
 
 -- all columns
-pub columns-all : (s : List ℕ) → columns s 0 (length s) ≡ s
+pub columns_all : (s : List ℕ) → columns s 0 (length s) ≡ s
 unfolding columns
-columns-all s = rw sub-zero (take_all (length s) s (omega arith))
+columns_all s = rw sub-zero (take_all (length s) s (omega arith))
 
-pub columns-rest : (s : List ℕ) (i : ℕ) → columns s i (length s) ≡ drop i s
+pub columns_rest : (s : List ℕ) (i : ℕ) → columns s i (length s) ≡ drop i s
 unfolding columns
-columns-rest s i = take_all (length s - i) (drop i s) (simp length-drop (omega arith))
+columns_rest s i = take_all (length s - i) (drop i s) (simp length-drop (omega arith))
 
 pub length-columns : (s : List ℕ) (at end : ℕ) → at ≤ end → end ≤ length s → length (columns s at end) ≡ end - at
 unfolding columns
@@ -44,9 +44,9 @@ length-columns s at end h k = length-take-le (end - at) (drop at s) (simp length
 
 -- ---- a text that was put together: past a part of it, and a part itself
 
-pub columns-skip : (p t : List ℕ) (n at end : ℕ) → length p ≡ n → n ≤ at → columns (p ++ t) at end ≡ columns t (at - n) (end - n)
+pub columns_skip : (p t : List ℕ) (n at end : ℕ) → length p ≡ n → n ≤ at → columns (p ++ t) at end ≡ columns t (at - n) (end - n)
 unfolding columns
-columns-skip p t n at end e h =
+columns_skip p t n at end e h =
     let a : at ≡ length p + (at - n) = omega arith in
     let b : end - n - (at - n) ≡ end - at = omega arith in
     rw b (ap (λ (k : ℕ). take (end - at) (drop k (p ++ t))) a ∙ ap (λ (l : List ℕ). take (end - at) l) (drop-append-add p t (at - n)))
@@ -56,9 +56,9 @@ unfolding columns
 columns-part q t n e = rw sub-zero (take_at q t n e)
 
 -- columns that lie in the first part
-pub columns-first : (p t : List ℕ) (at end : ℕ) → at ≤ end → end ≤ length p → columns (p ++ t) at end ≡ columns p at end
+pub columns_first : (p t : List ℕ) (at end : ℕ) → at ≤ end → end ≤ length p → columns (p ++ t) at end ≡ columns p at end
 unfolding columns
-columns-first p t at end h k =
+columns_first p t at end h k =
     rw (drop-append-le at p t (omega arith)) (take-append-le (end - at) (drop at p) t (simp length-drop (omega arith)))
 
 -- ---- columns of columns

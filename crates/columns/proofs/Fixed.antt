@@ -14,29 +14,29 @@ use Rattle.columns.specs.declared.Field.TheVariants.{Number, Bad}
 use Rattle.columns.specs.declared.SignedField.{SignedField}
 use Rattle.columns.specs.declared.SignedField.TheVariants.{Number as SignedNumber, Bad as SignedBad}
 use Rattle.columns.specs.Columns.{columns}
-use Rattle.columns.specs.Fixed.{digitsOf, field_of, is_number, signed, with_sign, behindSign, signed_of}
+use Rattle.columns.specs.Fixed.{digits_of, field_of, is_number, signed, with_sign, behind_sign, signed_of}
 use Rattle.columns.specs.Reading.{Below, Behind}
 use Rattle.columns.proofs.Columns.{column, columns-end}
 
 -- ---- one step of each
 
-pub digits_more : (n b : ℕ) (bs : List ℕ) → 48 ≤ b → b ≤ 57 → digitsOf n (b ∷ bs) ≡ digitsOf (n * 10 + (b - 48)) bs
-unfolding digitsOf
-digits_more n b bs lo hi = simp (digitsOf, le-leb _ _ lo, le-leb _ _ hi)
+pub digits_more : (n b : ℕ) (bs : List ℕ) → 48 ≤ b → b ≤ 57 → digits_of n (b ∷ bs) ≡ digits_of (n * 10 + (b - 48)) bs
+unfolding digits_of
+digits_more n b bs lo hi = simp (digits_of, le-leb _ _ lo, le-leb _ _ hi)
 
-pub digits_low : (n b : ℕ) (bs : List ℕ) → b < 48 → digitsOf n (b ∷ bs) ≡ Bad
-unfolding digitsOf
-digits_low n b bs h = simp (digitsOf, lt-leb _ _ h)
+pub digits_low : (n b : ℕ) (bs : List ℕ) → b < 48 → digits_of n (b ∷ bs) ≡ Bad
+unfolding digits_of
+digits_low n b bs h = simp (digits_of, lt-leb _ _ h)
 
-pub digits-high : (n b : ℕ) (bs : List ℕ) → 57 < b → digitsOf n (b ∷ bs) ≡ Bad
-unfolding digitsOf
-digits-high n b bs h = simp (digitsOf, le-leb 48 b (omega arith), lt-leb _ _ h)
+pub digits_high : (n b : ℕ) (bs : List ℕ) → 57 < b → digits_of n (b ∷ bs) ≡ Bad
+unfolding digits_of
+digits_high n b bs h = simp (digits_of, le-leb 48 b (omega arith), lt-leb _ _ h)
 
 pub field-blank : (b : ℕ) (bs : List ℕ) → b ≡ 32 → field_of (b ∷ bs) ≡ field_of bs
 unfolding field_of
 field-blank b bs h = simp (field_of, eq-eqb _ _ h)
 
-pub field-other : (b : ℕ) (bs : List ℕ) → (b ≡ 32 → ⊥) → field_of (b ∷ bs) ≡ digitsOf 0 (b ∷ bs)
+pub field-other : (b : ℕ) (bs : List ℕ) → (b ≡ 32 → ⊥) → field_of (b ∷ bs) ≡ digits_of 0 (b ∷ bs)
 unfolding field_of
 field-other b bs h = simp (field_of, ne_eqb _ _ h)
 
@@ -44,39 +44,39 @@ pub signed-blank : (b : ℕ) (bs : List ℕ) → b ≡ 32 → signed_of (b ∷ b
 unfolding signed_of
 signed-blank b bs h = simp (signed_of, eq-eqb _ _ h)
 
-pub signed-minus : (b : ℕ) (bs : List ℕ) → b ≡ 45 → signed_of (b ∷ bs) ≡ behindSign true bs
+pub signed-minus : (b : ℕ) (bs : List ℕ) → b ≡ 45 → signed_of (b ∷ bs) ≡ behind_sign true bs
 unfolding signed_of
 signed-minus b bs h = simp (signed_of, ne_eqb b 32 (omega arith), eq-eqb _ _ h)
 
-pub signed-plus : (b : ℕ) (bs : List ℕ) → b ≡ 43 → signed_of (b ∷ bs) ≡ behindSign false bs
+pub signed_plus : (b : ℕ) (bs : List ℕ) → b ≡ 43 → signed_of (b ∷ bs) ≡ behind_sign false bs
 unfolding signed_of
-signed-plus b bs h = simp (signed_of, ne_eqb b 32 (omega arith), ne_eqb b 45 (omega arith), eq-eqb _ _ h)
+signed_plus b bs h = simp (signed_of, ne_eqb b 32 (omega arith), ne_eqb b 45 (omega arith), eq-eqb _ _ h)
 
-pub signed-other : (b : ℕ) (bs : List ℕ) → (b ≡ 32 → ⊥) → (b ≡ 45 → ⊥) → (b ≡ 43 → ⊥) → signed_of (b ∷ bs) ≡ with_sign false (digitsOf 0 (b ∷ bs))
+pub signed-other : (b : ℕ) (bs : List ℕ) → (b ≡ 32 → ⊥) → (b ≡ 45 → ⊥) → (b ≡ 43 → ⊥) → signed_of (b ∷ bs) ≡ with_sign false (digits_of 0 (b ∷ bs))
 unfolding signed_of
 signed-other b bs h k l = simp (signed_of, ne_eqb _ _ h, ne_eqb _ _ k, ne_eqb _ _ l)
 
 -- ---- the same at an index of the text: where what is left has the answer f, what a turn of a loop does keeps that
 
 module _ (f : Field) (s : List ℕ) (i end : ℕ) where
-  pub low-at : (n : ℕ) → digitsOf n (columns s i end) ≡ f → i < end → end ≤ length s → get_or s i 0 < 48 → Bad ≡ f
-  low-at n inv lt le h = sym (digits_low _ _ _ h) ∙ (rw (column s i end lt le) at inv)
+  pub low_at : (n : ℕ) → digits_of n (columns s i end) ≡ f → i < end → end ≤ length s → get_or s i 0 < 48 → Bad ≡ f
+  low_at n inv lt le h = sym (digits_low _ _ _ h) ∙ (rw (column s i end lt le) at inv)
 
-  pub high-at : (n : ℕ) → digitsOf n (columns s i end) ≡ f → i < end → end ≤ length s → 57 < get_or s i 0 → Bad ≡ f
-  high-at n inv lt le h = sym (digits-high _ _ _ h) ∙ (rw (column s i end lt le) at inv)
+  pub high_at : (n : ℕ) → digits_of n (columns s i end) ≡ f → i < end → end ≤ length s → 57 < get_or s i 0 → Bad ≡ f
+  high_at n inv lt le h = sym (digits_high _ _ _ h) ∙ (rw (column s i end lt le) at inv)
 
-  pub digit_at : (n d : ℕ) → digitsOf n (columns s i end) ≡ f → i < end → end ≤ length s → 48 ≤ get_or s i 0 → get_or s i 0 ≤ 57 → d ≡ get_or s i 0 - 48
-      → digitsOf (n * 10 + d) (columns s (i + 1) end) ≡ f
+  pub digit_at : (n d : ℕ) → digits_of n (columns s i end) ≡ f → i < end → end ≤ length s → 48 ≤ get_or s i 0 → get_or s i 0 ≤ 57 → d ≡ get_or s i 0 - 48
+      → digits_of (n * 10 + d) (columns s (i + 1) end) ≡ f
   digit_at n d inv lt le lo hi e = rw e (sym (digits_more _ _ _ lo hi) ∙ (rw (column s i end lt le) at inv))
 
-  pub digits-end : (n : ℕ) → digitsOf n (columns s i end) ≡ f → end ≤ i → Number n ≡ f
-  unfolding digitsOf
+  pub digits-end : (n : ℕ) → digits_of n (columns s i end) ≡ f → end ≤ i → Number n ≡ f
+  unfolding digits_of
   digits-end n inv ge = rw (columns-end s i end ge) at inv
 
   pub blank-at : field_of (columns s i end) ≡ f → i < end → end ≤ length s → get_or s i 0 ≡ 32 → field_of (columns s (i + 1) end) ≡ f
   blank-at inv lt le h = sym (field-blank _ _ h) ∙ (rw (column s i end lt le) at inv)
 
-  pub other_at : (r : Field) → r ≡ digitsOf 0 (columns s i end) → field_of (columns s i end) ≡ f → i < end → end ≤ length s → (get_or s i 0 ≡ 32 → ⊥) → r ≡ f
+  pub other_at : (r : Field) → r ≡ digits_of 0 (columns s i end) → field_of (columns s i end) ≡ f → i < end → end ≤ length s → (get_or s i 0 ≡ 32 → ⊥) → r ≡ f
   other_at r e inv lt le h = e ∙ (rw (column s i end lt le) (sym (field-other _ _ h))) ∙ inv
 
   pub field_end : field_of (columns s i end) ≡ f → end ≤ i → Number 0 ≡ f
@@ -85,17 +85,17 @@ module _ (f : Field) (s : List ℕ) (i end : ℕ) where
 
 module _ (f : SignedField) (s : List ℕ) (i end : ℕ) (inv : signed_of (columns s i end) ≡ f) where
   module _ (lt : i < end) (le : end ≤ length s) where
-    pub signed-blank-at : get_or s i 0 ≡ 32 → signed_of (columns s (i + 1) end) ≡ f
-    signed-blank-at h = sym (signed-blank _ _ h) ∙ (rw (column s i end lt le) at inv)
+    pub signed_blank_at : get_or s i 0 ≡ 32 → signed_of (columns s (i + 1) end) ≡ f
+    signed_blank_at h = sym (signed-blank _ _ h) ∙ (rw (column s i end lt le) at inv)
 
-    pub minus-at : (r : SignedField) → r ≡ behindSign true (columns s (i + 1) end) → get_or s i 0 ≡ 45 → r ≡ f
+    pub minus-at : (r : SignedField) → r ≡ behind_sign true (columns s (i + 1) end) → get_or s i 0 ≡ 45 → r ≡ f
     minus-at r e h = e ∙ sym (signed-minus _ _ h) ∙ (rw (column s i end lt le) at inv)
 
-    pub plus-at : (r : SignedField) → r ≡ behindSign false (columns s (i + 1) end) → get_or s i 0 ≡ 43 → r ≡ f
-    plus-at r e h = e ∙ sym (signed-plus _ _ h) ∙ (rw (column s i end lt le) at inv)
+    pub plus_at : (r : SignedField) → r ≡ behind_sign false (columns s (i + 1) end) → get_or s i 0 ≡ 43 → r ≡ f
+    plus_at r e h = e ∙ sym (signed_plus _ _ h) ∙ (rw (column s i end lt le) at inv)
 
-    pub plain_at : (x : Field) (r : SignedField) → x ≡ digitsOf 0 (columns s i end) → r ≡ with_sign false x → (get_or s i 0 ≡ 32 → ⊥) → (get_or s i 0 ≡ 45 → ⊥) → (get_or s i 0 ≡ 43 → ⊥) → r ≡ f
-    plain_at x r e q h k l = q ∙ ap (with_sign false) (e ∙ ap (digitsOf 0) (column s i end lt le)) ∙ sym (signed-other _ _ h k l) ∙ (rw (column s i end lt le) at inv)
+    pub plain_at_lem : (x : Field) (r : SignedField) → x ≡ digits_of 0 (columns s i end) → r ≡ with_sign false x → (get_or s i 0 ≡ 32 → ⊥) → (get_or s i 0 ≡ 45 → ⊥) → (get_or s i 0 ≡ 43 → ⊥) → r ≡ f
+    plain_at_lem x r e q h k l = q ∙ ap (with_sign false) (e ∙ ap (digits_of 0) (column s i end lt le)) ∙ sym (signed-other _ _ h k l) ∙ (rw (column s i end lt le) at inv)
 
   pub signed-end : end ≤ i → SignedNumber (record { neg = false; size = 0 }) ≡ f
   unfolding signed_of
@@ -107,8 +107,8 @@ module _ (s : List ℕ) (at i end : ℕ) (low : at ≤ i) (field : field_of (col
   pub behind-here : i < end → (get_or s i 0 ≡ 32 → ⊥) → Behind s at end i
   behind-here lt h = record { low = low; high = omega arith; field = field; signed = signed; next = λ _. h }
 
-  pub behind-all : i ≤ end → end ≤ i → Behind s at end end
-  behind-all k h =
+  pub behind_all : i ≤ end → end ≤ i → Behind s at end end
+  behind_all k h =
       let e : end ≡ i = omega arith in
       record {
         low = omega arith;
@@ -119,39 +119,39 @@ module _ (s : List ℕ) (at i end : ℕ) (low : at ≤ i) (field : field_of (col
       }
 
 module _ (s : List ℕ) (at end i : ℕ) (b : Behind s at end i) (le : end ≤ length s) where
-  pub behind-field : (r : Field) → r ≡ digitsOf 0 (columns s i end) → r ≡ field_of (columns s at end)
-  unfolding digitsOf
+  pub behind-field : (r : Field) → r ≡ digits_of 0 (columns s i end) → r ≡ field_of (columns s at end)
+  unfolding digits_of
   behind-field r e = elim (dec_lt i end) [
     | yes lt ↦ other_at (field_of (columns s at end)) s i end r e b.field lt le (b.next lt)
     | no ge ↦ (e ∙ rw (columns-end s i end (omega arith))) ∙ field_end (field_of (columns s at end)) s i end b.field (omega arith)
   ]
 
-  pub behind-plain : (x : Field) (r : SignedField) → x ≡ digitsOf 0 (columns s i end) → r ≡ with_sign false x → i < end → (get_or s i 0 ≡ 45 → ⊥) → (get_or s i 0 ≡ 43 → ⊥) → r ≡ signed_of (columns s at end)
-  behind-plain x r e q lt k l = plain_at (signed_of (columns s at end)) s i end b.signed lt le x r e q (b.next lt) k l
+  pub behind-plain : (x : Field) (r : SignedField) → x ≡ digits_of 0 (columns s i end) → r ≡ with_sign false x → i < end → (get_or s i 0 ≡ 45 → ⊥) → (get_or s i 0 ≡ 43 → ⊥) → r ≡ signed_of (columns s at end)
+  behind-plain x r e q lt k l = plain_at_lem (signed_of (columns s at end)) s i end b.signed lt le x r e q (b.next lt) k l
 
 -- ---- behind a sign
 
-pub sign-bad : (neg : Bool) (f : Field) → f ≡ Bad → SignedBad ≡ with_sign neg f
-sign-bad neg f e = rw e
+pub sign_bad : (neg : Bool) (f : Field) → f ≡ Bad → SignedBad ≡ with_sign neg f
+sign_bad neg f e = rw e
 
-pub sign-nought : (neg : Bool) (f : Field) (n : ℕ) → f ≡ Number n → n ≡ 0 → SignedNumber (record { neg = false; size = n }) ≡ with_sign neg f
-sign-nought neg f n e h = rw (e, eq-eqb _ _ h)
+pub sign_nought : (neg : Bool) (f : Field) (n : ℕ) → f ≡ Number n → n ≡ 0 → SignedNumber (record { neg = false; size = n }) ≡ with_sign neg f
+sign_nought neg f n e h = rw (e, eq-eqb _ _ h)
 
-pub sign-some : (neg : Bool) (f : Field) (n : ℕ) → f ≡ Number n → (n ≡ 0 → ⊥) → SignedNumber (record { neg = neg; size = n }) ≡ with_sign neg f
-sign-some neg f n e h = rw (e, ne_eqb _ _ h)
+pub sign_some : (neg : Bool) (f : Field) (n : ℕ) → f ≡ Number n → (n ≡ 0 → ⊥) → SignedNumber (record { neg = neg; size = n }) ≡ with_sign neg f
+sign_some neg f n e h = rw (e, ne_eqb _ _ h)
 
-pub behind-none : (neg : Bool) (s : List ℕ) (at end : ℕ) → end ≤ at → SignedBad ≡ behindSign neg (columns s at end)
+pub behind-none : (neg : Bool) (s : List ℕ) (at end : ℕ) → end ≤ at → SignedBad ≡ behind_sign neg (columns s at end)
 behind-none neg s at end h = rw (columns-end s at end h)
 
-pub behind-some : (neg : Bool) (s : List ℕ) (at end : ℕ) (x : Field) (r : SignedField) → x ≡ digitsOf 0 (columns s at end) → r ≡ with_sign neg x → at < end → end ≤ length s
-    → r ≡ behindSign neg (columns s at end)
-behind-some neg s at end x r e q lt le = rw (column s at end lt le) (q ∙ ap (with_sign neg) (e ∙ ap (digitsOf 0) (column s at end lt le)))
+pub behind_some : (neg : Bool) (s : List ℕ) (at end : ℕ) (x : Field) (r : SignedField) → x ≡ digits_of 0 (columns s at end) → r ≡ with_sign neg x → at < end → end ≤ length s
+    → r ≡ behind_sign neg (columns s at end)
+behind_some neg s at end x r e q lt le = rw (column s at end lt le) (q ∙ ap (with_sign neg) (e ∙ ap (digits_of 0) (column s at end lt le)))
 
 -- ---- the field holds n
 
-pub holds-bad : (f : Field) (n : ℕ) → f ≡ Bad → false ≡ is_number f n
+pub holds_bad : (f : Field) (n : ℕ) → f ≡ Bad → false ≡ is_number f n
 unfolding is_number
-holds-bad f n e = rw e
+holds_bad f n e = rw e
 
 pub holds-number : (f : Field) (m n : ℕ) → f ≡ Number m → eqb m n ≡ is_number f n
 unfolding is_number
@@ -162,8 +162,8 @@ holds-field f g n r e h = rw (← e) h
 
 -- ---- a number of as many digits as columns have passed
 
-pub no-digits : (at : ℕ) → 0 < 10 ^ (at - at)
-no-digits at = rw sub_self (omega arith)
+pub no_digits : (at : ℕ) → 0 < 10 ^ (at - at)
+no_digits at = rw sub_self (omega arith)
 
 module _ (n i at : ℕ) (h : n < 10 ^ (i - at)) where
   pub more-digits : (d b : ℕ) → at ≤ i → b ≤ 57 → d ≡ b - 48 → n * 10 + d < 10 ^ (i + 1 - at)
@@ -171,17 +171,17 @@ module _ (n i at : ℕ) (h : n < 10 ^ (i - at)) where
       let e : i + 1 - at ≡ suc (i - at) = omega arith in
       rw e (omega arith)
 
-  few-digits : (end : ℕ) → i < end → end ≤ at + 8 → n < 10000000
-  few-digits end k l =
+  few_digits : (end : ℕ) → i < end → end ≤ at + 8 → n < 10000000
+  few_digits end k l =
       let e : i - at ≤ 7 = omega arith in
       let t : 0 < 10 = omega arith in
       omega (arith, pow-le-pow_right t e)
 
-  pub ten-fits : (end : ℕ) → i < end → end ≤ at + 8 → n * 10 < 2 ^ 32
-  ten-fits end k l = omega (arith, few-digits end k l)
+  pub ten_fits : (end : ℕ) → i < end → end ≤ at + 8 → n * 10 < 2 ^ 32
+  ten_fits end k l = omega (arith, few_digits end k l)
 
-  pub digit-fits : (end d b : ℕ) → i < end → end ≤ at + 8 → b ≤ 57 → d ≡ b - 48 → n * 10 + d < 2 ^ 32
-  digit-fits end d b k l m e = omega (arith, few-digits end k l)
+  pub digit_fits : (end d b : ℕ) → i < end → end ≤ at + 8 → b ≤ 57 → d ≡ b - 48 → n * 10 + d < 2 ^ 32
+  digit_fits end d b k l m e = omega (arith, few_digits end k l)
 
   pub below-digits : (end : ℕ) → i ≤ end → end ≤ at + 8 → n < 100000000
   below-digits end k l =
@@ -194,10 +194,10 @@ module _ (n i at : ℕ) (h : n < 10 ^ (i - at)) where
 pub below-number : (f : Field) (m n : ℕ) → Below m f → f ≡ Number n → n < m
 below-number f m n h e = rw e at h
 
-pub ruleset reads = (low-at, high-at, digit_at, digits-end, behind-field, no-digits, more-digits, ten-fits, digit-fits, below-digits)
+pub ruleset reads = (low_at, high_at, digit_at, digits-end, behind-field, no_digits, more-digits, ten_fits, digit_fits, below-digits)
 
-pub ruleset blanks = (blank-at, signed-blank-at, behind-here, behind-all)
+pub ruleset blanks = (blank-at, signed_blank_at, behind-here, behind_all)
 
-pub ruleset signs = (minus-at, plus-at, behind-plain, signed-end, sign-bad, sign-nought, sign-some, behind-none, behind-some, below-number)
+pub ruleset signs = (minus-at, plus_at, behind-plain, signed-end, sign_bad, sign_nought, sign_some, behind-none, behind_some, below-number)
 
-pub ruleset held = (holds-bad, holds-number, holds-field)
+pub ruleset held = (holds_bad, holds-number, holds-field)

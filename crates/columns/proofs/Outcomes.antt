@@ -12,13 +12,13 @@ pub record Both {A B : Type 0} (o : Outcome A) (f : A → Outcome B) (b : B) : T
   pub first : o ≡ accepted value
   pub second : f value ≡ accepted b
 
-pub then-accepted : {A B : Type 0} (o : Outcome A) (f : A → Outcome B) (b : B) → o then f ≡ accepted b → Both o f b
-then-accepted (accepted a) f b e = record { value = a; first = refl; second = e }
-then-accepted (refused n p) f b e = let z : ◌≡◌ {A = ℕ} 0 1 = cc in absurd (omega arith)
+pub then_accepted : {A B : Type 0} (o : Outcome A) (f : A → Outcome B) (b : B) → o then f ≡ accepted b → Both o f b
+then_accepted (accepted a) f b e = record { value = a; first = refl; second = e }
+then_accepted (refused n p) f b e = let z : ◌≡◌ {A = ℕ} 0 1 = cc in absurd (omega arith)
 
-pub demand-accepted : (t : Bool) (n : Fault) (p : ℕ) → demand t n p ≡ accepted tt → t ≡ true
-demand-accepted true n p e = refl
-demand-accepted false n p e = let z : ◌≡◌ {A = ℕ} 0 1 = cc in absurd (omega arith)
+pub demand_accepted : (t : Bool) (n : Fault) (p : ℕ) → demand t n p ≡ accepted tt → t ≡ true
+demand_accepted true n p e = refl
+demand_accepted false n p e = let z : ◌≡◌ {A = ℕ} 0 1 = cc in absurd (omega arith)
 
-pub demand-true : (t : Bool) (n : Fault) (p : ℕ) → t ≡ true → demand t n p ≡ accepted tt
-demand-true t n p e = rw e
+pub demand_true : (t : Bool) (n : Fault) (p : ℕ) → t ≡ true → demand t n p ≡ accepted tt
+demand_true t n p e = rw e

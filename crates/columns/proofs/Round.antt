@@ -14,32 +14,32 @@ use Rattle.columns.specs.declared.Field.TheVariants.{Number, Bad}
 use Rattle.columns.specs.declared.Signed.{Signed}
 use Rattle.columns.specs.declared.SignedField.{SignedField}
 use Rattle.columns.specs.declared.SignedField.TheVariants.{Number as SignedNumber, Bad as SignedBad}
-use Rattle.columns.specs.Fixed.{digitsOf, field_of, signed, NormalSign, with_sign, behindSign, signed_of}
-use Rattle.columns.specs.Decimal.{dec, minus, signedDec, toRight}
+use Rattle.columns.specs.Fixed.{digits_of, field_of, signed, NormalSign, with_sign, behind_sign, signed_of}
+use Rattle.columns.specs.Decimal.{dec, minus, signed_dec, to_right}
 use Rattle.columns.specs.Reading.{Below}
-use Rattle.columns.proofs.Tests.{cond_cases, digit-bounds}
+use Rattle.columns.proofs.Tests.{cond_cases, digit_bounds}
 use Rattle.columns.proofs.Fixed.{digits_more, digits_low, field-blank, field-other, signed-blank, signed-minus, signed-other, below-number}
-use Rattle.columns.proofs.Decimals.{by_digits, dec-small, dec-big, dec-cons, length-dec-below, length-signed, length-minus, dec-nought}
+use Rattle.columns.proofs.Decimals.{by_digits_lem, dec_small, dec_big, dec_cons, length_dec_below, length-signed, length-minus, dec-nought}
 
 -- ---- numbers
 
 -- what is read of digits that were written
-pub digits-dec : (n : ℕ) (rest : List ℕ) → digitsOf 0 (dec n ++ rest) ≡ digitsOf n rest
-digits-dec = by_digits (λ (n : ℕ). (rest : List ℕ) → digitsOf 0 (dec n ++ rest) ≡ digitsOf n rest)
-    (λ n h rest. rw (dec-small n h) (digits_more 0 (48 + n) rest (omega arith) (omega arith) ∙ ap (λ (k : ℕ). digitsOf k rest) (omega arith)))
-    (λ n h p rest. rw (dec-big n h, append_assoc) (p _ ∙ digits_more _ _ _ (omega arith) (omega arith) ∙ ap (λ (k : ℕ). digitsOf k rest) (omega arith)))
+pub digits-dec : (n : ℕ) (rest : List ℕ) → digits_of 0 (dec n ++ rest) ≡ digits_of n rest
+digits-dec = by_digits_lem (λ (n : ℕ). (rest : List ℕ) → digits_of 0 (dec n ++ rest) ≡ digits_of n rest)
+    (λ n h rest. rw (dec_small n h) (digits_more 0 (48 + n) rest (omega arith) (omega arith) ∙ ap (λ (k : ℕ). digits_of k rest) (omega arith)))
+    (λ n h p rest. rw (dec_big n h, append_assoc) (p _ ∙ digits_more _ _ _ (omega arith) (omega arith) ∙ ap (λ (k : ℕ). digits_of k rest) (omega arith)))
 
-pub digits-all : (n : ℕ) → digitsOf 0 (dec n) ≡ Number n
-unfolding digitsOf
-digits-all n = rw append-nil at (digits-dec n [])
+pub digits_all : (n : ℕ) → digits_of 0 (dec n) ≡ Number n
+unfolding digits_of
+digits_all n = rw append-nil at (digits-dec n [])
 
 -- zeros before a number are nothing
-pub digits-zeros : (k : ℕ) (xs : List ℕ) → digitsOf 0 (replicate k 48 ++ xs) ≡ digitsOf 0 xs
+pub digits-zeros : (k : ℕ) (xs : List ℕ) → digits_of 0 (replicate k 48 ++ xs) ≡ digits_of 0 xs
 digits-zeros zero xs = refl
 digits-zeros (suc k) xs = digits_more 0 48 (replicate k 48 ++ xs) (omega arith) (omega arith) ∙ digits-zeros k xs
 
-pub field-digits : (xs : List ℕ) (n : ℕ) → digitsOf 0 xs ≡ Number n → field_of xs ≡ Number n
-unfolding digitsOf field_of
+pub field-digits : (xs : List ℕ) (n : ℕ) → digits_of 0 xs ≡ Number n → field_of xs ≡ Number n
+unfolding digits_of field_of
 field-digits [] n h = h
 field-digits (b ∷ bs) n h = elim (ℕ_discrete b 32) [
   | yes e ↦ cc (digits_low 0 b bs (omega arith))
@@ -51,13 +51,13 @@ field-blanks zero xs = refl
 field-blanks (suc k) xs = field-blank 32 (replicate k 32 ++ xs) refl ∙ field-blanks k xs
 
 -- right-justified with blanks, or zero-filled: the number itself
-pub field-padded : (width n : ℕ) → field_of (toRight 32 width (dec n)) ≡ Number n
-unfolding toRight
-field-padded width n = field-blanks (width - length (dec n)) (dec n) ∙ field-digits (dec n) n (digits-all n)
+pub field-padded : (width n : ℕ) → field_of (to_right 32 width (dec n)) ≡ Number n
+unfolding to_right
+field-padded width n = field-blanks (width - length (dec n)) (dec n) ∙ field-digits (dec n) n (digits_all n)
 
-pub field-zero-filled : (width n : ℕ) → field_of (toRight 48 width (dec n)) ≡ Number n
-unfolding toRight
-field-zero-filled width n = field-digits (replicate (width - length (dec n)) 48 ++ dec n) n (digits-zeros (width - length (dec n)) (dec n) ∙ digits-all n)
+pub field_zero_filled : (width n : ℕ) → field_of (to_right 48 width (dec n)) ≡ Number n
+unfolding to_right
+field_zero_filled width n = field-digits (replicate (width - length (dec n)) 48 ++ dec n) n (digits-zeros (width - length (dec n)) (dec n) ∙ digits_all n)
 
 -- ---- with a sign
 
@@ -67,32 +67,32 @@ signed-blanks (suc k) xs = signed-blank 32 (replicate k 32 ++ xs) refl ∙ signe
 
 signed-plain : (n : ℕ) → signed_of (dec n) ≡ SignedNumber (signed false n)
 signed-plain n =
-    let (b, bs, e, lo, hi) = dec-cons n in
-    ap signed_of e ∙ signed-other b bs (λ z. omega arith) (λ z. omega arith) (λ z. omega arith) ∙ ap (with_sign false) (ap (digitsOf 0) (sym e) ∙ digits-all n)
+    let (b, bs, e, lo, hi) = dec_cons n in
+    ap signed_of e ∙ signed-other b bs (λ z. omega arith) (λ z. omega arith) (λ z. omega arith) ∙ ap (with_sign false) (ap (digits_of 0) (sym e) ∙ digits_all n)
 
 signed-behind : (n : ℕ) → signed_of (45 ∷ dec n) ≡ SignedNumber (signed true n)
 signed-behind n =
-    let (b, bs, e, lo, hi) = dec-cons n in
-    signed-minus 45 (dec n) refl ∙ ap (behindSign true) e ∙ ap (with_sign true) (ap (digitsOf 0) (sym e) ∙ digits-all n)
+    let (b, bs, e, lo, hi) = dec_cons n in
+    signed-minus 45 (dec n) refl ∙ ap (behind_sign true) e ∙ ap (with_sign true) (ap (digits_of 0) (sym e) ∙ digits_all n)
 
-signed-own : (neg : Bool) (n : ℕ) → (n ≡ 0 → neg ≡ false) → signed neg n ≡ record { neg = neg; size = n }
-signed-own neg n h = pick (eqb n 0) refl
+signed_own : (neg : Bool) (n : ℕ) → (n ≡ 0 → neg ≡ false) → signed neg n ≡ record { neg = neg; size = n }
+signed_own neg n h = pick (eqb n 0) refl
   where
     pick : (b : Bool) → eqb n 0 ≡ b → signed neg n ≡ record { neg = neg; size = n }
     pick true e = rw (e, h (eqb-true n 0 e))
     pick false e = rw e
 
-pub signed-dec : (x : Signed) → NormalSign x → signed_of (signedDec x) ≡ SignedNumber x
-unfolding signedDec
+pub signed-dec : (x : Signed) → NormalSign x → signed_of (signed_dec x) ≡ SignedNumber x
+unfolding signed_dec
 signed-dec x h = pick x.neg refl
   where
     pick : (b : Bool) → x.neg ≡ b → signed_of (minus b ++ dec x.size) ≡ SignedNumber x
-    pick true e = signed-behind x.size ∙ ap SignedNumber (ap (λ (b : Bool). signed b x.size) (sym e) ∙ signed-own x.neg x.size h)
-    pick false e = signed-plain x.size ∙ ap SignedNumber (ap (λ (b : Bool). signed b x.size) (sym e) ∙ signed-own x.neg x.size h)
+    pick true e = signed-behind x.size ∙ ap SignedNumber (ap (λ (b : Bool). signed b x.size) (sym e) ∙ signed_own x.neg x.size h)
+    pick false e = signed-plain x.size ∙ ap SignedNumber (ap (λ (b : Bool). signed b x.size) (sym e) ∙ signed_own x.neg x.size h)
 
-pub signed-padded : (width : ℕ) (x : Signed) → NormalSign x → signed_of (toRight 32 width (signedDec x)) ≡ SignedNumber x
-unfolding toRight
-signed-padded width x h = signed-blanks (width - length (signedDec x)) (signedDec x) ∙ signed-dec x h
+pub signed-padded : (width : ℕ) (x : Signed) → NormalSign x → signed_of (to_right 32 width (signed_dec x)) ≡ SignedNumber x
+unfolding to_right
+signed-padded width x h = signed-blanks (width - length (signed_dec x)) (signed_dec x) ∙ signed-dec x h
 
 -- ---- what was read
 
@@ -101,33 +101,33 @@ abbrev Normals : SignedField → Type 0
 Normals (SignedNumber x) = NormalSign x
 Normals SignedBad = Unit {0}
 
-sign-normal : (neg : Bool) (f : Field) → Normals (with_sign neg f)
-sign-normal neg (Number n) = λ z. rw (eq-eqb n 0 z)
-sign-normal neg Bad = tt
+sign_normal : (neg : Bool) (f : Field) → Normals (with_sign neg f)
+sign_normal neg (Number n) = λ z. rw (eq-eqb n 0 z)
+sign_normal neg Bad = tt
 
-behind-normal : (neg : Bool) (bs : List ℕ) → Normals (behindSign neg bs)
+behind-normal : (neg : Bool) (bs : List ℕ) → Normals (behind_sign neg bs)
 behind-normal neg [] = tt
-behind-normal neg (b ∷ bs) = sign-normal neg (digitsOf 0 (b ∷ bs))
+behind-normal neg (b ∷ bs) = sign_normal neg (digits_of 0 (b ∷ bs))
 
-all-normal : (t : List ℕ) → Normals (signed_of t)
+all_normal : (t : List ℕ) → Normals (signed_of t)
 unfolding signed_of
-all-normal [] = λ z. refl
-all-normal (b ∷ bs) =
-    cond_cases Normals (eqb b 32) _ _ (λ e. all-normal bs) (λ e.
+all_normal [] = λ z. refl
+all_normal (b ∷ bs) =
+    cond_cases Normals (eqb b 32) _ _ (λ e. all_normal bs) (λ e.
     cond_cases Normals (eqb b 45) _ _ (λ e. behind-normal true bs) (λ e.
-    cond_cases Normals (eqb b 43) _ _ (λ e. behind-normal false bs) (λ e. sign-normal false (digitsOf 0 (b ∷ bs)))))
+    cond_cases Normals (eqb b 43) _ _ (λ e. behind-normal false bs) (λ e. sign_normal false (digits_of 0 (b ∷ bs)))))
 
 pub signed-normal : (t : List ℕ) (x : Signed) → signed_of t ≡ SignedNumber x → NormalSign x
-signed-normal t x e = rw e at (all-normal t)
+signed-normal t x e = rw e at (all_normal t)
 
 -- a number of k digits and those of bs
-digits-below : (bs : List ℕ) (n k : ℕ) → n < 10 ^ k → Below (10 ^ (k + length bs)) (digitsOf n bs)
-unfolding digitsOf
+digits-below : (bs : List ℕ) (n k : ℕ) → n < 10 ^ k → Below (10 ^ (k + length bs)) (digits_of n bs)
+unfolding digits_of
 digits-below [] n k h = rw add-zero h
 digits-below (b ∷ bs) n k h =
     let e : k + length (b ∷ bs) ≡ suc k + length bs = omega arith in
     rw e (cond_cases (Below (10 ^ (suc k + length bs))) (leb 48 b && leb b 57) _ _
-    (λ t. digits-below bs (n * 10 + (b - 48)) (suc k) (omega (arith, (digit-bounds b t).0, (digit-bounds b t).1)))
+    (λ t. digits-below bs (n * 10 + (b - 48)) (suc k) (omega (arith, (digit_bounds b t).0, (digit_bounds b t).1)))
     (λ t. tt))
 
 below_more : (m m' : ℕ) (f : Field) → m ≤ m' → Below m f → Below m' f
@@ -147,15 +147,15 @@ field_below (b ∷ bs) =
     (λ e. rw zero-add at (digits-below (b ∷ bs) 0 0 (omega arith)))
 
 -- so it fits them, written
-pub field_fits : (t : List ℕ) (n : ℕ) → 1 ≤ length t → field_of t ≡ Number n → length (dec n) ≤ length t
-field_fits t n h e = length-dec-below (length t) n h (below-number (field_of t) (10 ^ length t) n (field_below t) e)
+pub field_fits_lem : (t : List ℕ) (n : ℕ) → 1 ≤ length t → field_of t ≡ Number n → length (dec n) ≤ length t
+field_fits_lem t n h e = length_dec_below (length t) n h (below-number (field_of t) (10 ^ length t) n (field_below t) e)
 
 abbrev Fitting : ℕ → SignedField → Type 0
-Fitting w (SignedNumber x) = length (signedDec x) ≤ w
+Fitting w (SignedNumber x) = length (signed_dec x) ≤ w
 Fitting w SignedBad = Unit {0}
 
 sign_fits : (neg : Bool) (f : Field) (k w : ℕ) → 1 ≤ k → length (minus neg) + k ≤ w → Below (10 ^ k) f → Fitting w (with_sign neg f)
-sign_fits neg (Number n) k w h l p = rw (length-signed (signed neg n)) (omega (arith, shorter (eqb n 0) neg, length-dec-below k n h p))
+sign_fits neg (Number n) k w h l p = rw (length-signed (signed neg n)) (omega (arith, shorter (eqb n 0) neg, length_dec_below k n h p))
   where
     shorter : (b neg : Bool) → length (minus (cond b false neg)) ≤ length (minus neg)
     shorter true true = omega arith
@@ -164,19 +164,19 @@ sign_fits neg (Number n) k w h l p = rw (length-signed (signed neg n)) (omega (a
     shorter false false = omega arith
 sign_fits neg Bad k w h l p = tt
 
-behind-fits : (neg : Bool) (bs : List ℕ) (w : ℕ) → suc (length bs) ≤ w → Fitting w (behindSign neg bs)
+behind-fits : (neg : Bool) (bs : List ℕ) (w : ℕ) → suc (length bs) ≤ w → Fitting w (behind_sign neg bs)
 behind-fits neg [] w h = tt
 behind-fits neg (b ∷ bs) w h =
-    sign_fits neg (digitsOf 0 (b ∷ bs)) (suc (length bs)) w (omega arith) (omega (arith, length-minus neg)) (rw zero-add at (digits-below (b ∷ bs) 0 0 (omega arith)))
+    sign_fits neg (digits_of 0 (b ∷ bs)) (suc (length bs)) w (omega arith) (omega (arith, length-minus neg)) (rw zero-add at (digits-below (b ∷ bs) 0 0 (omega arith)))
 
-all-fit : (t : List ℕ) (w : ℕ) → 1 ≤ w → length t ≤ w → Fitting w (signed_of t)
+all_fit_lem : (t : List ℕ) (w : ℕ) → 1 ≤ w → length t ≤ w → Fitting w (signed_of t)
 unfolding signed_of
-all-fit [] w h k = rw (length-signed (signed false 0), dec-nought) (omega arith)
-all-fit (b ∷ bs) w h k =
-    cond_cases (Fitting w) (eqb b 32) _ _ (λ e. all-fit bs w h (omega arith)) (λ e.
+all_fit_lem [] w h k = rw (length-signed (signed false 0), dec-nought) (omega arith)
+all_fit_lem (b ∷ bs) w h k =
+    cond_cases (Fitting w) (eqb b 32) _ _ (λ e. all_fit_lem bs w h (omega arith)) (λ e.
     cond_cases (Fitting w) (eqb b 45) _ _ (λ e. behind-fits true bs w k) (λ e.
     cond_cases (Fitting w) (eqb b 43) _ _ (λ e. behind-fits false bs w k) (λ e.
-    sign_fits false (digitsOf 0 (b ∷ bs)) (suc (length bs)) w (omega arith) (omega arith) (rw zero-add at (digits-below (b ∷ bs) 0 0 (omega arith))))))
+    sign_fits false (digits_of 0 (b ∷ bs)) (suc (length bs)) w (omega arith) (omega arith) (rw zero-add at (digits-below (b ∷ bs) 0 0 (omega arith))))))
 
-pub signed-fits : (t : List ℕ) (x : Signed) → 1 ≤ length t → signed_of t ≡ SignedNumber x → length (signedDec x) ≤ length t
-signed-fits t x h e = rw e at (all-fit t (length t) h (omega arith))
+pub signed-fits : (t : List ℕ) (x : Signed) → 1 ≤ length t → signed_of t ≡ SignedNumber x → length (signed_dec x) ≤ length t
+signed-fits t x h e = rw e at (all_fit_lem t (length t) h (omega arith))

@@ -11,8 +11,8 @@ pub cond_cases : {A : Type 0} (P : A → Type 0) (b : Bool) (x y : A) → (b ≡
 cond_cases P true x y p q = p refl
 cond_cases P false x y p q = q refl
 
-pub cond-true : {A : Type 0} {b : Bool} (x y : A) → b ≡ true → cond b x y ≡ x
-cond-true x y e = rw e
+pub cond_true : {A : Type 0} {b : Bool} (x y : A) → b ≡ true → cond b x y ≡ x
+cond_true x y e = rw e
 
 -- the same either way
 pub cond_same : {A : Type 0} (b : Bool) (x : A) → cond b x x ≡ x
@@ -20,8 +20,8 @@ cond_same true x = refl
 cond_same false x = refl
 
 -- true is not false
-pub true-false : {b : Bool} → b ≡ true → b ≡ false → ⊥
-true-false t f = let z : ◌≡◌ {A = ℕ} 0 1 = cc in omega arith
+pub true_false : {b : Bool} → b ≡ true → b ≡ false → ⊥
+true_false t f = let z : ◌≡◌ {A = ℕ} 0 1 = cc in omega arith
 
 -- both tests hold where they hold together
 pub both : (a b : Bool) → a && b ≡ true → (a ≡ true) × (b ≡ true)
@@ -37,17 +37,17 @@ both_right a b e = (both a b e).1
 pub both_true : {a b : Bool} → a ≡ true → b ≡ true → a && b ≡ true
 both_true e h = rw (e, h)
 
-pub and-false : (a : Bool) → a && false ≡ false
-and-false true = refl
-and-false false = refl
+pub and_false : (a : Bool) → a && false ≡ false
+and_false true = refl
+and_false false = refl
 
-pub and-true : (a : Bool) → a && true ≡ a
-and-true true = refl
-and-true false = refl
+pub and_true : (a : Bool) → a && true ≡ a
+and_true true = refl
+and_true false = refl
 
 pub and_assoc : (a b c : Bool) → (a && b) && c ≡ a && (b && c)
 and_assoc true b c = refl
 and_assoc false b c = refl
 
-pub digit-bounds : (b : ℕ) → leb 48 b && leb b 57 ≡ true → (48 ≤ b) × (b ≤ 57)
-digit-bounds b e = (leb-true 48 b (both_left (leb 48 b) (leb b 57) e), leb-true b 57 (both_right (leb 48 b) (leb b 57) e))
+pub digit_bounds : (b : ℕ) → leb 48 b && leb b 57 ≡ true → (48 ≤ b) × (b ≤ 57)
+digit_bounds b e = (leb-true 48 b (both_left (leb 48 b) (leb b 57) e), leb-true b 57 (both_right (leb 48 b) (leb b 57) e))

@@ -42,30 +42,30 @@ module _ (file : List ℕ) (base w lines : ℕ) (wide : 1 ≤ w) (narrow : w ≤
   length-text = text-length file w narrow lines base inside
 
   module _ (p : ℕ) (h : p < lines * w) where
-    pub text-column : p % w < w
-    text-column = mod-lt p (omega arith)
+    pub text_column : p % w < w
+    text_column = mod-lt p (omega arith)
 
     pub text-line : p / w < lines
     text-line = (div-lt_iff_lt-mul wide).1 h
 
     -- the rest of p's line ends within the file
-    pub rest-in-file : base + p / w * 81 + p % w + (w - p % w) ≤ length file
-    rest-in-file = omega (arith, text-line, text-column)
+    pub rest_in_file : base + p / w * 81 + p % w + (w - p % w) ≤ length file
+    rest_in_file = omega (arith, text-line, text_column)
 
     -- and within the text
-    pub rest-in-text : p + (w - p % w) ≤ lines * w
-    rest-in-text = omega (arith, text-column, div-add-mod' p w, mul-le-mul_right w text-line)
+    pub rest_in_text : p + (w - p % w) ≤ lines * w
+    rest_in_text = omega (arith, text_column, div-add-mod' p w, mul-le-mul_right w text-line)
 
     -- the rest of p's line
-    pub text-rest : take (w - p % w) (drop p (text_of file base w lines)) ≡ take (w - p % w) (drop (base + p / w * 81 + p % w) file)
-    text-rest = ap (λ (k : ℕ). take (w - p % w) (drop k (text_of file base w lines))) (sym (div-add-mod' p w)) ∙ line-of file w narrow lines (p / w) (p % w) base inside text-line text-column
+    pub text_rest : take (w - p % w) (drop p (text_of file base w lines)) ≡ take (w - p % w) (drop (base + p / w * 81 + p % w) file)
+    text_rest = ap (λ (k : ℕ). take (w - p % w) (drop k (text_of file base w lines))) (sym (div-add-mod' p w)) ∙ line-of file w narrow lines (p / w) (p % w) base inside text-line text_column
 
     -- the character at p
-    pub text-char : get_or (text_of file base w lines) p 0 ≡ get_or file (base + p / w * 81 + p % w) 0
-    text-char = first p (text_of file base w lines) ∙ ap (λ (l : List ℕ). get_or l 0 0) text-rest ∙ sym (first (base + p / w * 81 + p % w) file)
+    pub text_char : get_or (text_of file base w lines) p 0 ≡ get_or file (base + p / w * 81 + p % w) 0
+    text_char = first p (text_of file base w lines) ∙ ap (λ (l : List ℕ). get_or l 0 0) text_rest ∙ sym (first (base + p / w * 81 + p % w) file)
       where
         first : (q : ℕ) (l : List ℕ) → get_or l q 0 ≡ get_or (take (w - p % w) (drop q l)) 0 0
-        first q l = ap (λ (k : ℕ). get_or l k 0) (sym (add-zero q)) ∙ sym (get_or-drop q l 0 0) ∙ sym (get_or-take (w - p % w) (drop q l) 0 0 (omega (arith, text-column)))
+        first q l = ap (λ (k : ℕ). get_or l k 0) (sym (add-zero q)) ∙ sym (get_or-drop q l 0 0) ∙ sym (get_or-take (w - p % w) (drop q l) 0 0 (omega (arith, text_column)))
 
   pub text-end : (p : ℕ) → lines * w ≤ p → get_or (text_of file base w lines) p 0 ≡ 0
   text-end p h = get_or-eq_default (text_of file base w lines) 0 (omega (arith, length-text))

@@ -7,13 +7,13 @@ use native.Mathlib.Omega.{arith}
 use mathlib.Core.List.{List, [], ◌∷◌, ◌++◌}
 use lib.ListN.{length, take, drop, get_or, set, replicate, length-append, length-replicate, replicate-append-replicate}
 use lib.Seq.{take-suc, take_all, set_comm, set_out}
-use Rattle.columns.specs.Laid.{laid, length-laid, laid_one, laid_out, laid_nil, laid-laid, laid-eq, Wrote, Owes}
+use Rattle.columns.specs.Laid.{laid, length-laid, laid_one, laid_out, laid_nil, laid-laid, laid_eq, Wrote, Owes}
 
 pub wrote_one : (o : List ℕ) (at b r : ℕ) → r ≡ at + 1 → Wrote o at (b ∷ []) (set o at b) r
 wrote_one o at b r e = record { bytes = sym (laid_one o at b); next = e }
 
-pub wrote-out : (o : List ℕ) (at b r : ℕ) → r ≡ at + 1 → length o ≤ at → Wrote o at (b ∷ []) o r
-wrote-out o at b r e h = record { bytes = sym (laid_out o at b h); next = e }
+pub wrote_out : (o : List ℕ) (at b r : ℕ) → r ≡ at + 1 → length o ≤ at → Wrote o at (b ∷ []) o r
+wrote_out o at b r e h = record { bytes = sym (laid_out o at b h); next = e }
 
 pub wrote_none : {o : List ℕ} {at : ℕ} → Wrote o at [] o at
 wrote_none {o} {at} = record { bytes = sym (laid_nil o at); next = sym (add-zero at) }
@@ -25,38 +25,38 @@ then {o} {o'} {o''} {a} {b} {at} {r} {r'} p q = record {
   next = q.next ∙ (rw (p.next, length-append) (add_assoc at (length a) (length b)));
 }
 
-pub wrote-length : {o o' a : List ℕ} {at r : ℕ} → Wrote o at a o' r → length o' ≡ length o
-wrote-length {o} {o'} {a} {at} p = ap length p.bytes ∙ length-laid o at a
+pub wrote_length : {o o' a : List ℕ} {at r : ℕ} → Wrote o at a o' r → length o' ≡ length o
+wrote_length {o} {o'} {a} {at} p = ap length p.bytes ∙ length-laid o at a
 
 -- the same bytes by another name
-pub wrote-same : {o o' a b : List ℕ} {at r : ℕ} → Wrote o at a o' r → a ≡ b → Wrote o at b o' r
-wrote-same p e = rw e at p
+pub wrote_same : {o o' a b : List ℕ} {at r : ℕ} → Wrote o at a o' r → a ≡ b → Wrote o at b o' r
+wrote_same p e = rw e at p
 
 -- where there is room: what is before, the bytes, and what is after
-pub wrote-eq : {o o' a : List ℕ} {at r : ℕ} → Wrote o at a o' r → r ≤ length o → o' ≡ take at o ++ (a ++ drop r o)
-wrote-eq {o} {o'} {a} {at} {r} p h = p.bytes ∙ laid-eq o at a (omega (arith, p.next)) ∙ ap (λ (k : ℕ). take at o ++ (a ++ drop k o)) (sym p.next)
+pub wrote_eq : {o o' a : List ℕ} {at r : ℕ} → Wrote o at a o' r → r ≤ length o → o' ≡ take at o ++ (a ++ drop r o)
+wrote_eq {o} {o'} {a} {at} {r} p h = p.bytes ∙ laid_eq o at a (omega (arith, p.next)) ∙ ap (λ (k : ℕ). take at o ++ (a ++ drop k o)) (sym p.next)
 
 -- an empty buffer only measures: nothing is laid over it
-pub laid-empty : (at : ℕ) (bs : List ℕ) → laid [] at bs ≡ []
-laid-empty at bs = none (laid [] at bs) (length-laid [] at bs)
+pub laid_empty : (at : ℕ) (bs : List ℕ) → laid [] at bs ≡ []
+laid_empty at bs = none (laid [] at bs) (length-laid [] at bs)
   where
     none : (l : List ℕ) → length l ≡ 0 → l ≡ []
     none [] e = refl
     none (x ∷ l) e = absurd (omega arith)
 
 -- a copy: one byte more
-pub wrote-more : {o o' o'' : List ℕ} {at r r' : ℕ} (s : List ℕ) (i : ℕ) → Wrote o at (take i s) o' r → i < length s → Wrote o' r (get_or s i 0 ∷ []) o'' r' → Wrote o at (take (i + 1) s) o'' r'
-wrote-more s i p h q = rw (add-one, take-suc s i 0 h) (then p q)
+pub wrote_more : {o o' o'' : List ℕ} {at r r' : ℕ} (s : List ℕ) (i : ℕ) → Wrote o at (take i s) o' r → i < length s → Wrote o' r (get_or s i 0 ∷ []) o'' r' → Wrote o at (take (i + 1) s) o'' r'
+wrote_more s i p h q = rw (add-one, take-suc s i 0 h) (then p q)
 
-pub wrote-all : {o o' : List ℕ} {at r : ℕ} (s : List ℕ) (i : ℕ) → Wrote o at (take i s) o' r → length s ≤ i → Wrote o at s o' r
-wrote-all s i p h = rw (take_all i s h) at p
+pub wrote_all : {o o' : List ℕ} {at r : ℕ} (s : List ℕ) (i : ℕ) → Wrote o at (take i s) o' r → length s ≤ i → Wrote o at s o' r
+wrote_all s i p h = rw (take_all i s h) at p
 
 -- a run of one byte: one more
 pub run_more : {o o' o'' : List ℕ} {at r r' b : ℕ} (i : ℕ) → Wrote o at (replicate i b) o' r → Wrote o' r (b ∷ []) o'' r' → Wrote o at (replicate (i + 1) b) o'' r'
 run_more {b = b} i p q = rw (← replicate-append-replicate i 1 b) (then p q)
 
-pub run-all : {o o' : List ℕ} {at r : ℕ} (b i count : ℕ) → Wrote o at (replicate i b) o' r → i ≤ count → count ≤ i → Wrote o at (replicate count b) o' r
-run-all b i count p h k =
+pub run_all : {o o' : List ℕ} {at r : ℕ} (b i count : ℕ) → Wrote o at (replicate i b) o' r → i ≤ count → count ≤ i → Wrote o at (replicate count b) o' r
+run_all b i count p h k =
     let e : count ≡ i = omega arith in
     rw e p
 
@@ -75,26 +75,26 @@ pub run_past : (o : List ℕ) (at b count : ℕ) → length o ≤ at → Wrote o
 run_past o at b count h = record { bytes = sym (laid-past o at (replicate count b) h); next = rw length-replicate }
 
 -- a store for each byte
-pub wrote-start : {o : List ℕ} {at : ℕ} → Wrote o at [] o (at + 0)
-wrote-start {o} {at} = record { bytes = sym (laid_nil o at); next = refl }
+pub wrote_start : {o : List ℕ} {at : ℕ} → Wrote o at [] o (at + 0)
+wrote_start {o} {at} = record { bytes = sym (laid_nil o at); next = refl }
 
 pub copy_more : {o o' : List ℕ} {at : ℕ} (s : List ℕ) (i : ℕ) → Wrote o at (take i s) o' (at + i) → i < length s → Wrote o at (take (i + 1) s) (set o' (at + i) (get_or s i 0)) (at + (i + 1))
-copy_more {o} {o'} {at} s i p h = wrote-more s i p h (wrote_one o' (at + i) (get_or s i 0) (at + (i + 1)) (omega arith))
+copy_more {o} {o'} {at} s i p h = wrote_more s i p h (wrote_one o' (at + i) (get_or s i 0) (at + (i + 1)) (omega arith))
 
-pub copy-all : {o o' : List ℕ} {at : ℕ} (s : List ℕ) (i : ℕ) → Wrote o at (take i s) o' (at + i) → i ≤ length s → length s ≤ i → Wrote o at s o' (at + length s)
-copy-all {o} {o'} {at} s i p k h =
+pub copy_all : {o o' : List ℕ} {at : ℕ} (s : List ℕ) (i : ℕ) → Wrote o at (take i s) o' (at + i) → i ≤ length s → length s ≤ i → Wrote o at s o' (at + length s)
+copy_all {o} {o'} {at} s i p k h =
     let e : length s ≡ i = omega arith in
-    rw e (wrote-all s i p h)
+    rw e (wrote_all s i p h)
 
 pub fill_more : {o o' : List ℕ} {at : ℕ} (b i : ℕ) → Wrote o at (replicate i b) o' (at + i) → Wrote o at (replicate (i + 1) b) (set o' (at + i) b) (at + (i + 1))
 fill_more {o} {o'} {at} b i p = run_more i p (wrote_one o' (at + i) b (at + (i + 1)) (omega arith))
 
-pub fill-all : {o o' : List ℕ} {at : ℕ} (b i count : ℕ) → Wrote o at (replicate i b) o' (at + i) → i ≤ count → count ≤ i → Wrote o at (replicate count b) o' (at + count)
-fill-all b i count p h k =
+pub fill_all : {o o' : List ℕ} {at : ℕ} (b i count : ℕ) → Wrote o at (replicate i b) o' (at + i) → i ≤ count → count ≤ i → Wrote o at (replicate count b) o' (at + count)
+fill_all b i count p h k =
     let e : count ≡ i = omega arith in
     rw e p
 
-pub ruleset copies = (wrote-start, all_past, run_past, copy_more, copy-all, fill_more, fill-all)
+pub ruleset copies = (wrote_start, all_past, run_past, copy_more, copy_all, fill_more, fill_all)
 
 -- a store behind what is laid can come first
 pub laid-before : (o : List ℕ) (at : ℕ) (a : List ℕ) (j b : ℕ) → at + length a ≤ j → laid (set o j b) at a ≡ set (laid o at a) j b
@@ -103,34 +103,34 @@ laid-before o at [] j b h = refl
 laid-before o at (x ∷ a) j b h = rw (set_comm o j at b x (λ e. omega arith)) (laid-before (set o at x) (suc at) a j b (omega arith))
 
 -- the last byte first, and the last two
-pub laid-last : (o : List ℕ) (at : ℕ) (a : List ℕ) (b : ℕ) → laid (set o (at + length a) b) at a ≡ laid o at (a ++ (b ∷ []))
-laid-last o at a b = laid-before o at a (at + length a) b (omega arith) ∙ sym (laid_one (laid o at a) (at + length a) b) ∙ laid-laid o at a (b ∷ [])
+pub laid_last : (o : List ℕ) (at : ℕ) (a : List ℕ) (b : ℕ) → laid (set o (at + length a) b) at a ≡ laid o at (a ++ (b ∷ []))
+laid_last o at a b = laid-before o at a (at + length a) b (omega arith) ∙ sym (laid_one (laid o at a) (at + length a) b) ∙ laid-laid o at a (b ∷ [])
 
-pub laid-pair : (o : List ℕ) (at : ℕ) (a : List ℕ) (b c : ℕ) → laid (set (set o (at + length a) b) (at + length a + 1) c) at a ≡ laid o at ((a ++ (b ∷ [])) ++ (c ∷ []))
-laid-pair o at a b c =
+pub laid_pair : (o : List ℕ) (at : ℕ) (a : List ℕ) (b c : ℕ) → laid (set (set o (at + length a) b) (at + length a + 1) c) at a ≡ laid o at ((a ++ (b ∷ [])) ++ (c ∷ []))
+laid_pair o at a b c =
     let e : at + length (a ++ (b ∷ [])) ≡ at + length a + 1 = rw length-append (omega arith) in
-    laid-before (set o (at + length a) b) at a (at + length a + 1) c (omega arith) ∙ rw (laid-last o at a b) (ap (λ (k : ℕ). set (laid o at (a ++ (b ∷ []))) k c) (sym e))
+    laid-before (set o (at + length a) b) at a (at + length a + 1) c (omega arith) ∙ rw (laid_last o at a b) (ap (λ (k : ℕ). set (laid o at (a ++ (b ∷ []))) k c) (sym e))
     ∙ sym (laid_one (laid o at (a ++ (b ∷ []))) (at + length (a ++ (b ∷ []))) c) ∙ laid-laid o at (a ++ (b ∷ [])) (c ∷ [])
 
 -- ---- a write under way
 
-pub owes-all : (o : List ℕ) (at : ℕ) (bs : List ℕ) → Owes o at bs o at bs
-owes-all o at bs = record { bytes = refl; next = refl }
+pub owes_all : (o : List ℕ) (at : ℕ) (bs : List ℕ) → Owes o at bs o at bs
+owes_all o at bs = record { bytes = refl; next = refl }
 
-pub owes-less : {o bs o' o'' a cs : List ℕ} {at r r' : ℕ} → Owes o at bs o' r (a ++ cs) → Wrote o' r a o'' r' → Owes o at bs o'' r' cs
-owes-less {o} {bs} {o'} {o''} {a} {cs} {at} {r} {r'} p q = record {
+pub owes_less : {o bs o' o'' a cs : List ℕ} {at r r' : ℕ} → Owes o at bs o' r (a ++ cs) → Wrote o' r a o'' r' → Owes o at bs o'' r' cs
+owes_less {o} {bs} {o'} {o''} {a} {cs} {at} {r} {r'} p q = record {
   bytes = rw (q.bytes, q.next, laid-laid o' r a cs) p.bytes;
   next = rw (q.next, add_assoc, ← length-append a cs) p.next;
 }
 
-pub owes-none : {o bs o' : List ℕ} {at r : ℕ} → Owes o at bs o' r [] → Wrote o at bs o' r
-owes-none {o} {bs} {o'} {at} {r} p = record { bytes = sym (laid_nil o' r) ∙ p.bytes; next = sym (add-zero r) ∙ p.next }
+pub owes_none : {o bs o' : List ℕ} {at r : ℕ} → Owes o at bs o' r [] → Wrote o at bs o' r
+owes_none {o} {bs} {o'} {at} {r} p = record { bytes = sym (laid_nil o' r) ∙ p.bytes; next = sym (add-zero r) ∙ p.next }
 
 -- what is owed by another name
 pub owes_same : {o bs o' a b : List ℕ} {at r : ℕ} → Owes o at bs o' r a → a ≡ b → Owes o at bs o' r b
 owes_same p e = rw e at p
 
-pub owes-length : {o bs o' cs : List ℕ} {at r : ℕ} → Owes o at bs o' r cs → length o' ≡ length o
-owes-length {o} {bs} {o'} {cs} {at} {r} p = sym (length-laid o' r cs) ∙ ap length p.bytes ∙ length-laid o at bs
+pub owes_length : {o bs o' cs : List ℕ} {at r : ℕ} → Owes o at bs o' r cs → length o' ≡ length o
+owes_length {o} {bs} {o'} {cs} {at} {r} p = sym (length-laid o' r cs) ∙ ap length p.bytes ∙ length-laid o at bs
 
-pub ruleset writes = (wrote_one, wrote-out, wrote_none, then, wrote-length, wrote-more, wrote-all, run_more, run-all)
+pub ruleset writes = (wrote_one, wrote_out, wrote_none, then, wrote_length, wrote_more, wrote_all, run_more, run_all)

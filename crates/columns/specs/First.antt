@@ -2,9 +2,9 @@
 use Rattle.std.specs.Prelude.{ℕ, zero, suc, ◌+◌, Bool, cond, List, [], ◌∷◌}
 
 -- the first from i on, of n, at which the test fails; i + n if there is none
-unfoldable pub firstNot : (ℕ → Bool) → ℕ → ℕ → ℕ
-firstNot test i zero = i
-firstNot test i (suc n) = cond (test i) (firstNot test (i + 1) n) i
+unfoldable pub first_not : (ℕ → Bool) → ℕ → ℕ → ℕ
+first_not test i zero = i
+first_not test i (suc n) = cond (test i) (first_not test (i + 1) n) i
 
 -- the numbers from i on, n of them
 unfoldable pub up_from : ℕ → ℕ → List ℕ

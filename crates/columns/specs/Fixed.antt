@@ -6,17 +6,17 @@ use Rattle.columns.specs.declared.Field.TheVariants.{Number, Bad}
 use Rattle.columns.specs.declared.Signed.{Signed}
 use Rattle.columns.specs.declared.SignedField.{SignedField}
 use Rattle.columns.specs.declared.SignedField.TheVariants.{Number as SignedNumber, Bad as SignedBad}
-use Rattle.columns.specs.Letters.{space, plusSign, minusSign, digit0, digit9}
+use Rattle.columns.specs.Letters.{space, plus_sign, minus_sign, digit0, digit9}
 
 -- the columns from here on are digits; n is the number so far
-unfoldable pub digitsOf : ℕ → List ℕ → Field
-digitsOf n [] = Number n
-digitsOf n (b ∷ bs) = cond (leb digit0 b && leb b digit9) (digitsOf (n * 10 + (b - digit0)) bs) Bad
+unfoldable pub digits_of : ℕ → List ℕ → Field
+digits_of n [] = Number n
+digits_of n (b ∷ bs) = cond (leb digit0 b && leb b digit9) (digits_of (n * 10 + (b - digit0)) bs) Bad
 
 -- blanks, then digits
 unfoldable pub field_of : List ℕ → Field
 field_of [] = Number 0
-field_of (b ∷ bs) = cond (eqb b space) (field_of bs) (digitsOf 0 (b ∷ bs))
+field_of (b ∷ bs) = cond (eqb b space) (field_of bs) (digits_of 0 (b ∷ bs))
 
 -- the field holds n
 unfoldable pub is_number : Field → ℕ → Bool
@@ -37,15 +37,15 @@ with_sign neg (Number n) = SignedNumber (signed neg n)
 with_sign neg Bad = SignedBad
 
 -- a sign stands right before a digit
-abbrev pub behindSign : Bool → List ℕ → SignedField
-behindSign neg [] = SignedBad
-behindSign neg (b ∷ bs) = with_sign neg (digitsOf 0 (b ∷ bs))
+abbrev pub behind_sign : Bool → List ℕ → SignedField
+behind_sign neg [] = SignedBad
+behind_sign neg (b ∷ bs) = with_sign neg (digits_of 0 (b ∷ bs))
 
 -- the same, with '-' or '+' right before the digits, or none
 unfoldable pub signed_of : List ℕ → SignedField
 signed_of [] = SignedNumber (signed false 0)
 signed_of (b ∷ bs) =
     cond (eqb b space) (signed_of bs)
-    (cond (eqb b minusSign) (behindSign true bs)
-    (cond (eqb b plusSign) (behindSign false bs)
-    (with_sign false (digitsOf 0 (b ∷ bs)))))
+    (cond (eqb b minus_sign) (behind_sign true bs)
+    (cond (eqb b plus_sign) (behind_sign false bs)
+    (with_sign false (digits_of 0 (b ∷ bs)))))

@@ -4,47 +4,47 @@ use Rattle.std.specs.Prelude.{ℕ, ◌*◌}
 -- ---- a line
 
 -- columns of a line
-abbrev pub lineColumns : ℕ
-lineColumns = 80
+abbrev pub line_columns : ℕ
+line_columns = 80
 
 -- bytes of a line: its columns and LF
-abbrev pub lineBytes : ℕ
-lineBytes = 81
+abbrev pub line_bytes : ℕ
+line_bytes = 81
 
 -- columns of S and G lines that hold text; the section letter stands behind them
-abbrev pub textColumns : ℕ
-textColumns = 72
+abbrev pub text_columns : ℕ
+text_columns = 72
 
 -- columns of P lines that hold values
-abbrev pub parameterColumns : ℕ
-parameterColumns = 64
+abbrev pub parameter_columns : ℕ
+parameter_columns = 64
 
 -- columns of a directory field, of a label and of a status
-abbrev pub fieldColumns : ℕ
-fieldColumns = 8
+abbrev pub field_columns : ℕ
+field_columns = 8
 
 -- columns of a sequence number, of a count on T, and of the directory number on a P line
-abbrev pub numberColumns : ℕ
-numberColumns = 7
+abbrev pub number_columns : ℕ
+number_columns = 7
 
 -- columns of the canonical file's Global opening
-abbrev pub openingColumns : ℕ
-openingColumns = 8
+abbrev pub opening_columns : ℕ
+opening_columns = 8
 
 -- ---- limits
 
 -- lines of a file
-abbrev pub mostLines : ℕ
-mostLines = 200000
+abbrev pub most_lines : ℕ
+most_lines = 200000
 
 -- bytes of a file
-abbrev pub mostBytes : ℕ
-mostBytes = lineBytes * mostLines
+abbrev pub most_bytes : ℕ
+most_bytes = line_bytes * most_lines
 
 -- the list that knows every type
-abbrev pub mostList : ℕ
-mostList = 16383
+abbrev pub most_list : ℕ
+most_list = 16383
 
 -- the size of an integer
-abbrev pub mostInteger : ℕ
-mostInteger = 2147483647
+abbrev pub most_integer : ℕ
+most_integer = 2147483647

@@ -35,10 +35,10 @@ laid-laid o at [] b = rw add-zero
 laid-laid o at (x ∷ a) b = rw (add-suc, ← suc-add) (laid-laid (set o at x) (suc at) a b)
 
 -- where there is room: what is before, the bytes, and what is after
-pub laid-eq : (o : List ℕ) (at : ℕ) (bs : List ℕ) → at + length bs ≤ length o
+pub laid_eq : (o : List ℕ) (at : ℕ) (bs : List ℕ) → at + length bs ≤ length o
     → laid o at bs ≡ take at o ++ (bs ++ drop (at + length bs) o)
 unfolding laid
-laid-eq o at bs h = sets-eq bs o at h ∙ append_assoc (take at o) bs (drop (at + length bs) o)
+laid_eq o at bs h = sets-eq bs o at h ∙ append_assoc (take at o) bs (drop (at + length bs) o)
 
 -- what a function that writes leaves: bs is laid over o from at, and r is the place after it
 pub record Wrote (o : List ℕ) (at : ℕ) (bs : List ℕ) (o' : List ℕ) (r : ℕ) : Type 0 where

@@ -20,11 +20,11 @@ semicolon = 59
 
 -- ---- what numbers and strings are spelt with
 
-abbrev pub plusSign : ℕ
-plusSign = 43
+abbrev pub plus_sign : ℕ
+plus_sign = 43
 
-abbrev pub minusSign : ℕ
-minusSign = 45
+abbrev pub minus_sign : ℕ
+minus_sign = 45
 
 abbrev pub point : ℕ
 point = 46
@@ -40,38 +40,38 @@ digit9 = 57
 
 -- ---- the letters of sections, marks, exponents and strings
 
-abbrev pub letterD : ℕ
-letterD = 68
+abbrev pub letter_d : ℕ
+letter_d = 68
 
-abbrev pub letterE : ℕ
-letterE = 69
+abbrev pub letter_e : ℕ
+letter_e = 69
 
-abbrev pub letterG : ℕ
-letterG = 71
+abbrev pub letter_g : ℕ
+letter_g = 71
 
-abbrev pub letterH : ℕ
-letterH = 72
+abbrev pub letter_h : ℕ
+letter_h = 72
 
-abbrev pub letterP : ℕ
-letterP = 80
+abbrev pub letter_p : ℕ
+letter_p = 80
 
-abbrev pub letterR : ℕ
-letterR = 82
+abbrev pub letter_r : ℕ
+letter_r = 82
 
-abbrev pub letterS : ℕ
-letterS = 83
+abbrev pub letter_s : ℕ
+letter_s = 83
 
-abbrev pub letterT : ℕ
-letterT = 84
+abbrev pub letter_t : ℕ
+letter_t = 84
 
-abbrev pub letterU : ℕ
-letterU = 85
+abbrev pub letter_u : ℕ
+letter_u = 85
 
-abbrev pub letterV : ℕ
-letterV = 86
+abbrev pub letter_v : ℕ
+letter_v = 86
 
-abbrev pub letterX : ℕ
-letterX = 88
+abbrev pub letter_x : ℕ
+letter_x = 88
 
-abbrev pub letterZ : ℕ
-letterZ = 90
+abbrev pub letter_z : ℕ
+letter_z = 90

@@ -44,6 +44,6 @@ demand true n p = accepted tt
 demand false n p = refused n p
 
 -- one after the other, the first refusal wins: the first has this place, and the next stands as much further on as the one before takes
-unfoldable pub eachAt : {A B : Type 0} → (A → ℕ) → (ℕ → A → Outcome B) → ℕ → List A → Outcome (List B)
-eachAt takes f place [] = accepted []
-eachAt takes f place (x ∷ xs) = f place x then λ y. eachAt takes f (place + takes x) xs then λ ys. accepted (y ∷ ys)
+unfoldable pub each_at : {A B : Type 0} → (A → ℕ) → (ℕ → A → Outcome B) → ℕ → List A → Outcome (List B)
+each_at takes f place [] = accepted []
+each_at takes f place (x ∷ xs) = f place x then λ y. each_at takes f (place + takes x) xs then λ ys. accepted (y ∷ ys)

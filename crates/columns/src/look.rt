@@ -1,6 +1,6 @@
 // What stands in columns.
 ghost use Rattle.std.specs.Prelude.{◌≡◌, ◌≤◌, min, max, length, get_or};
-ghost use Rattle.columns.specs.Columns.{columns, printable, blank, sameBytes};
+ghost use Rattle.columns.specs.Columns.{columns, printable, blank, same_bytes};
 
 // The byte at i; 0 past the end.
 pub fn byte_at(s: &[u8], i: usize) -> u8
@@ -62,7 +62,7 @@ pub fn is_printable(s: &[u8], at: usize, end: usize) -> bool
 
 // Whether a and b are the same, byte for byte.
 pub fn same(a: &[u8], b: &[u8]) -> bool
-    ensures { result ≡ sameBytes a.now b.now }
+    ensures { result ≡ same_bytes a.now b.now }
 {
     if a.len() != b.len() {
         return false;

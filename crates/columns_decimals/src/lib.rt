@@ -1,7 +1,7 @@
 // Numbers laid over a lent buffer from a place on, clipped to it, digit by digit.
 ghost use Rattle.std.specs.Prelude.{◌≡◌, ◌+◌, ◌-◌, ◌≤◌, ◌<◌, ◌^◌, length};
 ghost use Rattle.columns.specs.Laid.{Wrote};
-ghost use Rattle.columns.specs.Decimal.{dec, signedDec, toRight, toLeft};
+ghost use Rattle.columns.specs.Decimal.{dec, signed_dec, to_right, to_left};
 ghost use Rattle.columns.specs.Letters.{space, digit0};
 
 use columns::Signed;
@@ -130,7 +130,7 @@ fn less(a: usize, b: usize) -> usize
 pub fn put_right(out: &mut [u8], at: usize, b: u8, width: usize, n: u64) -> usize
     requires at_bound { at < 2 ^ 62 }
     requires width_bound { width < 2 ^ 62 }
-    ensures wrote { Wrote out.old at (toRight b width (dec n)) out.new result }
+    ensures wrote { Wrote out.old at (to_right b width (dec n)) out.new result }
     ensures lower_bound { (at + width ≤ result) × (result ≤ at + width + 20) }
 {
     let count = count_digits(n);
@@ -142,7 +142,7 @@ pub fn put_right(out: &mut [u8], at: usize, b: u8, width: usize, n: u64) -> usiz
 // Writes x in decimal, with its sign if it is negative.
 pub fn put_signed(out: &mut [u8], at: usize, x: Signed) -> usize
     requires { at < 2 ^ 63 }
-    ensures wrote { Wrote out.old at (signedDec x) out.new result }
+    ensures wrote { Wrote out.old at (signed_dec x) out.new result }
     ensures lower_bound { (at < result) × (result ≤ at + 11) }
 {
     let neg = x.neg;
@@ -156,7 +156,7 @@ pub fn put_signed(out: &mut [u8], at: usize, x: Signed) -> usize
 
 // How many bytes x takes.
 pub fn count_signed(x: Signed) -> usize
-    ensures value { result ≡ length (signedDec x) }
+    ensures value { result ≡ length (signed_dec x) }
     ensures result_nonzero { (0 < result) × (result ≤ 11) }
 {
     let neg = x.neg;
@@ -168,7 +168,7 @@ pub fn count_signed(x: Signed) -> usize
 pub fn put_signed_right(out: &mut [u8], at: usize, width: usize, x: Signed) -> usize
     requires at_bound { at < 2 ^ 62 }
     requires width_bound { width < 2 ^ 62 }
-    ensures wrote { Wrote out.old at (toRight space width (signedDec x)) out.new result }
+    ensures wrote { Wrote out.old at (to_right space width (signed_dec x)) out.new result }
     ensures lower_bound { (at + width ≤ result) × (result ≤ at + width + 11) }
 {
     let neg = x.neg;
@@ -186,7 +186,7 @@ pub fn put_signed_right(out: &mut [u8], at: usize, width: usize, x: Signed) -> u
 pub fn put_left(out: &mut [u8], at: usize, width: usize, s: &[u8]) -> usize
     requires at_bound { at < 2 ^ 62 }
     requires width_bound { width < 2 ^ 62 }
-    ensures wrote { Wrote out.old at (toLeft width s.now) out.new result }
+    ensures wrote { Wrote out.old at (to_left width s.now) out.new result }
     ensures lower_bound { (at + width ≤ result) × (result ≤ at + width + length s.now) }
 {
     let gap = less(width, s.len());

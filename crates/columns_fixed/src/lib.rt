@@ -1,9 +1,9 @@
 // Numbers read in fixed columns.
 ghost use Rattle.std.specs.Prelude.{true, false, ◌≡◌, ◌+◌, ◌≤◌, ◌<◌, length};
 ghost use Rattle.columns.specs.Columns.{columns};
-ghost use Rattle.columns.specs.Fixed.{digitsOf, field_of, is_number, with_sign, behindSign, signed_of};
+ghost use Rattle.columns.specs.Fixed.{digits_of, field_of, is_number, with_sign, behind_sign, signed_of};
 ghost use Rattle.columns.specs.Reading.{Below, SizeBelow, Behind};
-ghost use Rattle.columns.specs.Format.{fieldColumns};
+ghost use Rattle.columns.specs.Format.{field_columns};
 
 use columns::{Field, Signed, SignedField, byte_u32};
 
@@ -11,8 +11,8 @@ use columns::{Field, Signed, SignedField, byte_u32};
 fn digits(s: &[u8], at: usize, end: usize) -> Field
     requires at_le_end { at ≤ end }
     requires end_in_bounds { end ≤ length s.now }
-    requires end_bound { end ≤ at + fieldColumns }
-    ensures value { result ≡ digitsOf 0 (columns s.now at end) }
+    requires end_bound { end ≤ at + field_columns }
+    ensures value { result ≡ digits_of 0 (columns s.now at end) }
     ensures below { Below 100000000 result }
 {
     let mut n: u32 = 0;
@@ -51,7 +51,7 @@ fn behind_blanks(s: &[u8], at: usize, end: usize) -> usize
 pub fn read_field(s: &[u8], at: usize, end: usize) -> Field
     requires at_le_end { at ≤ end }
     requires end_in_bounds { end ≤ length s.now }
-    requires end_bound { end ≤ at + fieldColumns }
+    requires end_bound { end ≤ at + field_columns }
     ensures value { result ≡ field_of (columns s.now at end) }
     ensures below { Below 100000000 result }
 {
@@ -72,7 +72,7 @@ fn is_number(f: Field, n: u32) -> bool
 pub fn holds(s: &[u8], at: usize, end: usize, n: u32) -> bool
     requires at_le_end { at ≤ end }
     requires end_in_bounds { end ≤ length s.now }
-    requires end_bound { end ≤ at + fieldColumns }
+    requires end_bound { end ≤ at + field_columns }
     ensures { result ≡ is_number (field_of (columns s.now at end)) n }
 {
     let f = read_field(s, at, end);
@@ -101,8 +101,8 @@ fn with_sign(neg: bool, f: Field) -> SignedField
 fn behind_sign(neg: bool, s: &[u8], at: usize, end: usize) -> SignedField
     requires at_le_end { at ≤ end }
     requires end_in_bounds { end ≤ length s.now }
-    requires end_bound { end ≤ at + fieldColumns }
-    ensures value { result ≡ behindSign neg (columns s.now at end) }
+    requires end_bound { end ≤ at + field_columns }
+    ensures value { result ≡ behind_sign neg (columns s.now at end) }
     ensures size_below { SizeBelow 100000000 result }
 {
     if end <= at {
@@ -116,7 +116,7 @@ fn behind_sign(neg: bool, s: &[u8], at: usize, end: usize) -> SignedField
 pub fn read_signed(s: &[u8], at: usize, end: usize) -> SignedField
     requires at_le_end { at ≤ end }
     requires end_in_bounds { end ≤ length s.now }
-    requires end_bound { end ≤ at + fieldColumns }
+    requires end_bound { end ≤ at + field_columns }
     ensures value { result ≡ signed_of (columns s.now at end) }
     ensures size_below { SizeBelow 100000000 result }
 {

@@ -12,31 +12,31 @@ use borrow.Author.Tests.{leb-true, leb-false}
 use Rattle.columns.specs.declared.Fault.{Fault}
 use Rattle.columns.specs.declared.Fault.TheVariants.{Room}
 use Rattle.columns.specs.Refusal.{Outcome, accepted, refused, number}
-use Rattle.columns.specs.Laid.{laid, laid-eq}
+use Rattle.columns.specs.Laid.{laid, laid_eq}
 use Rattle.columns.proofs.Refusals.{numbered}
 use Rattle.model.specs.Read.{reads}
 use Rattle.model.specs.Write.{writes}
 use Rattle.desk.specs.declared.Answer.{Answer}
-use Rattle.desk.specs.Answers.{answer, answer_of, leftIn}
-use Rattle.desk.specs.Content.{sheetBy}
+use Rattle.desk.specs.Answers.{answer, answer_of, left_in}
+use Rattle.desk.specs.Content.{sheet_by}
 use Rattle.desk.proofs.Content.{reads-sheet}
 use Rattle.demands.specs.Functions.{KeptRest}
-use Rattle.demands.specs.Calls.{ReadCall, WriteCall, read, szelmikra-read, write, szelmikra-write, given, RoomSeen}
+use Rattle.demands.specs.Calls.{ReadCall, WriteCall, read, szelmikra_read, write, szelmikra_write, given, RoomSeen}
 
 -- ---- what a contract says
 
 -- an answer and a buffer by an outcome
 pub record Says (x : Outcome (List ℕ)) (o : List ℕ) (a : Answer) (s : List ℕ) : Type 0 where
   pub answers : a ≡ answer_of (length o) x
-  pub leaves : s ≡ leftIn o x
+  pub leaves : s ≡ left_in o x
 
-read-says : {list : ℕ} {file o s : List ℕ} {a : Answer} → ReadCall list file o a s → Says (reads list file) o a s
-read-says (read κs a z left p) = record { answers = p.0; leaves = p.1 }
-read-says (szelmikra-read κs a z left p) = record { answers = p.0; leaves = p.1 }
+read_says : {list : ℕ} {file o s : List ℕ} {a : Answer} → ReadCall list file o a s → Says (reads list file) o a s
+read_says (read κs a z left p) = record { answers = p.0; leaves = p.1 }
+read_says (szelmikra_read κs a z left p) = record { answers = p.0; leaves = p.1 }
 
-write-says : {list : ℕ} {sheet o s : List ℕ} {a : Answer} → WriteCall list sheet o a s → Says (writes list sheet) o a s
-write-says (write κs a z left p) = record { answers = p.0; leaves = p.1 }
-write-says (szelmikra-write κs a z left p) = record { answers = p.0; leaves = p.1 }
+write_says : {list : ℕ} {sheet o s : List ℕ} {a : Answer} → WriteCall list sheet o a s → Says (writes list sheet) o a s
+write_says (write κs a z left p) = record { answers = p.0; leaves = p.1 }
+write_says (szelmikra_write κs a z left p) = record { answers = p.0; leaves = p.1 }
 
 -- the ways that there are: bytes, bytes that there is no room for, a refusal
 pub data Ends (x : Outcome (List ℕ)) (o : List ℕ) (a : Answer) (s : List ℕ) : Type 0 where
@@ -45,8 +45,8 @@ pub data Ends (x : Outcome (List ℕ)) (o : List ℕ) (a : Answer) (s : List ℕ
   stopped : (n : Fault) (place : ℕ) → x ≡ refused n place → a ≡ answer (number n) place 0 → s ≡ o → Ends x o a s
 
 -- these are all
-ends : (x : Outcome (List ℕ)) (o : List ℕ) (a : Answer) (s : List ℕ) → a ≡ answer_of (length o) x → s ≡ leftIn o x → Ends x o a s
-unfolding answer_of leftIn
+ends : (x : Outcome (List ℕ)) (o : List ℕ) (a : Answer) (s : List ℕ) → a ≡ answer_of (length o) x → s ≡ left_in o x → Ends x o a s
+unfolding answer_of left_in
 ends (refused n place) o a s p q = stopped n place refl p q
 ends (accepted bs) o a s p q = pick (leb (length bs) (length o)) refl
   where
@@ -54,11 +54,11 @@ ends (accepted bs) o a s p q = pick (leb (length bs) (length o)) refl
     pick true e = whole bs refl (leb-true (length bs) (length o) e) (rw e at p) (rw e at q)
     pick false e = short bs refl (leb-false (length bs) (length o) e) (rw e at p) (rw e at q)
 
-pub read-ends : {list : ℕ} {file o s : List ℕ} {a : Answer} → ReadCall list file o a s → Ends (reads list file) o a s
-read-ends {list} {file} {o} {s} {a} c = ends (reads list file) o a s (read-says c).answers (read-says c).leaves
+pub read_ends : {list : ℕ} {file o s : List ℕ} {a : Answer} → ReadCall list file o a s → Ends (reads list file) o a s
+read_ends {list} {file} {o} {s} {a} c = ends (reads list file) o a s (read_says c).answers (read_says c).leaves
 
-pub write-ends : {list : ℕ} {sheet o s : List ℕ} {a : Answer} → WriteCall list sheet o a s → Ends (writes list sheet) o a s
-write-ends {list} {sheet} {o} {s} {a} c = ends (writes list sheet) o a s (write-says c).answers (write-says c).leaves
+pub write_ends : {list : ℕ} {sheet o s : List ℕ} {a : Answer} → WriteCall list sheet o a s → Ends (writes list sheet) o a s
+write_ends {list} {sheet} {o} {s} {a} c = ends (writes list sheet) o a s (write_says c).answers (write_says c).leaves
 
 -- ---- answer 0
 
@@ -77,7 +77,7 @@ take-front (b ∷ s) t = ap (λ (l : List ℕ). b ∷ l) (take-front s t)
 front-laid : (o bs : List ℕ) → length bs ≤ length o → take (length bs) (laid o 0 bs) ≡ bs
 front-laid o bs h =
     let k : 0 + length bs ≤ length o = omega arith in
-    ap (take (length bs)) (laid-eq o 0 bs k) ∙ take-front bs (drop (0 + length bs) o)
+    ap (take (length bs)) (laid_eq o 0 bs k) ∙ take-front bs (drop (0 + length bs) o)
 
 stand : (o bs : List ℕ) (a : Answer) (s : List ℕ) → length bs ≤ length o → a ≡ answer 0 0 (length bs) → s ≡ laid o 0 bs → given a s ≡ bs
 stand o bs a s h p q = rw (p, q) (front-laid o bs h)
@@ -105,10 +105,10 @@ refuses n p (stopped m r e q l) k =
 -- ---- room
 
 pub room-seen : RoomSeen
-room-seen list file o s a c not_16 r = by (read-ends c) (reads-sheet list file r)
+room-seen list file o s a c not_16 r = by (read_ends c) (reads-sheet list file r)
   where
-    by : Ends (reads list file) o a s → reads list file ≡ accepted (sheetBy r) → length (sheetBy r) ≤ length o
-    by (whole bs e h p q) k = let z : bs ≡ sheetBy r = cc in rw (ap length z) at h
+    by : Ends (reads list file) o a s → reads list file ≡ accepted (sheet_by r) → length (sheet_by r) ≤ length o
+    by (whole bs e h p q) k = let z : bs ≡ sheet_by r = cc in rw (ap length z) at h
     by (short bs e h p q) k = absurd (not_16 (ap (λ (x : Answer). x.number) p))
     by (stopped n place e p q) k = let z : ◌≡◌ {A = ℕ} 0 1 = cc in absurd (omega arith)
 
@@ -118,14 +118,14 @@ drop-front : (s t : List ℕ) → drop (length s) (s ++ t) ≡ t
 drop-front [] t = refl
 drop-front (b ∷ s) t = drop-front s t
 
-rest-laid : (o bs : List ℕ) → length bs ≤ length o → drop (length bs) (laid o 0 bs) ≡ drop (length bs) o
-rest-laid o bs h =
+rest_laid : (o bs : List ℕ) → length bs ≤ length o → drop (length bs) (laid o 0 bs) ≡ drop (length bs) o
+rest_laid o bs h =
     let k : 0 + length bs ≤ length o = omega arith in
-    ap (drop (length bs)) (laid-eq o 0 bs k) ∙ drop-front bs (drop (0 + length bs) o) ∙ ap (λ (n : ℕ). drop n o) (zero-add (length bs))
+    ap (drop (length bs)) (laid_eq o 0 bs k) ∙ drop-front bs (drop (0 + length bs) o) ∙ ap (λ (n : ℕ). drop n o) (zero-add (length bs))
 
 pub keeps : (x : Outcome (List ℕ)) (o : List ℕ) (a : Answer) (s : List ℕ) → Ends x o a s → ((n : Fault) (p : ℕ) → x ≡ refused n p → number n ≡ 16 → ⊥) → KeptRest o a s
 keeps x o a s (whole bs e h p q) never =
-    rw (p, q) (record { accepted = λ z. (h, rest-laid o bs h); refused = λ no. absurd (no refl); no_room = λ z. absurd (omega arith); no_length = λ no. absurd (no refl) })
+    rw (p, q) (record { accepted = λ z. (h, rest_laid o bs h); refused = λ no. absurd (no refl); no_room = λ z. absurd (omega arith); no_length = λ no. absurd (no refl) })
 keeps x o a s (short bs e h p q) never =
     rw (p, q) (record { accepted = λ z. absurd (omega arith); refused = λ no. refl; no_room = λ z. h; no_length = λ no k. absurd (k refl) })
 keeps x o a s (stopped n place e p q) never =

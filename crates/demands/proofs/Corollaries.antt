@@ -3,7 +3,7 @@ use mathlib.Core.Path.{◌≡◌, sym, ap, ◌∙◌}
 use Rattle.columns.specs.Refusal.{Outcome, accepted}
 use Rattle.model.specs.Model.{Model}
 use Rattle.model.specs.Read.{reads}
-use Rattle.model.specs.Write.{writeModel, writes}
+use Rattle.model.specs.Write.{write_model, writes}
 use Rattle.demands.specs.Corollaries.{CanonicalRead, ModelKept, OneModel, OneSheet, ReadsBack, WrittenAgain, OneModelInAll, IntegersIn, IntegerKept}
 use Rattle.demands_back.proofs.Whole.{back}
 use Rattle.demands.proofs.FromFile.{read_fits}
@@ -32,21 +32,21 @@ one-sheet list s t g p q =
     let b : reads list g ≡ accepted t = written-reads list t g q in
     cc
 
-pub written-again : WrittenAgain
-written-again list s g u h r =
+pub written_again : WrittenAgain
+written_again list s g u h r =
     let a : reads list g ≡ accepted s = written-reads list s g h in
     let e : s ≡ u = cc in
     ap (writes list) (sym e) ∙ h
 
 -- ---- what a file carries is carried all the way
 
-pub one-model-in-all : OneModelInAll
-one-model-in-all list f s h =
+pub one_model_in_all : OneModelInAll
+one_model_in_all list f s h =
     let a = read-to list f s h in (
       a.model,
       record {
         file = a.read;
-        sheet = ap (writeModel list) (sym a.text) ∙ fits-writes list a.model a.fits;
+        sheet = ap (write_model list) (sym a.text) ∙ fits-writes list a.model a.fits;
         written = λ g w.
             let b = read-to list g s (written-reads list s g w) in
             b.read ∙ ap accepted (sym (tells-model list g s b) ∙ tells-model list f s a);
@@ -58,7 +58,7 @@ kept {m = m} e = record { model = m; is-told = e; values = λ i j neg size h. h;
 
 pub integer-kept : IntegerKept
 integer-kept list f s m h r =
-    let a = one-model-in-all list f s h in
+    let a = one_model_in_all list f s h in
     let b = a.1.file in
     let e : a.0 ≡ m = cc in
     (kept (a.1.sheet ∙ ap accepted e), λ g w. kept (a.1.written g w ∙ ap accepted e))

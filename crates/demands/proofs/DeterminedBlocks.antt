@@ -10,23 +10,23 @@ use Rattle.file_blocks.proofs.lines.put_last_line.Reads as lines-put-last-line-r
 use Rattle.file_blocks.proofs.text.close.Kinds as text-close-kinds
 use Rattle.file_blocks.proofs.text.close.Reads as text-close-reads
 use Rattle.demands.specs.Unique.{NoSecond}
-use Rattle.demands.proofs.Unique.{once, left-first, wrote-first}
+use Rattle.demands.proofs.Unique.{once, left_first, wrote_first}
 
 -- ---- file_blocks::lines
 
-pub lines-put-tail : NoSecond lines-put-tail-kinds.ps lines-put-tail-kinds.r lines-put-tail-reads.Post
-lines-put-tail κs a z z' left left' p q = wrote-first left.1 p.0 q.0
+pub lines_put_tail : NoSecond lines-put-tail-kinds.ps lines-put-tail-kinds.r lines-put-tail-reads.Post
+lines_put_tail κs a z z' left left' p q = wrote_first left.1 p.0 q.0
 
-pub lines-put-start-line : NoSecond lines-put-start-line-kinds.ps lines-put-start-line-kinds.r lines-put-start-line-reads.Post
-lines-put-start-line κs a z z' left left' p q = wrote-first left.1 p.0 q.0
+pub lines_put_start_line : NoSecond lines-put-start-line-kinds.ps lines-put-start-line-kinds.r lines-put-start-line-reads.Post
+lines_put_start_line κs a z z' left left' p q = wrote_first left.1 p.0 q.0
 
-pub lines-put-entry-lines : NoSecond lines-put-entry-lines-kinds.ps lines-put-entry-lines-kinds.r lines-put-entry-lines-reads.Post
-lines-put-entry-lines κs a z z' left left' p q = wrote-first left.1 p.0 q.0
+pub lines_put_entry_lines : NoSecond lines-put-entry-lines-kinds.ps lines-put-entry-lines-kinds.r lines-put-entry-lines-reads.Post
+lines_put_entry_lines κs a z z' left left' p q = wrote_first left.1 p.0 q.0
 
-pub lines-put-last-line : NoSecond lines-put-last-line-kinds.ps lines-put-last-line-kinds.r lines-put-last-line-reads.Post
-lines-put-last-line κs a z z' left left' p q = wrote-first left.1 p.0 q.0
+pub lines_put_last_line : NoSecond lines-put-last-line-kinds.ps lines-put-last-line-kinds.r lines-put-last-line-reads.Post
+lines_put_last_line κs a z z' left left' p q = wrote_first left.1 p.0 q.0
 
 -- ---- file_blocks::text
 
 pub text-close : NoSecond text-close-kinds.ps text-close-kinds.r text-close-reads.Post
-text-close κs a z z' left left' p q = (once p.1 q.1, left-first left.1 p.0 q.0)
+text-close κs a z z' left left' p q = (once p.1 q.1, left_first left.1 p.0 q.0)

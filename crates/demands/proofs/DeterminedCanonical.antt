@@ -11,23 +11,23 @@ use Rattle.file_tally.proofs.lines_of.Reads as tally-lines-of-reads
 use Rattle.file_canonical.proofs.file.put_file.Kinds as file-put-file-kinds
 use Rattle.file_canonical.proofs.file.put_file.Reads as file-put-file-reads
 use Rattle.demands.specs.Unique.{NoSecond}
-use Rattle.demands.proofs.Unique.{once, wrote-first}
+use Rattle.demands.proofs.Unique.{once, wrote_first}
 
 -- ---- tally
 
-pub tally-tally-said : NoSecond tally-tally-said-kinds.ps tally-tally-said-kinds.r tally-tally-said-reads.Post
-tally-tally-said κs a z z' left left' p q = (once p.0 q.0, refl)
+pub tally_tally_said : NoSecond tally-tally-said-kinds.ps tally-tally-said-kinds.r tally-tally-said-reads.Post
+tally_tally_said κs a z z' left left' p q = (once p.0 q.0, refl)
 
-pub tally-behind-value : NoSecond tally-behind-value-kinds.ps tally-behind-value-kinds.r tally-behind-value-reads.Post
-tally-behind-value κs a z z' left left' p q = (once p.0 q.0, refl)
+pub tally_behind_value : NoSecond tally-behind-value-kinds.ps tally-behind-value-kinds.r tally-behind-value-reads.Post
+tally_behind_value κs a z z' left left' p q = (once p.0 q.0, refl)
 
-pub tally-with-values : NoSecond tally-with-values-kinds.ps tally-with-values-kinds.r tally-with-values-reads.Post
-tally-with-values κs a z z' left left' p q = (once p.0 q.0, refl)
+pub tally_with_values : NoSecond tally-with-values-kinds.ps tally-with-values-kinds.r tally-with-values-reads.Post
+tally_with_values κs a z z' left left' p q = (once p.0 q.0, refl)
 
-pub tally-lines-of : NoSecond tally-lines-of-kinds.ps tally-lines-of-kinds.r tally-lines-of-reads.Post
-tally-lines-of κs a z z' left left' p q = (once p q, refl)
+pub tally_lines_of : NoSecond tally-lines-of-kinds.ps tally-lines-of-kinds.r tally-lines-of-reads.Post
+tally_lines_of κs a z z' left left' p q = (once p q, refl)
 
 -- ---- file_canonical::file
 
-pub file-put-file : NoSecond file-put-file-kinds.ps file-put-file-kinds.r file-put-file-reads.Post
-file-put-file κs a z z' left left' p q = wrote-first left.1 p.0 q.0
+pub file_put_file : NoSecond file-put-file-kinds.ps file-put-file-kinds.r file-put-file-reads.Post
+file_put_file κs a z z' left left' p q = wrote_first left.1 p.0 q.0

@@ -17,8 +17,8 @@ use Rattle.demands.proofs.Unique.{once, number-once}
 
 -- ---- sections
 
-pub sections-cards : NoSecond sections-cards-kinds.ps sections-cards-kinds.r sections-cards-reads.Post
-sections-cards κs a z z' left left' p q = (once p.0 q.0, refl)
+pub sections_cards : NoSecond sections-cards-kinds.ps sections-cards-kinds.r sections-cards-reads.Post
+sections_cards κs a z z' left left' p q = (once p.0 q.0, refl)
 
 -- ---- cards
 
@@ -28,13 +28,13 @@ entry-number κs a z z' left left' p q = (number-once p q, refl)
 pub entry-line : NoSecond entry-line-kinds.ps entry-line-kinds.r entry-line-reads.Post
 entry-line κs a z z' left left' p q = (once p.0 q.0, refl)
 
-pub parameter-line : NoSecond parameter-line-kinds.ps parameter-line-kinds.r parameter-line-reads.Post
-parameter-line κs a z z' left left' p q = (once p.0 q.0, refl)
+pub parameter_line_lem : NoSecond parameter-line-kinds.ps parameter-line-kinds.r parameter-line-reads.Post
+parameter_line_lem κs a z z' left left' p q = (once p.0 q.0, refl)
 
-pub length-ok : NoSecond length-ok-kinds.ps length-ok-kinds.r length-ok-reads.Post
-length-ok κs a z z' left left' p q = (once p q, refl)
+pub length_ok_lem : NoSecond length-ok-kinds.ps length-ok-kinds.r length-ok-reads.Post
+length_ok_lem κs a z z' left left' p q = (once p q, refl)
 
 -- ---- oneline
 
-pub oneline-step-line : NoSecond oneline-step-line-kinds.ps oneline-step-line-kinds.r oneline-step-line-reads.Post
-oneline-step-line κs a z z' left left' p q = (once p q, refl)
+pub oneline_step_line : NoSecond oneline-step-line-kinds.ps oneline-step-line-kinds.r oneline-step-line-reads.Post
+oneline_step_line κs a z z' left left' p q = (once p q, refl)

@@ -41,74 +41,74 @@ use Rattle.columns.proofs.byte_u32.Reads as byte-u32-reads
 use Rattle.columns.proofs.byte_u64.Kinds as byte-u64-kinds
 use Rattle.columns.proofs.byte_u64.Reads as byte-u64-reads
 use Rattle.demands.specs.Unique.{NoSecond}
-use Rattle.demands.proofs.Unique.{once, wrote-first}
+use Rattle.demands.proofs.Unique.{once, wrote_first}
 
 -- ---- emit
 
-pub emit-put : NoSecond emit-put-kinds.ps emit-put-kinds.r emit-put-reads.Post
-emit-put κs a z z' left left' p q = wrote-first left.1 p.0 q.0
+pub emit_put : NoSecond emit-put-kinds.ps emit-put-kinds.r emit-put-reads.Post
+emit_put κs a z z' left left' p q = wrote_first left.1 p.0 q.0
 
-pub emit-put-all : NoSecond emit-put-all-kinds.ps emit-put-all-kinds.r emit-put-all-reads.Post
-emit-put-all κs a z z' left left' p q = wrote-first left.1 p.0 q.0
+pub emit_put_all : NoSecond emit-put-all-kinds.ps emit-put-all-kinds.r emit-put-all-reads.Post
+emit_put_all κs a z z' left left' p q = wrote_first left.1 p.0 q.0
 
-pub emit-put-run : NoSecond emit-put-run-kinds.ps emit-put-run-kinds.r emit-put-run-reads.Post
-emit-put-run κs a z z' left left' p q = wrote-first left.1 p.0 q.0
+pub emit_put_run : NoSecond emit-put-run-kinds.ps emit-put-run-kinds.r emit-put-run-reads.Post
+emit_put_run κs a z z' left left' p q = wrote_first left.1 p.0 q.0
 
 -- ---- decimals
 
-pub decimals-count-digits : NoSecond decimals-count-digits-kinds.ps decimals-count-digits-kinds.r decimals-count-digits-reads.Post
-decimals-count-digits κs a z z' left left' p q = (once p.0 q.0, refl)
+pub decimals_count_digits : NoSecond decimals-count-digits-kinds.ps decimals-count-digits-kinds.r decimals-count-digits-reads.Post
+decimals_count_digits κs a z z' left left' p q = (once p.0 q.0, refl)
 
-pub decimals-put-decimal : NoSecond decimals-put-decimal-kinds.ps decimals-put-decimal-kinds.r decimals-put-decimal-reads.Post
-decimals-put-decimal κs a z z' left left' p q = wrote-first left.1 p.0 q.0
+pub decimals_put_decimal : NoSecond decimals-put-decimal-kinds.ps decimals-put-decimal-kinds.r decimals-put-decimal-reads.Post
+decimals_put_decimal κs a z z' left left' p q = wrote_first left.1 p.0 q.0
 
-pub decimals-put-right : NoSecond decimals-put-right-kinds.ps decimals-put-right-kinds.r decimals-put-right-reads.Post
-decimals-put-right κs a z z' left left' p q = wrote-first left.1 p.0 q.0
+pub decimals_put_right : NoSecond decimals-put-right-kinds.ps decimals-put-right-kinds.r decimals-put-right-reads.Post
+decimals_put_right κs a z z' left left' p q = wrote_first left.1 p.0 q.0
 
-pub decimals-put-signed : NoSecond decimals-put-signed-kinds.ps decimals-put-signed-kinds.r decimals-put-signed-reads.Post
-decimals-put-signed κs a z z' left left' p q = wrote-first left.1 p.0 q.0
+pub decimals_put_signed : NoSecond decimals-put-signed-kinds.ps decimals-put-signed-kinds.r decimals-put-signed-reads.Post
+decimals_put_signed κs a z z' left left' p q = wrote_first left.1 p.0 q.0
 
-pub decimals-count-signed : NoSecond decimals-count-signed-kinds.ps decimals-count-signed-kinds.r decimals-count-signed-reads.Post
-decimals-count-signed κs a z z' left left' p q = (once p.0 q.0, refl)
+pub decimals_count_signed : NoSecond decimals-count-signed-kinds.ps decimals-count-signed-kinds.r decimals-count-signed-reads.Post
+decimals_count_signed κs a z z' left left' p q = (once p.0 q.0, refl)
 
-pub decimals-put-signed-right : NoSecond decimals-put-signed-right-kinds.ps decimals-put-signed-right-kinds.r decimals-put-signed-right-reads.Post
-decimals-put-signed-right κs a z z' left left' p q = wrote-first left.1 p.0 q.0
+pub decimals_put_signed_right : NoSecond decimals-put-signed-right-kinds.ps decimals-put-signed-right-kinds.r decimals-put-signed-right-reads.Post
+decimals_put_signed_right κs a z z' left left' p q = wrote_first left.1 p.0 q.0
 
-pub decimals-put-left : NoSecond decimals-put-left-kinds.ps decimals-put-left-kinds.r decimals-put-left-reads.Post
-decimals-put-left κs a z z' left left' p q = wrote-first left.1 p.0 q.0
+pub decimals_put_left : NoSecond decimals-put-left-kinds.ps decimals-put-left-kinds.r decimals-put-left-reads.Post
+decimals_put_left κs a z z' left left' p q = wrote_first left.1 p.0 q.0
 
 -- ---- fixed
 
-pub fixed-read-field : NoSecond fixed-read-field-kinds.ps fixed-read-field-kinds.r fixed-read-field-reads.Post
-fixed-read-field κs a z z' left left' p q = (once p.0 q.0, refl)
+pub fixed_read_field : NoSecond fixed-read-field-kinds.ps fixed-read-field-kinds.r fixed-read-field-reads.Post
+fixed_read_field κs a z z' left left' p q = (once p.0 q.0, refl)
 
-pub fixed-holds : NoSecond fixed-holds-kinds.ps fixed-holds-kinds.r fixed-holds-reads.Post
-fixed-holds κs a z z' left left' p q = (once p q, refl)
+pub fixed_holds : NoSecond fixed-holds-kinds.ps fixed-holds-kinds.r fixed-holds-reads.Post
+fixed_holds κs a z z' left left' p q = (once p q, refl)
 
-pub fixed-read-signed : NoSecond fixed-read-signed-kinds.ps fixed-read-signed-kinds.r fixed-read-signed-reads.Post
-fixed-read-signed κs a z z' left left' p q = (once p.0 q.0, refl)
+pub fixed_read_signed : NoSecond fixed-read-signed-kinds.ps fixed-read-signed-kinds.r fixed-read-signed-reads.Post
+fixed_read_signed κs a z z' left left' p q = (once p.0 q.0, refl)
 
 -- ---- columns::look
 
-pub look-byte-at : NoSecond look-byte-at-kinds.ps look-byte-at-kinds.r look-byte-at-reads.Post
-look-byte-at κs a z z' left left' p q = (once p q, refl)
+pub look_byte_at : NoSecond look-byte-at-kinds.ps look-byte-at-kinds.r look-byte-at-reads.Post
+look_byte_at κs a z z' left left' p q = (once p q, refl)
 
-pub look-is-blank : NoSecond look-is-blank-kinds.ps look-is-blank-kinds.r look-is-blank-reads.Post
-look-is-blank κs a z z' left left' p q = (once p q, refl)
+pub look_is_blank : NoSecond look-is-blank-kinds.ps look-is-blank-kinds.r look-is-blank-reads.Post
+look_is_blank κs a z z' left left' p q = (once p q, refl)
 
-pub look-is-printable : NoSecond look-is-printable-kinds.ps look-is-printable-kinds.r look-is-printable-reads.Post
-look-is-printable κs a z z' left left' p q = (once p q, refl)
+pub look_is_printable : NoSecond look-is-printable-kinds.ps look-is-printable-kinds.r look-is-printable-reads.Post
+look_is_printable κs a z z' left left' p q = (once p q, refl)
 
-pub look-same : NoSecond look-same-kinds.ps look-same-kinds.r look-same-reads.Post
-look-same κs a z z' left left' p q = (once p q, refl)
+pub look_same : NoSecond look-same-kinds.ps look-same-kinds.r look-same-reads.Post
+look_same κs a z z' left left' p q = (once p q, refl)
 
 -- ---- columns
 
 pub wide : NoSecond wide-kinds.ps wide-kinds.r wide-reads.Post
 wide κs a z z' left left' p q = (once p.0 q.0, refl)
 
-pub byte-u32 : NoSecond byte-u32-kinds.ps byte-u32-kinds.r byte-u32-reads.Post
-byte-u32 κs a z z' left left' p q = (once p.0 q.0, refl)
+pub byte_u32 : NoSecond byte-u32-kinds.ps byte-u32-kinds.r byte-u32-reads.Post
+byte_u32 κs a z z' left left' p q = (once p.0 q.0, refl)
 
-pub byte-u64 : NoSecond byte-u64-kinds.ps byte-u64-kinds.r byte-u64-reads.Post
-byte-u64 κs a z z' left left' p q = (once p.0 q.0, refl)
+pub byte_u64 : NoSecond byte-u64-kinds.ps byte-u64-kinds.r byte-u64-reads.Post
+byte_u64 κs a z z' left left' p q = (once p.0 q.0, refl)

@@ -27,53 +27,53 @@ use Rattle.directory_lay.proofs.put_first.Reads as dsection-put-first-reads
 use Rattle.directory_lay.proofs.put_second.Kinds as dsection-put-second-kinds
 use Rattle.directory_lay.proofs.put_second.Reads as dsection-put-second-reads
 use Rattle.demands.specs.Unique.{NoSecond}
-use Rattle.demands.proofs.Unique.{once, wrote-first}
+use Rattle.demands.proofs.Unique.{once, wrote_first}
 
 -- ---- directory
 
-pub directory-place-of : NoSecond directory-place-of-kinds.ps directory-place-of-kinds.r directory-place-of-reads.Post
-directory-place-of κs a z z' left left' p q = (once p.0 q.0, refl)
+pub directory_place_of : NoSecond directory-place-of-kinds.ps directory-place-of-kinds.r directory-place-of-reads.Post
+directory_place_of κs a z z' left left' p q = (once p.0 q.0, refl)
 
-pub directory-start-of : NoSecond directory-start-of-kinds.ps directory-start-of-kinds.r directory-start-of-reads.Post
-directory-start-of κs a z z' left left' p q = (once p q, refl)
+pub directory_start_of : NoSecond directory-start-of-kinds.ps directory-start-of-kinds.r directory-start-of-reads.Post
+directory_start_of κs a z z' left left' p q = (once p q, refl)
 
-pub directory-in-order : NoSecond directory-in-order-kinds.ps directory-in-order-kinds.r directory-in-order-reads.Post
-directory-in-order κs a z z' left left' p q = (once p q, refl)
+pub directory_in_order : NoSecond directory-in-order-kinds.ps directory-in-order-kinds.r directory-in-order-reads.Post
+directory_in_order κs a z z' left left' p q = (once p q, refl)
 
-pub directory-fields-of : NoSecond directory-fields-of-kinds.ps directory-fields-of-kinds.r directory-fields-of-reads.Post
-directory-fields-of κs a z z' left left' p q = (once p q, refl)
+pub directory_fields_of : NoSecond directory-fields-of-kinds.ps directory-fields-of-kinds.r directory-fields-of-reads.Post
+directory_fields_of κs a z z' left left' p q = (once p q, refl)
 
 -- ---- dlines
 
-pub dlines-entry-at : NoSecond dlines-entry-at-kinds.ps dlines-entry-at-kinds.r dlines-entry-at-reads.Post
-dlines-entry-at κs a z z' left left' p q = (once p.0 q.0, refl)
+pub dlines_entry_at : NoSecond dlines-entry-at-kinds.ps dlines-entry-at-kinds.r dlines-entry-at-reads.Post
+dlines_entry_at κs a z z' left left' p q = (once p.0 q.0, refl)
 
-pub dlines-type-at : NoSecond dlines-type-at-kinds.ps dlines-type-at-kinds.r dlines-type-at-reads.Post
-dlines-type-at κs a z z' left left' p q = (once p.0 q.0, refl)
+pub dlines_type_at : NoSecond dlines-type-at-kinds.ps dlines-type-at-kinds.r dlines-type-at-reads.Post
+dlines_type_at κs a z z' left left' p q = (once p.0 q.0, refl)
 
-pub dlines-label-at : NoSecond dlines-label-at-kinds.ps dlines-label-at-kinds.r dlines-label-at-reads.Post
-dlines-label-at κs a z z' left left' p q = (once p q, refl)
+pub dlines_label_at : NoSecond dlines-label-at-kinds.ps dlines-label-at-kinds.r dlines-label-at-reads.Post
+dlines_label_at κs a z z' left left' p q = (once p q, refl)
 
 -- ---- classes
 
-pub classes-class-at : NoSecond classes-class-at-kinds.ps classes-class-at-kinds.r classes-class-at-reads.Post
-classes-class-at κs a z z' left left' p q = (once p q, refl)
+pub classes_class_at : NoSecond classes-class-at-kinds.ps classes-class-at-kinds.r classes-class-at-reads.Post
+classes_class_at κs a z z' left left' p q = (once p q, refl)
 
 -- ---- entryrules
 
-pub entryrules-entry-of : NoSecond entryrules-entry-of-kinds.ps entryrules-entry-of-kinds.r entryrules-entry-of-reads.Post
-entryrules-entry-of κs a z z' left left' p q = (once p q, refl)
+pub entryrules_entry_of : NoSecond entryrules-entry-of-kinds.ps entryrules-entry-of-kinds.r entryrules-entry-of-reads.Post
+entryrules_entry_of κs a z z' left left' p q = (once p q, refl)
 
-pub entryrules-entry-rules : NoSecond entryrules-entry-rules-kinds.ps entryrules-entry-rules-kinds.r entryrules-entry-rules-reads.Post
-entryrules-entry-rules κs a z z' left left' p q = (once p q, refl)
+pub entryrules_entry_rules : NoSecond entryrules-entry-rules-kinds.ps entryrules-entry-rules-kinds.r entryrules-entry-rules-reads.Post
+entryrules_entry_rules κs a z z' left left' p q = (once p q, refl)
 
-pub entryrules-wanted : NoSecond entryrules-wanted-kinds.ps entryrules-wanted-kinds.r entryrules-wanted-reads.Post
-entryrules-wanted κs a z z' left left' p q = (once p q, refl)
+pub entryrules_wanted : NoSecond entryrules-wanted-kinds.ps entryrules-wanted-kinds.r entryrules-wanted-reads.Post
+entryrules_wanted κs a z z' left left' p q = (once p q, refl)
 
 -- ---- dsection
 
-pub dsection-put-first : NoSecond dsection-put-first-kinds.ps dsection-put-first-kinds.r dsection-put-first-reads.Post
-dsection-put-first κs a z z' left left' p q = wrote-first left.1 p.0 q.0
+pub dsection_put_first : NoSecond dsection-put-first-kinds.ps dsection-put-first-kinds.r dsection-put-first-reads.Post
+dsection_put_first κs a z z' left left' p q = wrote_first left.1 p.0 q.0
 
-pub dsection-put-second : NoSecond dsection-put-second-kinds.ps dsection-put-second-kinds.r dsection-put-second-reads.Post
-dsection-put-second κs a z z' left left' p q = wrote-first left.1 p.0 q.0
+pub dsection_put_second : NoSecond dsection-put-second-kinds.ps dsection-put-second-kinds.r dsection-put-second-reads.Post
+dsection_put_second κs a z z' left left' p q = wrote_first left.1 p.0 q.0

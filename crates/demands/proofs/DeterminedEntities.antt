@@ -19,26 +19,26 @@ use Rattle.demands.proofs.Unique.{once}
 
 -- ---- entitypass
 
-pub entitypass-entity-pass : NoSecond entitypass-entity-pass-kinds.ps entitypass-entity-pass-kinds.r entitypass-entity-pass-reads.Post
-entitypass-entity-pass κs a z z' left left' p q = (ap₂ (λ (answer : EntityAnswer) (length : ℕ). record { answer = answer; length = length }) (once p.0 q.0) (once p.1.0 q.1.0), refl)
+pub entitypass_entity_pass : NoSecond entitypass-entity-pass-kinds.ps entitypass-entity-pass-kinds.r entitypass-entity-pass-reads.Post
+entitypass_entity_pass κs a z z' left left' p q = (ap₂ (λ (answer : EntityAnswer) (length : ℕ). record { answer = answer; length = length }) (once p.0 q.0) (once p.1.0 q.1.0), refl)
 
 -- ---- read_entities::marks
 
-pub marks-marks-begun : NoSecond marks-marks-begun-kinds.ps marks-marks-begun-kinds.r marks-marks-begun-reads.Post
-marks-marks-begun κs a z z' left left' p q = (once p q, refl)
+pub marks_marks_begun : NoSecond marks-marks-begun-kinds.ps marks-marks-begun-kinds.r marks-marks-begun-reads.Post
+marks_marks_begun κs a z z' left left' p q = (once p q, refl)
 
-pub marks-mark-of : NoSecond marks-mark-of-kinds.ps marks-mark-of-kinds.r marks-mark-of-reads.Post
-marks-mark-of κs a z z' left left' p q = (once p q, refl)
+pub marks_mark_of : NoSecond marks-mark-of-kinds.ps marks-mark-of-kinds.r marks-mark-of-reads.Post
+marks_mark_of κs a z z' left left' p q = (once p q, refl)
 
-pub marks-mark-step : NoSecond marks-mark-step-kinds.ps marks-mark-step-kinds.r marks-mark-step-reads.Post
-marks-mark-step κs a z z' left left' p q = (once p q, refl)
+pub marks_mark_step : NoSecond marks-mark-step-kinds.ps marks-mark-step-kinds.r marks-mark-step-reads.Post
+marks_mark_step κs a z z' left left' p q = (once p q, refl)
 
 -- ---- read_entities::naming
 
-pub naming-named-at : NoSecond naming-named-at-kinds.ps naming-named-at-kinds.r naming-named-at-reads.Post
-naming-named-at κs a z z' left left' p q = (once p q, refl)
+pub naming_named_at : NoSecond naming-named-at-kinds.ps naming-named-at-kinds.r naming-named-at-reads.Post
+naming_named_at κs a z z' left left' p q = (once p q, refl)
 
 -- ---- walking
 
-pub walking-walk : NoSecond walking-walk-kinds.ps walking-walk-kinds.r walking-walk-reads.Post
-walking-walk κs a z z' left left' p q = (once p.0 q.0, refl)
+pub walking_walk : NoSecond walking-walk-kinds.ps walking-walk-kinds.r walking-walk-reads.Post
+walking_walk κs a z z' left left' p q = (once p.0 q.0, refl)

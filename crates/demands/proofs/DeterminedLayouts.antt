@@ -39,61 +39,61 @@ use Rattle.demands.proofs.Unique.{once}
 
 -- ---- typelists
 
-pub typelists-bit-of : NoSecond typelists-bit-of-kinds.ps typelists-bit-of-kinds.r typelists-bit-of-reads.Post
-typelists-bit-of κs a z z' left left' p q = (once p q, refl)
+pub typelists_bit_of : NoSecond typelists-bit-of-kinds.ps typelists-bit-of-kinds.r typelists-bit-of-reads.Post
+typelists_bit_of κs a z z' left left' p q = (once p q, refl)
 
-pub typelists-known : NoSecond typelists-known-kinds.ps typelists-known-kinds.r typelists-known-reads.Post
-typelists-known κs a z z' left left' p q = (once p q, refl)
+pub typelists_known : NoSecond typelists-known-kinds.ps typelists-known-kinds.r typelists-known-reads.Post
+typelists_known κs a z z' left left' p q = (once p q, refl)
 
-pub typelists-is-list : NoSecond typelists-is-list-kinds.ps typelists-is-list-kinds.r typelists-is-list-reads.Post
-typelists-is-list κs a z z' left left' p q = (once p q, refl)
+pub typelists_is_list : NoSecond typelists-is-list-kinds.ps typelists-is-list-kinds.r typelists-is-list-reads.Post
+typelists_is_list κs a z z' left left' p q = (once p q, refl)
 
 -- ---- machine
 
-pub machine-with-left : NoSecond machine-with-left-kinds.ps machine-with-left-kinds.r machine-with-left-reads.Post
-machine-with-left κs a z z' left left' p q = (once p q, refl)
+pub machine_with_left : NoSecond machine-with-left-kinds.ps machine-with-left-kinds.r machine-with-left-reads.Post
+machine_with_left κs a z z' left left' p q = (once p q, refl)
 
-pub machine-runs-on : NoSecond machine-runs-on-kinds.ps machine-runs-on-kinds.r machine-runs-on-reads.Post
-machine-runs-on κs a z z' left left' p q = (once p q, refl)
+pub machine_runs_on : NoSecond machine-runs-on-kinds.ps machine-runs-on-kinds.r machine-runs-on-reads.Post
+machine_runs_on κs a z z' left left' p q = (once p q, refl)
 
-pub machine-step : NoSecond machine-step-kinds.ps machine-step-kinds.r machine-step-reads.Post
-machine-step κs a z z' left left' p q = (once p q, refl)
+pub machine_step : NoSecond machine-step-kinds.ps machine-step-kinds.r machine-step-reads.Post
+machine_step κs a z z' left left' p q = (once p q, refl)
 
-pub machine-end : NoSecond machine-end-kinds.ps machine-end-kinds.r machine-end-reads.Post
-machine-end κs a z z' left left' p q = (once p q, refl)
+pub machine_end : NoSecond machine-end-kinds.ps machine-end-kinds.r machine-end-reads.Post
+machine_end κs a z z' left left' p q = (once p q, refl)
 
-pub machine-start : NoSecond machine-start-kinds.ps machine-start-kinds.r machine-start-reads.Post
-machine-start κs a z z' left left' p q = (once p q, refl)
+pub machine_start : NoSecond machine-start-kinds.ps machine-start-kinds.r machine-start-reads.Post
+machine_start κs a z z' left left' p q = (once p q, refl)
 
-pub machine-is-reference : NoSecond machine-is-reference-kinds.ps machine-is-reference-kinds.r machine-is-reference-reads.Post
-machine-is-reference κs a z z' left left' p q = (once p q, refl)
+pub machine_is_reference : NoSecond machine-is-reference-kinds.ps machine-is-reference-kinds.r machine-is-reference-reads.Post
+machine_is_reference κs a z z' left left' p q = (once p q, refl)
 
 -- ---- layoutrows
 
-pub layoutrows-look : NoSecond layoutrows-look-kinds.ps layoutrows-look-kinds.r layoutrows-look-reads.Post
-layoutrows-look κs a z z' left left' p q = (once p q, refl)
+pub layoutrows_look : NoSecond layoutrows-look-kinds.ps layoutrows-look-kinds.r layoutrows-look-reads.Post
+layoutrows_look κs a z z' left left' p q = (once p q, refl)
 
-pub layoutrows-rests-in : NoSecond layoutrows-rests-in-kinds.ps layoutrows-rests-in-kinds.r layoutrows-rests-in-reads.Post
-layoutrows-rests-in κs a z z' left left' p q = (once p q, refl)
+pub layoutrows_rests_in : NoSecond layoutrows-rests-in-kinds.ps layoutrows-rests-in-kinds.r layoutrows-rests-in-reads.Post
+layoutrows_rests_in κs a z z' left left' p q = (once p q, refl)
 
 -- ---- takes
 
-pub takes-takes-in : NoSecond takes-takes-in-kinds.ps takes-takes-in-kinds.r takes-takes-in-reads.Post
-takes-takes-in κs a z z' left left' p q = (once p q, refl)
+pub takes_takes_in : NoSecond takes-takes-in-kinds.ps takes-takes-in-kinds.r takes-takes-in-reads.Post
+takes_takes_in κs a z z' left left' p q = (once p q, refl)
 
 -- ---- layouts_rows::told
 
-pub layoutrows-told-numeric-in : NoSecond layoutrows-told-numeric-in-kinds.ps layoutrows-told-numeric-in-kinds.r layoutrows-told-numeric-in-reads.Post
-layoutrows-told-numeric-in κs a z z' left left' p q = (once p q, refl)
+pub layoutrows_told_numeric_in : NoSecond layoutrows-told-numeric-in-kinds.ps layoutrows-told-numeric-in-kinds.r layoutrows-told-numeric-in-reads.Post
+layoutrows_told_numeric_in κs a z z' left left' p q = (once p q, refl)
 
-pub layoutrows-told-above-in : NoSecond layoutrows-told-above-in-kinds.ps layoutrows-told-above-in-kinds.r layoutrows-told-above-in-reads.Post
-layoutrows-told-above-in κs a z z' left left' p q = (once p q, refl)
+pub layoutrows_told_above_in : NoSecond layoutrows-told-above-in-kinds.ps layoutrows-told-above-in-kinds.r layoutrows-told-above-in-reads.Post
+layoutrows_told_above_in κs a z z' left left' p q = (once p q, refl)
 
-pub layoutrows-told-text-in : NoSecond layoutrows-told-text_in-kinds.ps layoutrows-told-text_in-kinds.r layoutrows-told-text_in-reads.Post
-layoutrows-told-text-in κs a z z' left left' p q = (once p q, refl)
+pub layoutrows_told_text_in : NoSecond layoutrows-told-text_in-kinds.ps layoutrows-told-text_in-kinds.r layoutrows-told-text_in-reads.Post
+layoutrows_told_text_in κs a z z' left left' p q = (once p q, refl)
 
-pub layoutrows-told-within-in : NoSecond layoutrows-told-within-in-kinds.ps layoutrows-told-within-in-kinds.r layoutrows-told-within-in-reads.Post
-layoutrows-told-within-in κs a z z' left left' p q = (once p q, refl)
+pub layoutrows_told_within_in : NoSecond layoutrows-told-within-in-kinds.ps layoutrows-told-within-in-kinds.r layoutrows-told-within-in-reads.Post
+layoutrows_told_within_in κs a z z' left left' p q = (once p q, refl)
 
-pub layoutrows-told-size-in : NoSecond layoutrows-told-size-in-kinds.ps layoutrows-told-size-in-kinds.r layoutrows-told-size-in-reads.Post
-layoutrows-told-size-in κs a z z' left left' p q = (once p q, refl)
+pub layoutrows_told_size_in : NoSecond layoutrows-told-size-in-kinds.ps layoutrows-told-size-in-kinds.r layoutrows-told-size-in-reads.Post
+layoutrows_told_size_in κs a z z' left left' p q = (once p q, refl)

@@ -15,19 +15,19 @@ use Rattle.demands.proofs.Unique.{once, number-once, line-once}
 
 -- ---- owning
 
-pub owning-owners : NoSecond owning-owners-kinds.ps owning-owners-kinds.r owning-owners-reads.Post
-owning-owners κs a z z' left left' p q = (once p.0 q.0, refl)
+pub owning_owners : NoSecond owning-owners-kinds.ps owning-owners-kinds.r owning-owners-reads.Post
+owning_owners κs a z z' left left' p q = (once p.0 q.0, refl)
 
-pub owning-line-of : NoSecond owning-line-of-kinds.ps owning-line-of-kinds.r owning-line-of-reads.Post
-owning-line-of κs a z z' left left' p q = (once p q, refl)
+pub owning_line_of : NoSecond owning-line-of-kinds.ps owning-line-of-kinds.r owning-line-of-reads.Post
+owning_line_of κs a z z' left left' p q = (once p q, refl)
 
 -- ---- owners::places
 
-pub places-owner-at : NoSecond places-owner-at-kinds.ps places-owner-at-kinds.r places-owner-at-reads.Post
-places-owner-at κs a z z' left left' p q = (number-once p q, refl)
+pub places_owner_at : NoSecond places-owner-at-kinds.ps places-owner-at-kinds.r places-owner-at-reads.Post
+places_owner_at κs a z z' left left' p q = (number-once p q, refl)
 
-pub places-from-at : NoSecond places-from-at-kinds.ps places-from-at-kinds.r places-from-at-reads.Post
-places-from-at κs a z z' left left' p q = (line-once p q, refl)
+pub places_from_at : NoSecond places-from-at-kinds.ps places-from-at-kinds.r places-from-at-reads.Post
+places_from_at κs a z z' left left' p q = (line-once p q, refl)
 
-pub places-count-at : NoSecond places-count-at-kinds.ps places-count-at-kinds.r places-count-at-reads.Post
-places-count-at κs a z z' left left' p q = (once p q, refl)
+pub places_count_at : NoSecond places-count-at-kinds.ps places-count-at-kinds.r places-count-at-reads.Post
+places_count_at κs a z z' left left' p q = (once p q, refl)

@@ -11,13 +11,13 @@ use Rattle.demands.proofs.Unique.{once}
 
 -- ---- dpass
 
-pub dpass-entries : NoSecond dpass-entries-kinds.ps dpass-entries-kinds.r dpass-entries-reads.Post
-dpass-entries κs a z z' left left' p q = (once p q, refl)
+pub dpass_entries : NoSecond dpass-entries-kinds.ps dpass-entries-kinds.r dpass-entries-reads.Post
+dpass_entries κs a z z' left left' p q = (once p q, refl)
 
 -- ---- gpass
 
-pub gpass-globals : NoSecond gpass-globals-kinds.ps gpass-globals-kinds.r gpass-globals-reads.Post
-gpass-globals κs a z z' left left' p q = (once p q, refl)
+pub gpass_globals : NoSecond gpass-globals-kinds.ps gpass-globals-kinds.r gpass-globals-reads.Post
+gpass_globals κs a z z' left left' p q = (once p q, refl)
 
 -- ---- before
 

@@ -38,50 +38,50 @@ use Rattle.demands.specs.Unique.{NoSecond}
 use Rattle.demands.proofs.Unique.{once}
 
 -- a number and a position in one are told by both
-packs-once : {r r' : ℕ} (x : Reached) → Packs r x → Packs r' x → r ≡ r'
-packs-once x p q = omega (arith, p.0, p.1, q.0, q.1)
+packs_once : {r r' : ℕ} (x : Reached) → Packs r x → Packs r' x → r ≡ r'
+packs_once x p q = omega (arith, p.0, p.1, q.0, q.1)
 
-pub pieces-ahead-first : NoSecond pieces-ahead-first-kinds.ps pieces-ahead-first-kinds.r pieces-ahead-first-reads.Post
-pieces-ahead-first κs a z z' left left' p q = (once p q, refl)
+pub pieces_ahead_first : NoSecond pieces-ahead-first-kinds.ps pieces-ahead-first-kinds.r pieces-ahead-first-reads.Post
+pieces_ahead_first κs a z z' left left' p q = (once p q, refl)
 
-pub pieces-ahead-parameters : NoSecond pieces-ahead-parameters-kinds.ps pieces-ahead-parameters-kinds.r pieces-ahead-parameters-reads.Post
-pieces-ahead-parameters κs a z z' left left' p q = (once p q, refl)
+pub pieces_ahead_parameters : NoSecond pieces-ahead-parameters-kinds.ps pieces-ahead-parameters-kinds.r pieces-ahead-parameters-reads.Post
+pieces_ahead_parameters κs a z z' left left' p q = (once p q, refl)
 
-pub pieces-ahead-parameter : NoSecond pieces-ahead-parameter-kinds.ps pieces-ahead-parameter-kinds.r pieces-ahead-parameter-reads.Post
-pieces-ahead-parameter κs a z z' left left' p q = (once p q, refl)
+pub pieces_ahead_parameter : NoSecond pieces-ahead-parameter-kinds.ps pieces-ahead-parameter-kinds.r pieces-ahead-parameter-reads.Post
+pieces_ahead_parameter κs a z z' left left' p q = (once p q, refl)
 
-pub pieces-ahead-closing : NoSecond pieces-ahead-closing-kinds.ps pieces-ahead-closing-kinds.r pieces-ahead-closing-reads.Post
-pieces-ahead-closing κs a z z' left left' p q = (once p q, refl)
+pub pieces_ahead_closing : NoSecond pieces-ahead-closing-kinds.ps pieces-ahead-closing-kinds.r pieces-ahead-closing-reads.Post
+pieces_ahead_closing κs a z z' left left' p q = (once p q, refl)
 
-pub pieces-ahead-ahead : NoSecond pieces-ahead-ahead-kinds.ps pieces-ahead-ahead-kinds.r pieces-ahead-ahead-reads.Post
-pieces-ahead-ahead κs a z z' left left' p q = (once p q, refl)
+pub pieces_ahead_ahead : NoSecond pieces-ahead-ahead-kinds.ps pieces-ahead-ahead-kinds.r pieces-ahead-ahead-reads.Post
+pieces_ahead_ahead κs a z z' left left' p q = (once p q, refl)
 
-pub pieces-ahead-places-of : NoSecond pieces-ahead-places-of-kinds.ps pieces-ahead-places-of-kinds.r pieces-ahead-places-of-reads.Post
-pieces-ahead-places-of κs a z z' left left' p q = (once p q, refl)
+pub pieces_ahead_places_of : NoSecond pieces-ahead-places-of-kinds.ps pieces-ahead-places-of-kinds.r pieces-ahead-places-of-reads.Post
+pieces_ahead_places_of κs a z z' left left' p q = (once p q, refl)
 
-pub pieces-ahead-value-at : NoSecond pieces-ahead-value-at-kinds.ps pieces-ahead-value-at-kinds.r pieces-ahead-value-at-reads.Post
-pieces-ahead-value-at κs a z z' left left' p q = (once p.0 q.0, refl)
+pub pieces_ahead_value_at : NoSecond pieces-ahead-value-at-kinds.ps pieces-ahead-value-at-kinds.r pieces-ahead-value-at-reads.Post
+pieces_ahead_value_at κs a z z' left left' p q = (once p.0 q.0, refl)
 
-pub pieces-read-number-of : NoSecond pieces-read-number-of-kinds.ps pieces-read-number-of-kinds.r pieces-read-number-of-reads.Post
-pieces-read-number-of κs a z z' left left' p q = (once p q, refl)
+pub pieces_read_number_of : NoSecond pieces-read-number-of-kinds.ps pieces-read-number-of-kinds.r pieces-read-number-of-reads.Post
+pieces_read_number_of κs a z z' left left' p q = (once p q, refl)
 
-pub pieces-read-next-of : NoSecond pieces-read-next-of-kinds.ps pieces-read-next-of-kinds.r pieces-read-next-of-reads.Post
-pieces-read-next-of κs a z z' left left' p q = (once p q, refl)
+pub pieces_read_next_of : NoSecond pieces-read-next-of-kinds.ps pieces-read-next-of-kinds.r pieces-read-next-of-reads.Post
+pieces_read_next_of κs a z z' left left' p q = (once p q, refl)
 
-pub pieces-read-type-of : NoSecond pieces-read-type-of-kinds.ps pieces-read-type-of-kinds.r pieces-read-type-of-reads.Post
-pieces-read-type-of κs a z z' left left' p q = (once p q, refl)
+pub pieces_read_type_of : NoSecond pieces-read-type-of-kinds.ps pieces-read-type-of-kinds.r pieces-read-type-of-reads.Post
+pieces_read_type_of κs a z z' left left' p q = (once p q, refl)
 
-pub pieces-read-first-number : NoSecond pieces-read-first-number-kinds.ps pieces-read-first-number-kinds.r pieces-read-first-number-reads.Post
-pieces-read-first-number κs a z z' left left' p q = (once p q, refl)
+pub pieces_read_first_number : NoSecond pieces-read-first-number-kinds.ps pieces-read-first-number-kinds.r pieces-read-first-number-reads.Post
+pieces_read_first_number κs a z z' left left' p q = (once p q, refl)
 
-pub pieces-read-members-of : NoSecond pieces-read-members-of-kinds.ps pieces-read-members-of-kinds.r pieces-read-members-of-reads.Post
-pieces-read-members-of κs a z z' left left' p q = (packs-once _ p.0 q.0, refl)
+pub pieces_read_members_of : NoSecond pieces-read-members-of-kinds.ps pieces-read-members-of-kinds.r pieces-read-members-of-reads.Post
+pieces_read_members_of κs a z z' left left' p q = (packs_once _ p.0 q.0, refl)
 
-pub pieces-read-member-from : NoSecond pieces-read-member-from-kinds.ps pieces-read-member-from-kinds.r pieces-read-member-from-reads.Post
-pieces-read-member-from κs a z z' left left' p q = (packs-once _ p.0 q.0, refl)
+pub pieces_read_member_from : NoSecond pieces-read-member-from-kinds.ps pieces-read-member-from-kinds.r pieces-read-member-from-reads.Post
+pieces_read_member_from κs a z z' left left' p q = (packs_once _ p.0 q.0, refl)
 
-pub pieces-read-member-of : NoSecond pieces-read-member-of-kinds.ps pieces-read-member-of-kinds.r pieces-read-member-of-reads.Post
-pieces-read-member-of κs a z z' left left' p q = (once p q, refl)
+pub pieces_read_member_of : NoSecond pieces-read-member-of-kinds.ps pieces-read-member-of-kinds.r pieces-read-member-of-reads.Post
+pieces_read_member_of κs a z z' left left' p q = (once p q, refl)
 
-pub pieces-count-instance : NoSecond pieces-count-instance-kinds.ps pieces-count-instance-kinds.r pieces-count-instance-reads.Post
-pieces-count-instance κs a z z' left left' p q = (once p q, refl)
+pub pieces_count_instance : NoSecond pieces-count-instance-kinds.ps pieces-count-instance-kinds.r pieces-count-instance-reads.Post
+pieces_count_instance κs a z z' left left' p q = (once p q, refl)

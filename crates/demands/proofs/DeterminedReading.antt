@@ -13,14 +13,14 @@ use Rattle.demands.proofs.Unique.{once}
 
 -- ---- weighing
 
-pub weighing-last-pass : NoSecond weighing-last-pass-kinds.ps weighing-last-pass-kinds.r weighing-last-pass-reads.Post
-weighing-last-pass κs a z z' left left' p q = (once p.0 q.0, refl)
+pub weighing_last_pass : NoSecond weighing-last-pass-kinds.ps weighing-last-pass-kinds.r weighing-last-pass-reads.Post
+weighing_last_pass κs a z z' left left' p q = (once p.0 q.0, refl)
 
-pub weighing-check : NoSecond weighing-check-kinds.ps weighing-check-kinds.r weighing-check-reads.Post
-weighing-check κs a z z' left left' p q = (once p q, refl)
+pub weighing_check : NoSecond weighing-check-kinds.ps weighing-check-kinds.r weighing-check-reads.Post
+weighing_check κs a z z' left left' p q = (once p q, refl)
 
-pub weighing-weigh : NoSecond weighing-weigh-kinds.ps weighing-weigh-kinds.r weighing-weigh-reads.Post
-weighing-weigh κs a z z' left left' p q = (once p.0 q.0, refl)
+pub weighing_weigh : NoSecond weighing-weigh-kinds.ps weighing-weigh-kinds.r weighing-weigh-reads.Post
+weighing_weigh κs a z z' left left' p q = (once p.0 q.0, refl)
 
 -- ---- reading
 

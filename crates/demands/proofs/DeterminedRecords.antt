@@ -39,59 +39,59 @@ use Rattle.demands.proofs.Unique.{once, put_first}
 
 -- ---- flow
 
-pub flow-put-char : NoSecond flow-put-char-kinds.ps flow-put-char-kinds.r flow-put-char-reads.Post
-flow-put-char κs a z z' left left' p q = put_first left.1 p.0 q.0
+pub flow_put_char : NoSecond flow-put-char-kinds.ps flow-put-char-kinds.r flow-put-char-reads.Post
+flow_put_char κs a z z' left left' p q = put_first left.1 p.0 q.0
 
-pub flow-put-all : NoSecond flow-put-all-kinds.ps flow-put-all-kinds.r flow-put-all-reads.Post
-flow-put-all κs a z z' left left' p q = put_first left.1 p.0 q.0
+pub flow_put_all : NoSecond flow-put-all-kinds.ps flow-put-all-kinds.r flow-put-all-reads.Post
+flow_put_all κs a z z' left left' p q = put_first left.1 p.0 q.0
 
-pub flow-put-run : NoSecond flow-put-run-kinds.ps flow-put-run-kinds.r flow-put-run-reads.Post
-flow-put-run κs a z z' left left' p q = put_first left.1 p.0 q.0
+pub flow_put_run : NoSecond flow-put-run-kinds.ps flow-put-run-kinds.r flow-put-run-reads.Post
+flow_put_run κs a z z' left left' p q = put_first left.1 p.0 q.0
 
-pub flow-put-piece : NoSecond flow-put-piece-kinds.ps flow-put-piece-kinds.r flow-put-piece-reads.Post
-flow-put-piece κs a z z' left left' p q = put_first left.1 p.0 q.0
+pub flow_put_piece : NoSecond flow-put-piece-kinds.ps flow-put-piece-kinds.r flow-put-piece-reads.Post
+flow_put_piece κs a z z' left left' p q = put_first left.1 p.0 q.0
 
-pub flow-gap-of : NoSecond flow-gap-of-kinds.ps flow-gap-of-kinds.r flow-gap-of-reads.Post
-flow-gap-of κs a z z' left left' p q = (once p.0 q.0, refl)
+pub flow_gap_of : NoSecond flow-gap-of-kinds.ps flow-gap-of-kinds.r flow-gap-of-reads.Post
+flow_gap_of κs a z z' left left' p q = (once p.0 q.0, refl)
 
-pub flow-piece-end : NoSecond flow-piece-end-kinds.ps flow-piece-end-kinds.r flow-piece-end-reads.Post
-flow-piece-end κs a z z' left left' p q = (once p.0 q.0, refl)
+pub flow_piece_end : NoSecond flow-piece-end-kinds.ps flow-piece-end-kinds.r flow-piece-end-reads.Post
+flow_piece_end κs a z z' left left' p q = (once p.0 q.0, refl)
 
-pub flow-spelled-end : NoSecond flow-spelled-end-kinds.ps flow-spelled-end-kinds.r flow-spelled-end-reads.Post
-flow-spelled-end κs a z z' left left' p q = (once p.0 q.0, refl)
+pub flow_spelled_end : NoSecond flow-spelled-end-kinds.ps flow-spelled-end-kinds.r flow-spelled-end-reads.Post
+flow_spelled_end κs a z z' left left' p q = (once p.0 q.0, refl)
 
-pub flow-line-count : NoSecond flow-line-count-kinds.ps flow-line-count-kinds.r flow-line-count-reads.Post
-flow-line-count κs a z z' left left' p q = (once p.0 q.0, refl)
+pub flow_line_count : NoSecond flow-line-count-kinds.ps flow-line-count-kinds.r flow-line-count-reads.Post
+flow_line_count κs a z z' left left' p q = (once p.0 q.0, refl)
 
 -- ---- global
 
-pub global-opening-of : NoSecond global-opening-of-kinds.ps global-opening-of-kinds.r global-opening-of-reads.Post
-global-opening-of κs a z z' left left' p q = (once p.0 q.0, refl)
+pub global_opening_of : NoSecond global-opening-of-kinds.ps global-opening-of-kinds.r global-opening-of-reads.Post
+global_opening_of κs a z z' left left' p q = (once p.0 q.0, refl)
 
-pub global-stray : NoSecond global-stray-kinds.ps global-stray-kinds.r global-stray-reads.Post
-global-stray κs a z z' left left' p q = (once p.0 q.0, refl)
+pub global_stray : NoSecond global-stray-kinds.ps global-stray-kinds.r global-stray-reads.Post
+global_stray κs a z z' left left' p q = (once p.0 q.0, refl)
 
-pub global-global-fits : NoSecond global-global-fits-kinds.ps global-global-fits-kinds.r global-global-fits-reads.Post
-global-global-fits κs a z z' left left' p q = (once p q, refl)
+pub global_global_fits : NoSecond global-global-fits-kinds.ps global-global-fits-kinds.r global-global-fits-reads.Post
+global_global_fits κs a z z' left left' p q = (once p q, refl)
 
 -- ---- freeformat
 
-pub freeformat-char-at : NoSecond freeformat-char-at-kinds.ps freeformat-char-at-kinds.r freeformat-char-at-reads.Post
-freeformat-char-at κs a z z' left left' p q = (once p q, refl)
+pub freeformat_char_at : NoSecond freeformat-char-at-kinds.ps freeformat-char-at-kinds.r freeformat-char-at-reads.Post
+freeformat_char_at κs a z z' left left' p q = (once p q, refl)
 
-pub freeformat-behind-blanks : NoSecond freeformat-behind-blanks-kinds.ps freeformat-behind-blanks-kinds.r freeformat-behind-blanks-reads.Post
-freeformat-behind-blanks κs a z z' left left' p q = (once p.0 q.0, refl)
+pub freeformat_behind_blanks : NoSecond freeformat-behind-blanks-kinds.ps freeformat-behind-blanks-kinds.r freeformat-behind-blanks-reads.Post
+freeformat_behind_blanks κs a z z' left left' p q = (once p.0 q.0, refl)
 
-pub freeformat-value-at : NoSecond freeformat-value-at-kinds.ps freeformat-value-at-kinds.r freeformat-value-at-reads.Post
-freeformat-value-at κs a z z' left left' p q = (once p.0 q.0, refl)
+pub freeformat_value_at : NoSecond freeformat-value-at-kinds.ps freeformat-value-at-kinds.r freeformat-value-at-reads.Post
+freeformat_value_at κs a z z' left left' p q = (once p.0 q.0, refl)
 
-pub freeformat-check-from : NoSecond freeformat-check-from-kinds.ps freeformat-check-from-kinds.r freeformat-check-from-reads.Post
-freeformat-check-from κs a z z' left left' p q = (once p.0 q.0, refl)
+pub freeformat_check_from : NoSecond freeformat-check-from-kinds.ps freeformat-check-from-kinds.r freeformat-check-from-reads.Post
+freeformat_check_from κs a z z' left left' p q = (once p.0 q.0, refl)
 
 -- ---- records::position
 
-pub position-index-of : NoSecond position-index-of-kinds.ps position-index-of-kinds.r position-index-of-reads.Post
-position-index-of κs a z z' left left' p q = (once p q, refl)
+pub position_index_of : NoSecond position-index-of-kinds.ps position-index-of-kinds.r position-index-of-reads.Post
+position_index_of κs a z z' left left' p q = (once p q, refl)
 
-pub position-column-of : NoSecond position-column-of-kinds.ps position-column-of-kinds.r position-column-of-reads.Post
-position-column-of κs a z z' left left' p q = (once p q, refl)
+pub position_column_of : NoSecond position-column-of-kinds.ps position-column-of-kinds.r position-column-of-reads.Post
+position_column_of κs a z z' left left' p q = (once p q, refl)

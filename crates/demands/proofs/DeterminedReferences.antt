@@ -7,8 +7,8 @@ use Rattle.references.proofs.fits.Reads as fits-reads
 use Rattle.demands.specs.Unique.{NoSecond}
 use Rattle.demands.proofs.Unique.{once}
 
-pub class-of : NoSecond class-of-kinds.ps class-of-kinds.r class-of-reads.Post
-class-of κs a z z' left left' p q = (once p.0 q.0, refl)
+pub class_of_lem : NoSecond class-of-kinds.ps class-of-kinds.r class-of-reads.Post
+class_of_lem κs a z z' left left' p q = (once p.0 q.0, refl)
 
 pub fits : NoSecond fits-kinds.ps fits-kinds.r fits-reads.Post
 fits κs a z z' left left' p q = (once p q, refl)

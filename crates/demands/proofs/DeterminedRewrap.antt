@@ -5,5 +5,5 @@ use Rattle.desk.proofs.answers.refusal.Reads as answers-refusal-reads
 use Rattle.demands.specs.Unique.{NoSecond}
 use Rattle.demands.proofs.Unique.{once}
 
-pub answers-refusal : NoSecond answers-refusal-kinds.ps answers-refusal-kinds.r answers-refusal-reads.Post
-answers-refusal κs a z z' left left' p q = (once p q, refl)
+pub answers_refusal : NoSecond answers-refusal-kinds.ps answers-refusal-kinds.r answers-refusal-reads.Post
+answers_refusal κs a z z' left left' p q = (once p q, refl)

@@ -31,61 +31,61 @@ use Rattle.values_limits.proofs.finish_of.Reads as limits-finish-of-reads
 use Rattle.values.proofs.is_missing.Kinds as is-missing-kinds
 use Rattle.values.proofs.is_missing.Reads as is-missing-reads
 use Rattle.demands.specs.Unique.{NoSecond}
-use Rattle.demands.proofs.Unique.{once, wrote-first}
+use Rattle.demands.proofs.Unique.{once, wrote_first}
 
 -- ---- strict
 
-pub strict-strict : NoSecond strict-strict-kinds.ps strict-strict-kinds.r strict-strict-reads.Post
-strict-strict κs a z z' left left' p q = (once p.0 q.0, refl)
+pub strict_strict : NoSecond strict-strict-kinds.ps strict-strict-kinds.r strict-strict-reads.Post
+strict_strict κs a z z' left left' p q = (once p.0 q.0, refl)
 
-pub strict-front-of : NoSecond strict-front-of-kinds.ps strict-front-of-kinds.r strict-front-of-reads.Post
-strict-front-of κs a z z' left left' p q = (once p.0 q.0, refl)
+pub strict_front_of : NoSecond strict-front-of-kinds.ps strict-front-of-kinds.r strict-front-of-reads.Post
+strict_front_of κs a z z' left left' p q = (once p.0 q.0, refl)
 
 -- ---- digits
 
-pub digits-scan-at : NoSecond digits-scan-at-kinds.ps digits-scan-at-kinds.r digits-scan-at-reads.Post
-digits-scan-at κs a z z' left left' p q = (once p.0 q.0, refl)
+pub digits_scan_at : NoSecond digits-scan-at-kinds.ps digits-scan-at-kinds.r digits-scan-at-reads.Post
+digits_scan_at κs a z z' left left' p q = (once p.0 q.0, refl)
 
 -- ---- numbers
 
-pub numbers-read : NoSecond numbers-read-kinds.ps numbers-read-kinds.r numbers-read-reads.Post
-numbers-read κs a z z' left left' p q = (once p.0 q.0, refl)
+pub numbers_read : NoSecond numbers-read-kinds.ps numbers-read-kinds.r numbers-read-reads.Post
+numbers_read κs a z z' left left' p q = (once p.0 q.0, refl)
 
-pub numbers-head-of : NoSecond numbers-head-of-kinds.ps numbers-head-of-kinds.r numbers-head-of-reads.Post
-numbers-head-of κs a z z' left left' p q = (once p.0 q.0, refl)
+pub numbers_head_of : NoSecond numbers-head-of-kinds.ps numbers-head-of-kinds.r numbers-head-of-reads.Post
+numbers_head_of κs a z z' left left' p q = (once p.0 q.0, refl)
 
 -- ---- spell
 
-pub spell-put-whole : NoSecond spell-put-whole-kinds.ps spell-put-whole-kinds.r spell-put-whole-reads.Post
-spell-put-whole κs a z z' left left' p q = wrote-first left.1 p.0 q.0
+pub spell_put_whole : NoSecond spell-put-whole-kinds.ps spell-put-whole-kinds.r spell-put-whole-reads.Post
+spell_put_whole κs a z z' left left' p q = wrote_first left.1 p.0 q.0
 
-pub spell-put-real : NoSecond spell-put-real-kinds.ps spell-put-real-kinds.r spell-put-real-reads.Post
-spell-put-real κs a z z' left left' p q = wrote-first left.1 p.0 q.0
+pub spell_put_real : NoSecond spell-put-real-kinds.ps spell-put-real-kinds.r spell-put-real-reads.Post
+spell_put_real κs a z z' left left' p q = wrote_first left.1 p.0 q.0
 
-pub spell-put-head : NoSecond spell-put-head-kinds.ps spell-put-head-kinds.r spell-put-head-reads.Post
-spell-put-head κs a z z' left left' p q = wrote-first left.1 p.0 q.0
+pub spell_put_head : NoSecond spell-put-head-kinds.ps spell-put-head-kinds.r spell-put-head-reads.Post
+spell_put_head κs a z z' left left' p q = wrote_first left.1 p.0 q.0
 
-pub spell-put-front : NoSecond spell-put-front-kinds.ps spell-put-front-kinds.r spell-put-front-reads.Post
-spell-put-front κs a z z' left left' p q = wrote-first left.1 p.0 q.0
+pub spell_put_front : NoSecond spell-put-front-kinds.ps spell-put-front-kinds.r spell-put-front-reads.Post
+spell_put_front κs a z z' left left' p q = wrote_first left.1 p.0 q.0
 
-pub spell-whole-len : NoSecond spell-whole-len-kinds.ps spell-whole-len-kinds.r spell-whole-len-reads.Post
-spell-whole-len κs a z z' left left' p q = (once p.0 q.0, refl)
+pub spell_whole_len : NoSecond spell-whole-len-kinds.ps spell-whole-len-kinds.r spell-whole-len-reads.Post
+spell_whole_len κs a z z' left left' p q = (once p.0 q.0, refl)
 
-pub spell-real-len : NoSecond spell-real-len-kinds.ps spell-real-len-kinds.r spell-real-len-reads.Post
-spell-real-len κs a z z' left left' p q = (once p.0 q.0, refl)
+pub spell_real_len : NoSecond spell-real-len-kinds.ps spell-real-len-kinds.r spell-real-len-reads.Post
+spell_real_len κs a z z' left left' p q = (once p.0 q.0, refl)
 
-pub spell-head-len : NoSecond spell-head-len-kinds.ps spell-head-len-kinds.r spell-head-len-reads.Post
-spell-head-len κs a z z' left left' p q = (once p.0 q.0, refl)
+pub spell_head_len : NoSecond spell-head-len-kinds.ps spell-head-len-kinds.r spell-head-len-reads.Post
+spell_head_len κs a z z' left left' p q = (once p.0 q.0, refl)
 
-pub spell-front-len : NoSecond spell-front-len-kinds.ps spell-front-len-kinds.r spell-front-len-reads.Post
-spell-front-len κs a z z' left left' p q = (once p.0 q.0, refl)
+pub spell_front_len : NoSecond spell-front-len-kinds.ps spell-front-len-kinds.r spell-front-len-reads.Post
+spell_front_len κs a z z' left left' p q = (once p.0 q.0, refl)
 
 -- ---- limits
 
-pub limits-finish-of : NoSecond limits-finish-of-kinds.ps limits-finish-of-kinds.r limits-finish-of-reads.Post
-limits-finish-of κs a z z' left left' p q = (once p q, refl)
+pub limits_finish_of : NoSecond limits-finish-of-kinds.ps limits-finish-of-kinds.r limits-finish-of-reads.Post
+limits_finish_of κs a z z' left left' p q = (once p q, refl)
 
 -- ---- values
 
-pub is-missing : NoSecond is-missing-kinds.ps is-missing-kinds.r is-missing-reads.Post
-is-missing κs a z z' left left' p q = (once p q, refl)
+pub is_missing_lem : NoSecond is-missing-kinds.ps is-missing-kinds.r is-missing-reads.Post
+is_missing_lem κs a z z' left left' p q = (once p q, refl)

@@ -19,7 +19,7 @@ use Rattle.write_lines.proofs.table.class_at.Reads as asking-table-class-at-read
 use Rattle.write_lines.proofs.table.some_at.Kinds as asking-table-some-at-kinds
 use Rattle.write_lines.proofs.table.some_at.Reads as asking-table-some-at-reads
 use Rattle.demands.specs.Unique.{NoSecond}
-use Rattle.demands.proofs.Unique.{once, wrote-first}
+use Rattle.demands.proofs.Unique.{once, wrote_first}
 
 -- ---- writing
 
@@ -28,34 +28,34 @@ check κs a z z' left left' p q = (once p q, refl)
 
 -- ---- judging
 
-pub judging-named-rules : NoSecond judging-named-rules-kinds.ps judging-named-rules-kinds.r judging-named-rules-reads.Post
-judging-named-rules κs a z z' left left' p q = (once p q, refl)
+pub judging_named_rules : NoSecond judging-named-rules-kinds.ps judging-named-rules-kinds.r judging-named-rules-reads.Post
+judging_named_rules κs a z z' left left' p q = (once p q, refl)
 
 -- ---- write_lines::heads
 
-pub asking-heads-head-at : NoSecond asking-heads-head-at-kinds.ps asking-heads-head-at-kinds.r asking-heads-head-at-reads.Post
-asking-heads-head-at κs a z z' left left' p q = (once p q, refl)
+pub asking_heads_head_at : NoSecond asking-heads-head-at-kinds.ps asking-heads-head-at-kinds.r asking-heads-head-at-reads.Post
+asking_heads_head_at κs a z z' left left' p q = (once p q, refl)
 
 -- ---- write_lines::refer
 
-pub asking-refer-reference-of : NoSecond asking-refer-reference-of-kinds.ps asking-refer-reference-of-kinds.r asking-refer-reference-of-reads.Post
-asking-refer-reference-of κs a z z' left left' p q = (once p q, refl)
+pub asking_refer_reference_of : NoSecond asking-refer-reference-of-kinds.ps asking-refer-reference-of-kinds.r asking-refer-reference-of-reads.Post
+asking_refer_reference_of κs a z z' left left' p q = (once p q, refl)
 
-pub asking-refer-references : NoSecond asking-refer-references-kinds.ps asking-refer-references-kinds.r asking-refer-references-reads.Post
-asking-refer-references κs a z z' left left' p q = (once p q, refl)
+pub asking_refer_references : NoSecond asking-refer-references-kinds.ps asking-refer-references-kinds.r asking-refer-references-reads.Post
+asking_refer_references κs a z z' left left' p q = (once p q, refl)
 
 -- ---- write_lines::rules
 
-pub asking-rules-rule-too : NoSecond asking-rules-rule-too-kinds.ps asking-rules-rule-too-kinds.r asking-rules-rule-too-reads.Post
-asking-rules-rule-too κs a z z' left left' p q = (once p q, refl)
+pub asking_rules_rule_too : NoSecond asking-rules-rule-too-kinds.ps asking-rules-rule-too-kinds.r asking-rules-rule-too-reads.Post
+asking_rules_rule_too κs a z z' left left' p q = (once p q, refl)
 
 -- ---- write_lines::table
 
-pub asking-table-keep : NoSecond asking-table-keep-kinds.ps asking-table-keep-kinds.r asking-table-keep-reads.Post
-asking-table-keep κs a z z' left left' p q = wrote-first left.1 p.0 q.0
+pub asking_table_keep : NoSecond asking-table-keep-kinds.ps asking-table-keep-kinds.r asking-table-keep-reads.Post
+asking_table_keep κs a z z' left left' p q = wrote_first left.1 p.0 q.0
 
-pub asking-table-class-at : NoSecond asking-table-class-at-kinds.ps asking-table-class-at-kinds.r asking-table-class-at-reads.Post
-asking-table-class-at κs a z z' left left' p q = (once p q, refl)
+pub asking_table_class_at : NoSecond asking-table-class-at-kinds.ps asking-table-class-at-kinds.r asking-table-class-at-reads.Post
+asking_table_class_at κs a z z' left left' p q = (once p q, refl)
 
-pub asking-table-some-at : NoSecond asking-table-some-at-kinds.ps asking-table-some-at-kinds.r asking-table-some-at-reads.Post
-asking-table-some-at κs a z z' left left' p q = (once p q, refl)
+pub asking_table_some_at : NoSecond asking-table-some-at-kinds.ps asking-table-some-at-kinds.r asking-table-some-at-reads.Post
+asking_table_some_at κs a z z' left left' p q = (once p q, refl)

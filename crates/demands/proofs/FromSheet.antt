@@ -6,29 +6,29 @@ use Prim.Native.Nat.{ℕ, ◌≤◌}
 use lib.ListN.{length-map}
 use Rattle.columns.specs.declared.Fault.TheVariants.{Global, Reference, Mark}
 use Rattle.columns.specs.Refusal.{accepted}
-use Rattle.columns.specs.Format.{mostList}
-use Rattle.columns.proofs.Outcomes.{then-accepted, demand-accepted}
+use Rattle.columns.specs.Format.{most_list}
+use Rattle.columns.proofs.Outcomes.{then_accepted, demand_accepted}
 use Rattle.columns.proofs.Tests.{both}
 use Rattle.values.specs.Value.{Item, seen}
-use Rattle.records.specs.Global.{globalFits}
+use Rattle.records.specs.Global.{global_fits}
 use Rattle.directory.specs.Fields.{entry_of}
-use Rattle.directory.specs.Rules.{referenceRule, references, all_fit}
+use Rattle.directory.specs.Rules.{reference_rule, references, all_fit}
 use Rattle.layouts.specs.Known.{known}
 use Rattle.layouts.specs.Fits.{Keeps}
-use Rattle.layouts.specs.Entities.{entityCheck, marks}
-use Rattle.layouts.proofs.Fits.{accepts-keeps}
+use Rattle.layouts.specs.Entities.{entity_check, marks}
+use Rattle.layouts.proofs.Fits.{accepts_keeps}
 use Rattle.sheets.specs.Sheet.{Row, Sheet, row}
-use Rattle.sheets.specs.Order.{readSheet}
+use Rattle.sheets.specs.Order.{read_sheet}
 use Rattle.sheets.specs.WellFormed.{Each, none, one, Closed, no_rows, a-row, RowSpelt}
 use Rattle.sheets.proofs.Sheets.{written_read}
-use Rattle.model.specs.Model.{type_of, row_of, sheetOf, marked, valueIn, markIn, carried_of, modelOf}
-use Rattle.model.specs.Write.{equal, allEqual, globalRule, rowRules, rowReferences, rowEntity, marksRight, rowEntityRules, rowTypes, rowSize, firstGlobal, firstRow, sheetRules, one as oneLine}
-use Rattle.model.proofs.WriteApart.{rules-apart}
+use Rattle.model.specs.Model.{type_of, row_of, sheet_of, marked, value_in, mark_in, carried_of, model_of}
+use Rattle.model.specs.Write.{equal, all_equal, global_rule, row_rules, row_references, row_entity, marks_right, row_entity_rules, row_types, row_size, first_global, first_row, sheet_rules, one as oneLine}
+use Rattle.model.proofs.WriteApart.{rules_apart}
 use Rattle.model.specs.Fit.{InKind, EntryFits, Fits}
-use Rattle.directory.proofs.Ruled.{Ruled, rules-of}
-use Rattle.sheets.proofs.Each.{each-made, each-accepted}
-use Rattle.demands.proofs.Trims.{given-ends}
-use Rattle.demands.proofs.Marks.{marked-own, equal_is, all-equal-is}
+use Rattle.directory.proofs.Ruled.{Ruled, rules_of}
+use Rattle.sheets.proofs.Each.{each_made, each_accepted}
+use Rattle.demands.proofs.Trims.{given_ends}
+use Rattle.demands.proofs.Marks.{marked_own, equal_is, all_equal_is}
 
 -- ---- one entry
 
@@ -40,25 +40,25 @@ abbrev Refers : List ℕ → Row → Type 0
 Refers types r = all_fit types (references (entry_of r.fields)) ≡ true
 
 record LaidOut (list : ℕ) (types : List ℕ) (r : Row) : Type 0 where
-  layout : known list (type_of r.fields) r.fields.form.size ≡ true → Keeps types (rowEntity r)
-  marks-right : marksRight list r ≡ true
+  layout : known list (type_of r.fields) r.fields.form.size ≡ true → Keeps types (row_entity r)
+  marks_right_lem : marks_right list r ≡ true
 
-refers : (types : List ℕ) (p : ℕ) (r : Row) (u : Unit {0}) → rowReferences types p r ≡ accepted u → Refers types r
-unfolding referenceRule
-refers types p r u h = demand-accepted _ Reference p h
+refers : (types : List ℕ) (p : ℕ) (r : Row) (u : Unit {0}) → row_references types p r ≡ accepted u → Refers types r
+unfolding reference_rule
+refers types p r u h = demand_accepted _ Reference p h
 
-laid_out : (list : ℕ) (types : List ℕ) (p : ℕ) (r : Row) (u : Unit {0}) → rowEntityRules list types p r ≡ accepted u → LaidOut list types r
+laid_out : (list : ℕ) (types : List ℕ) (p : ℕ) (r : Row) (u : Unit {0}) → row_entity_rules list types p r ≡ accepted u → LaidOut list types r
 laid_out list types p r u h =
-    let b = then-accepted (entityCheck list types (rowEntity r) p) _ u h in
-    record { layout = accepts-keeps types (rowEntity r) list p b.value b.first; marks-right = demand-accepted (marksRight list r) Mark p b.second }
+    let b = then_accepted (entity_check list types (row_entity r) p) _ u h in
+    record { layout = accepts_keeps types (row_entity r) list p b.value b.first; marks_right_lem = demand_accepted (marks_right list r) Mark p b.second }
 
 -- its marks are the list's
-row_is : (list : ℕ) (r : Row) → marksRight list r ≡ true → row_of list (carried_of r) ≡ r
+row_is : (list : ℕ) (r : Row) → marks_right list r ≡ true → row_of list (carried_of r) ≡ r
 unfolding row_of
 row_is list r h =
-    let b = both (equal r.known (known list (rowEntity r).typ (rowEntity r).form)) (allEqual (map markIn r.values) (marks list (rowEntity r))) h in
+    let b = both (equal r.known (known list (row_entity r).typ (row_entity r).form)) (all_equal (map mark_in r.values) (marks list (row_entity r))) h in
     ap₂ (λ (k : Bool) (ws : List (Bool × Item)). row k r.fields r.label ws) (sym (equal_is _ _ b.0))
-    (ap (λ (bs : List Bool). marked bs (map valueIn r.values)) (sym (all-equal-is _ _ b.1)) ∙ marked-own r.values)
+    (ap (λ (bs : List Bool). marked bs (map value_in r.values)) (sym (all_equal_is _ _ b.1)) ∙ marked_own r.values)
 
 -- ---- all entries
 
@@ -70,55 +70,55 @@ module _ (list : ℕ) (types : List ℕ) where
       one (record {
         numbers = s.numbers;
         ranges = u.ranges;
-        no-macro = u.no-macro;
+        no_macro = u.no_macro;
         label = s.label;
-        references-fit = f;
-        values = each-made valueIn (λ w h. h) s.values;
-        last-given = given-ends r.values c;
+        references_fit = f;
+        values = each_made value_in (λ w h. h) s.values;
+        last_given_lem = given_ends r.values c;
         layout = l.layout;
       }) (rows_fit ss cs us fs ls)
 
   rows_are : {rs : List Row} → Each (LaidOut list types) rs → map (row_of list) (map carried_of rs) ≡ rs
   rows_are none = refl
-  rows_are (one {x = r} l ls) = ap₂ (λ (q : Row) (qs : List Row). q ∷ qs) (row_is list r l.marks-right) (rows_are ls)
+  rows_are (one {x = r} l ls) = ap₂ (λ (q : Row) (qs : List Row). q ∷ qs) (row_is list r l.marks_right_lem) (rows_are ls)
 
 -- ---- the sheet
 
 -- what its rules say
 record Kept (list : ℕ) (s : Sheet) : Type 0 where
-  in-kind : Each InKind s.globals
+  in_kind : Each InKind s.globals
   ruled : Each RuledRow s.rows
-  refer : Each (Refers (rowTypes s)) s.rows
-  laid : Each (LaidOut list (rowTypes s)) s.rows
+  refer : Each (Refers (row_types s)) s.rows
+  laid : Each (LaidOut list (row_types s)) s.rows
 
-kept : (list : ℕ) (s : Sheet) → sheetRules list s ≡ accepted tt → Kept list s
+kept : (list : ℕ) (s : Sheet) → sheet_rules list s ≡ accepted tt → Kept list s
 kept list s h =
-    let a = rules-apart list s h in
+    let a = rules_apart list s h in
     record {
-      in-kind = each-accepted oneLine globalRule fits (firstGlobal s) s.globals a.fields a.globals;
-      ruled = each-accepted rowSize rowRules (λ p x u k. rules-of x.fields p u k) (firstRow s) s.rows a.ranged a.entries;
-      refer = each-accepted rowSize (rowReferences (rowTypes s)) (refers (rowTypes s)) (firstRow s) s.rows a.named a.references;
-      laid = each-accepted rowSize (rowEntityRules list (rowTypes s)) (laid_out list (rowTypes s)) (firstRow s) s.rows a.laid a.entities;
+      in_kind = each_accepted oneLine global_rule fits (first_global s) s.globals a.fields a.globals;
+      ruled = each_accepted row_size row_rules (λ p x u k. rules_of x.fields p u k) (first_row s) s.rows a.ranged a.entries;
+      refer = each_accepted row_size (row_references (row_types s)) (refers (row_types s)) (first_row s) s.rows a.named a.references;
+      laid = each_accepted row_size (row_entity_rules list (row_types s)) (laid_out list (row_types s)) (first_row s) s.rows a.laid a.entities;
     }
   where
-    fits : (p : ℕ) (x : ℕ × Item) (u : Unit {0}) → globalRule p x ≡ accepted u → InKind x
-    fits p x u k = demand-accepted (globalFits x.0 (seen x.1)) Global p k
+    fits : (p : ℕ) (x : ℕ × Item) (u : Unit {0}) → global_rule p x ≡ accepted u → InKind x
+    fits p x u k = demand_accepted (global_fits x.0 (seen x.1)) Global p k
 
-pub sheet-fits : (list : ℕ) (t : List ℕ) (s : Sheet) → list ≤ mostList → readSheet t ≡ accepted s → sheetRules list s ≡ accepted tt
-    → Fits list (modelOf s) × (sheetOf list (modelOf s) ≡ s)
-unfolding modelOf sheetOf
+pub sheet-fits : (list : ℕ) (t : List ℕ) (s : Sheet) → list ≤ most_list → read_sheet t ≡ accepted s → sheet_rules list s ≡ accepted tt
+    → Fits list (model_of s) × (sheet_of list (model_of s) ≡ s)
+unfolding model_of sheet_of
 sheet-fits list t s l h k =
     let w = (written_read t s h).formed in
     let r = kept list s k in (
       record {
-        list-ok = l;
+        list_ok = l;
         some = w.ordered.some;
         starts = w.spelt.starts;
         rising = w.ordered.rising;
         globals = w.spelt.globals;
-        in-kind = r.in-kind;
-        entries = rows_fit list (rowTypes s) w.spelt.rows w.ordered.closed r.ruled r.refer r.laid;
+        in_kind = r.in_kind;
+        entries = rows_fit list (row_types s) w.spelt.rows w.ordered.closed r.ruled r.refer r.laid;
         few = rw (length-map s.rows carried_of) w.spelt.few;
       },
-      ap (λ (rs : List Row). record { starts = s.starts; globals = s.globals; rows = rs }) (rows_are list (rowTypes s) r.laid),
+      ap (λ (rs : List Row). record { starts = s.starts; globals = s.globals; rows = rs }) (rows_are list (row_types s) r.laid),
     )

@@ -7,19 +7,19 @@ use native.Mathlib.Omega.{arith}
 use lib.ListN.{length}
 use Rattle.columns.proofs.Tests.{both, both_true}
 use Rattle.values.specs.Value.{Item}
-use Rattle.model.specs.Model.{marked, valueIn, markIn}
-use Rattle.model.specs.Write.{equal, allEqual}
+use Rattle.model.specs.Model.{marked, value_in, mark_in}
+use Rattle.model.specs.Write.{equal, all_equal}
 
 -- the values without their marks
-pub marked-values : (bs : List Bool) (vs : List Item) → length bs ≡ length vs → map valueIn (marked bs vs) ≡ vs
+pub marked_values : (bs : List Bool) (vs : List Item) → length bs ≡ length vs → map value_in (marked bs vs) ≡ vs
 unfolding marked
-marked-values [] [] h = refl
-marked-values [] (v ∷ vs) h = absurd (omega arith)
-marked-values (b ∷ bs) [] h = absurd (omega arith)
-marked-values (b ∷ bs) (v ∷ vs) h = ap (λ (l : List Item). v ∷ l) (marked-values bs vs (omega arith))
+marked_values [] [] h = refl
+marked_values [] (v ∷ vs) h = absurd (omega arith)
+marked_values (b ∷ bs) [] h = absurd (omega arith)
+marked_values (b ∷ bs) (v ∷ vs) h = ap (λ (l : List Item). v ∷ l) (marked_values bs vs (omega arith))
 
 -- the marks alone
-pub marked-marks : (bs : List Bool) (vs : List Item) → length bs ≡ length vs → map markIn (marked bs vs) ≡ bs
+pub marked-marks : (bs : List Bool) (vs : List Item) → length bs ≡ length vs → map mark_in (marked bs vs) ≡ bs
 unfolding marked
 marked-marks [] [] h = refl
 marked-marks [] (v ∷ vs) h = absurd (omega arith)
@@ -27,20 +27,20 @@ marked-marks (b ∷ bs) [] h = absurd (omega arith)
 marked-marks (b ∷ bs) (v ∷ vs) h = ap (λ (l : List Bool). b ∷ l) (marked-marks bs vs (omega arith))
 
 -- values with their own marks
-pub marked-own : (ws : List (Bool × Item)) → marked (map markIn ws) (map valueIn ws) ≡ ws
+pub marked_own : (ws : List (Bool × Item)) → marked (map mark_in ws) (map value_in ws) ≡ ws
 unfolding marked
-marked-own [] = refl
-marked-own (w ∷ ws) = ap (λ (l : List (Bool × Item)). w ∷ l) (marked-own ws)
+marked_own [] = refl
+marked_own (w ∷ ws) = ap (λ (l : List (Bool × Item)). w ∷ l) (marked_own ws)
 
 -- ---- marks that are the same
 
-pub equal-self : (a : Bool) → equal a a ≡ true
-equal-self true = refl
-equal-self false = refl
+pub equal_self : (a : Bool) → equal a a ≡ true
+equal_self true = refl
+equal_self false = refl
 
-pub all-equal-self : (bs : List Bool) → allEqual bs bs ≡ true
-all-equal-self [] = refl
-all-equal-self (b ∷ bs) = both_true (equal-self b) (all-equal-self bs)
+pub all_equal_self : (bs : List Bool) → all_equal bs bs ≡ true
+all_equal_self [] = refl
+all_equal_self (b ∷ bs) = both_true (equal_self b) (all_equal_self bs)
 
 pub equal_is : (a b : Bool) → equal a b ≡ true → a ≡ b
 equal_is true true h = refl
@@ -48,10 +48,10 @@ equal_is true false h = let z : ◌≡◌ {A = ℕ} 0 1 = cc in absurd (omega ar
 equal_is false true h = let z : ◌≡◌ {A = ℕ} 0 1 = cc in absurd (omega arith)
 equal_is false false h = refl
 
-pub all-equal-is : (xs bs : List Bool) → allEqual xs bs ≡ true → xs ≡ bs
-all-equal-is [] [] h = refl
-all-equal-is [] (b ∷ bs) h = let z : ◌≡◌ {A = ℕ} 0 1 = cc in absurd (omega arith)
-all-equal-is (a ∷ xs) [] h = let z : ◌≡◌ {A = ℕ} 0 1 = cc in absurd (omega arith)
-all-equal-is (a ∷ xs) (b ∷ bs) h =
-    let p = both (equal a b) (allEqual xs bs) h in
-    ap₂ (λ (c : Bool) (l : List Bool). c ∷ l) (equal_is a b p.0) (all-equal-is xs bs p.1)
+pub all_equal_is : (xs bs : List Bool) → all_equal xs bs ≡ true → xs ≡ bs
+all_equal_is [] [] h = refl
+all_equal_is [] (b ∷ bs) h = let z : ◌≡◌ {A = ℕ} 0 1 = cc in absurd (omega arith)
+all_equal_is (a ∷ xs) [] h = let z : ◌≡◌ {A = ℕ} 0 1 = cc in absurd (omega arith)
+all_equal_is (a ∷ xs) (b ∷ bs) h =
+    let p = both (equal a b) (all_equal xs bs) h in
+    ap₂ (λ (c : Bool) (l : List Bool). c ∷ l) (equal_is a b p.0) (all_equal_is xs bs p.1)

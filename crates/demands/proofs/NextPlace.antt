@@ -5,28 +5,28 @@ use Prim.Native.Nat.{ℕ, suc}
 use native.Mathlib.Omega.{arith}
 use lib.ListN.{length}
 use Rattle.columns.specs.Laid.{laid}
-use Rattle.columns.specs.Decimal.{dec, lastDigits}
+use Rattle.columns.specs.Decimal.{dec, last_digits}
 use Rattle.values.specs.Value.{spelled}
-use Rattle.records.specs.Flow.{lineCount, flow, piece, gap, firm}
-use Rattle.records.specs.Global.{canonicalOpening}
-use Rattle.sheets.specs.Sheet.{isMark, into, pieces_of, lastPiece, saidByAll, linesIn}
-use Rattle.model.specs.Canonical.{globalText}
-use Rattle.sheets_rows.specs.Rows.{valuesFirst}
+use Rattle.records.specs.Flow.{line_count, flow, piece, gap, firm}
+use Rattle.records.specs.Global.{canonical_opening}
+use Rattle.sheets.specs.Sheet.{is_mark, into, pieces_of, last_piece, said_by_all, lines_in}
+use Rattle.model.specs.Canonical.{global_text}
+use Rattle.sheets_rows.specs.Rows.{values_first}
 use Rattle.file_blocks.specs.declared.Block.{Block}
-use Rattle.file_blocks.specs.Blocks.{globalsFirst, behindGlobals, behindValues, Unbroken, itemsFirst, recordText}
+use Rattle.file_blocks.specs.Blocks.{globals_first, behind_globals, behind_values, Unbroken, items_first, record_text}
 use Rattle.demands.specs.UniqueBlocks.{GlobalsDetermined, BlockDetermined, SecondGlobals, SecondBlock}
-use Rattle.demands.proofs.Unique.{once, left-first}
+use Rattle.demands.proofs.Unique.{once, left_first}
 
-pub globals-determined : GlobalsDetermined
-globals-determined κs a z z' left left' p q = (once p.1.0 q.1.0, once p.1.1.0 q.1.1.0, left-first left.1 p.0 q.0)
+pub globals_determined : GlobalsDetermined
+globals_determined κs a z z' left left' p q = (once p.1.0 q.1.0, once p.1.1.0 q.1.1.0, left_first left.1 p.0 q.0)
 
-pub block-determined : BlockDetermined
-block-determined κs a z z' left left' p q = (once p.1.0 q.1.0, once p.1.1.0 q.1.1.0, left-first left.1 p.0 q.0)
+pub block_determined : BlockDetermined
+block_determined κs a z z' left left' p q = (once p.1.0 q.1.0, once p.1.1.0 q.1.1.0, left_first left.1 p.0 q.0)
 
 -- ---- of a piece of two bytes that no LF ends, either byte begins the same lines
 
-abbrev twoBytes : List ℕ
-twoBytes = 120 ∷ (120 ∷ [])
+abbrev two_bytes : List ℕ
+two_bytes = 120 ∷ (120 ∷ [])
 
 -- nothing is laid over an empty buffer
 none-laid : (at : ℕ) (bs : List ℕ) → [] ≡ laid [] at bs
@@ -34,27 +34,27 @@ unfolding laid
 none-laid at [] = refl
 none-laid at (b ∷ bs) = none-laid (suc at) bs
 
-opening-short : (length (globalText (globalsFirst (linesIn twoBytes))) ≡ 8) × (lineCount 72 (length (globalText (globalsFirst (linesIn twoBytes)))) ≡ 1)
-unfolding globalText globalsFirst linesIn saidByAll pieces_of into lastPiece isMark canonicalOpening lineCount
-opening-short = (refl, refl)
+opening_short : (length (global_text (globals_first (lines_in two_bytes))) ≡ 8) × (line_count 72 (length (global_text (globals_first (lines_in two_bytes)))) ≡ 1)
+unfolding global_text globals_first lines_in said_by_all pieces_of into last_piece is_mark canonical_opening line_count
+opening_short = (refl, refl)
 
-behind-same : (behindGlobals (linesIn twoBytes) ≡ linesIn twoBytes) × (behindGlobals (linesIn twoBytes) ≡ linesIn (120 ∷ []))
-unfolding behindGlobals linesIn saidByAll pieces_of into lastPiece isMark
-behind-same = (refl, refl)
+behind_same : (behind_globals (lines_in two_bytes) ≡ lines_in two_bytes) × (behind_globals (lines_in two_bytes) ≡ lines_in (120 ∷ []))
+unfolding behind_globals lines_in said_by_all pieces_of into last_piece is_mark
+behind_same = (refl, refl)
 
-values_same : (behindValues (linesIn twoBytes) ≡ linesIn twoBytes) × (behindValues (linesIn twoBytes) ≡ linesIn (120 ∷ []))
-unfolding behindValues linesIn saidByAll pieces_of into lastPiece isMark
+values_same : (behind_values (lines_in two_bytes) ≡ lines_in two_bytes) × (behind_values (lines_in two_bytes) ≡ lines_in (120 ∷ []))
+unfolding behind_values lines_in said_by_all pieces_of into last_piece is_mark
 values_same = (refl, refl)
 
 -- it begins as no value line does
-values-unbroken : Unbroken (linesIn twoBytes)
-unfolding behindValues linesIn saidByAll pieces_of into lastPiece isMark
-values-unbroken = refl
+values_unbroken : Unbroken (lines_in two_bytes)
+unfolding behind_values lines_in said_by_all pieces_of into last_piece is_mark
+values_unbroken = refl
 
 -- the record of type 1 is "1;"
-record-short : (length (recordText 1 (itemsFirst (linesIn twoBytes))) ≡ 2) × (lineCount 64 (length (recordText 1 (itemsFirst (linesIn twoBytes)))) ≡ 1)
-unfolding dec lastDigits flow piece gap firm spelled valuesFirst linesIn saidByAll pieces_of into lastPiece isMark lineCount
-record-short = (refl, refl)
+record_short : (length (record_text 1 (items_first (lines_in two_bytes))) ≡ 2) × (line_count 64 (length (record_text 1 (items_first (lines_in two_bytes)))) ≡ 1)
+unfolding dec last_digits flow piece gap firm spelled values_first lines_in said_by_all pieces_of into last_piece is_mark line_count
+record_short = (refl, refl)
 
 abbrev block_at : ℕ → Block
 block_at n = record { next = n; lines = 1 }
@@ -62,34 +62,34 @@ block_at n = record { next = n; lines = 1 }
 apart : block_at 0 ≡ block_at 1 → ⊥
 apart e = let z : ◌≡◌ {A = ℕ} 0 1 = ap (λ (b : Block). b.next) e in omega arith
 
-pub second-globals : SecondGlobals
-second-globals κs = record {
-  passed = (record { ref_ptr = (0, 0); now = [] }, (0, (record { ref_ptr = (0, 0); now = twoBytes }, (0, tt))));
-  asked = (omega arith, (omega arith, (omega (arith, opening-short.0), omega (arith, opening-short.1))));
+pub second_globals : SecondGlobals
+second_globals κs = record {
+  passed = (record { ref_ptr = (0, 0); now = [] }, (0, (record { ref_ptr = (0, 0); now = two_bytes }, (0, tt))));
+  asked = (omega arith, (omega arith, (omega (arith, opening_short.0), omega (arith, opening_short.1))));
   left = ([], (tt, (tt, (tt, tt))));
   one = block_at 0;
   other = block_at 1;
-  one-fits = (none-laid _ _, (sym opening-short.1, (sym behind-same.0, (omega arith, omega arith))));
-  other_fits = (none-laid _ _, (sym opening-short.1, (sym behind-same.1, (omega arith, omega arith))));
+  one-fits = (none-laid _ _, (sym opening_short.1, (sym behind_same.0, (omega arith, omega arith))));
+  other_fits = (none-laid _ _, (sym opening_short.1, (sym behind_same.1, (omega arith, omega arith))));
   differ = apart;
 }
 
 pub second_block : SecondBlock
 second_block κs = record {
-  passed = (record { ref_ptr = (0, 0); now = [] }, (0, (record { ref_ptr = (0, 0); now = twoBytes }, (0, (1, (record { 0 = 1 }, (record { 0 = 1 }, tt)))))));
+  passed = (record { ref_ptr = (0, 0); now = [] }, (0, (record { ref_ptr = (0, 0); now = two_bytes }, (0, (1, (record { 0 = 1 }, (record { 0 = 1 }, tt)))))));
   asked = record {
     inside = omega arith;
     low = omega arith;
     small = omega arith;
-    room = omega (arith, record-short.0);
+    room = omega (arith, record_short.0);
     numbered = omega arith;
-    few = omega (arith, record-short.1);
-    unbroken = values-unbroken;
+    few = omega (arith, record_short.1);
+    unbroken = values_unbroken;
   };
   left = ([], (tt, (tt, (tt, (tt, (tt, (tt, tt)))))));
   one = block_at 0;
   other = block_at 1;
-  one-fits = (none-laid _ _, (sym record-short.1, (sym values_same.0, (omega arith, omega arith))));
-  other_fits = (none-laid _ _, (sym record-short.1, (sym values_same.1, (omega arith, omega arith))));
+  one-fits = (none-laid _ _, (sym record_short.1, (sym values_same.0, (omega arith, omega arith))));
+  other_fits = (none-laid _ _, (sym record_short.1, (sym values_same.1, (omega arith, omega arith))));
   differ = apart;
 }

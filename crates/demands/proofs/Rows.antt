@@ -5,37 +5,37 @@ use Prim.Native.Nat.{ℕ}
 use Rattle.values.specs.Value.{Item}
 use Rattle.layouts.specs.Entities.{marks}
 use Rattle.layouts.proofs.Fits.{marks-length}
-use Rattle.model.specs.Model.{Carried, Model, types_of, entityOf, row_of, sheetOf, valueIn, markIn, carried_of, modelOf}
-use Rattle.model.specs.Write.{rowTypes}
-use Rattle.demands.proofs.Marks.{marked-values, marked-marks}
+use Rattle.model.specs.Model.{Carried, Model, types_of, entity_of, row_of, sheet_of, value_in, mark_in, carried_of, model_of}
+use Rattle.model.specs.Write.{row_types}
+use Rattle.demands.proofs.Marks.{marked_values, marked-marks}
 
 -- ---- one entry
 
 module _ (list : ℕ) (e : Carried) where
   -- its values
-  pub row-values : map valueIn (row_of list e).values ≡ e.values
+  pub row_values : map value_in (row_of list e).values ≡ e.values
   unfolding row_of
-  row-values = marked-values (marks list (entityOf e.fields e.values)) e.values (marks-length list (entityOf e.fields e.values))
+  row_values = marked_values (marks list (entity_of e.fields e.values)) e.values (marks-length list (entity_of e.fields e.values))
 
   -- its marks
-  pub row-marks : map markIn (row_of list e).values ≡ marks list (entityOf e.fields e.values)
+  pub row-marks : map mark_in (row_of list e).values ≡ marks list (entity_of e.fields e.values)
   unfolding row_of
-  row-marks = marked-marks (marks list (entityOf e.fields e.values)) e.values (marks-length list (entityOf e.fields e.values))
+  row-marks = marked-marks (marks list (entity_of e.fields e.values)) e.values (marks-length list (entity_of e.fields e.values))
 
-  pub row-again : carried_of (row_of list e) ≡ e
+  pub row_again : carried_of (row_of list e) ≡ e
   unfolding row_of
-  row-again = ap (λ (vs : List Item). record { fields = e.fields; label = e.label; values = vs }) row-values
+  row_again = ap (λ (vs : List Item). record { fields = e.fields; label = e.label; values = vs }) row_values
 
 -- ---- all of them
 
-pub rows-again : (list : ℕ) (es : List Carried) → map carried_of (map (row_of list) es) ≡ es
-rows-again list [] = refl
-rows-again list (e ∷ es) = ap₂ (λ (x : Carried) (xs : List Carried). x ∷ xs) (row-again list e) (rows-again list es)
+pub rows_again : (list : ℕ) (es : List Carried) → map carried_of (map (row_of list) es) ≡ es
+rows_again list [] = refl
+rows_again list (e ∷ es) = ap₂ (λ (x : Carried) (xs : List Carried). x ∷ xs) (row_again list e) (rows_again list es)
 
 -- the model of a model's sheet
-pub model-again : (list : ℕ) (m : Model) → modelOf (sheetOf list m) ≡ m
-unfolding modelOf sheetOf
-model-again list m = ap (λ (es : List Carried). record { starts = m.starts; globals = m.globals; entries = es }) (rows-again list m.entries)
+pub model_again : (list : ℕ) (m : Model) → model_of (sheet_of list m) ≡ m
+unfolding model_of sheet_of
+model_again list m = ap (λ (es : List Carried). record { starts = m.starts; globals = m.globals; entries = es }) (rows_again list m.entries)
 
-pub types-again : (list : ℕ) (m : Model) → rowTypes (sheetOf list m) ≡ types_of m.entries
-types-again list m = ap (λ (n : Model). types_of n.entries) (model-again list m)
+pub types_again : (list : ℕ) (m : Model) → row_types (sheet_of list m) ≡ types_of m.entries
+types_again list m = ap (λ (n : Model). types_of n.entries) (model_again list m)

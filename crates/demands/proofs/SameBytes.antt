@@ -6,30 +6,30 @@ use native.Mathlib.Omega.{arith}
 use native.Mathlib.Decide.{dec_le}
 use Rattle.columns.specs.declared.Fault.TheVariants.{TooLong}
 use Rattle.columns.specs.Refusal.{accepted, refused}
-use Rattle.columns.specs.Format.{mostLines}
-use Rattle.sheets.specs.Sheet.{sheetText}
-use Rattle.model.specs.Model.{sheetOf}
-use Rattle.model.specs.Canonical.{lineTotal, canonical}
+use Rattle.columns.specs.Format.{most_lines}
+use Rattle.sheets.specs.Sheet.{sheet_text}
+use Rattle.model.specs.Model.{sheet_of}
+use Rattle.model.specs.Canonical.{line_total, canonical}
 use Rattle.model.specs.Write.{writes}
 use Rattle.model.specs.Fit.{Fits}
 use Rattle.desk.specs.Demands.{SameBytes}
-use Rattle.desk.proofs.Lists.{smaller-accepts}
+use Rattle.desk.proofs.Lists.{smaller_accepts}
 use Rattle.demands.proofs.FromFile.{read_fits}
-use Rattle.demands.proofs.Written.{written-short, written-long}
+use Rattle.demands.proofs.Written.{written_short, written_long}
 
-pub same_bytes : SameBytes
-same_bytes small large o f m h = pick (dec_le (lineTotal m) mostLines)
+pub same_bytes_lem : SameBytes
+same_bytes_lem small large o f m h = pick (dec_le (line_total m) most_lines)
   where
-    fits-small : Fits small m
-    fits-small = read_fits small f m (smaller-accepts small large o f m h).0
+    fits_small : Fits small m
+    fits_small = read_fits small f m (smaller_accepts small large o f m h).0
 
-    fits-large : Fits large m
-    fits-large = read_fits large f m h
+    fits_large : Fits large m
+    fits_large = read_fits large f m h
 
-    pick : Dec (lineTotal m ≤ mostLines)
-        → ((lineTotal m ≤ mostLines) × ((writes small (sheetText (sheetOf small m)) ≡ accepted (canonical m)) × (writes large (sheetText (sheetOf large m)) ≡ accepted (canonical m))))
-        ⊎ ((mostLines < lineTotal m) × ((writes small (sheetText (sheetOf small m)) ≡ refused TooLong 0) × (writes large (sheetText (sheetOf large m)) ≡ refused TooLong 0)))
-    pick (yes l) = inl (l, (written-short small m fits-small l, written-short large m fits-large l))
+    pick : Dec (line_total m ≤ most_lines)
+        → ((line_total m ≤ most_lines) × ((writes small (sheet_text (sheet_of small m)) ≡ accepted (canonical m)) × (writes large (sheet_text (sheet_of large m)) ≡ accepted (canonical m))))
+        ⊎ ((most_lines < line_total m) × ((writes small (sheet_text (sheet_of small m)) ≡ refused TooLong 0) × (writes large (sheet_text (sheet_of large m)) ≡ refused TooLong 0)))
+    pick (yes l) = inl (l, (written_short small m fits_small l, written_short large m fits_large l))
     pick (no l) =
-        let k : mostLines < lineTotal m = omega arith in
-        inr (k, (written-long small m fits-small k, written-long large m fits-large k))
+        let k : most_lines < line_total m = omega arith in
+        inr (k, (written_long small m fits_small k, written_long large m fits_large k))

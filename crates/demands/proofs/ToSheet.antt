@@ -7,51 +7,51 @@ use lib.ListN.{length-map}
 use borrow.Author.Tests.{le-leb}
 use Rattle.columns.specs.declared.Fault.TheVariants.{Global, Reference, Mark}
 use Rattle.columns.specs.Refusal.{accepted}
-use Rattle.columns.specs.Format.{mostList}
-use Rattle.columns.proofs.Outcomes.{demand-true}
+use Rattle.columns.specs.Format.{most_list}
+use Rattle.columns.proofs.Outcomes.{demand_true}
 use Rattle.columns.proofs.Tests.{both_true}
 use Rattle.values.specs.Value.{Item, seen}
-use Rattle.records.specs.Global.{globalFits}
-use Rattle.directory.specs.Rules.{referenceRule}
-use Rattle.directory.proofs.Ruled.{rules-pass}
+use Rattle.records.specs.Global.{global_fits}
+use Rattle.directory.specs.Rules.{reference_rule}
+use Rattle.directory.proofs.Ruled.{rules_pass_lem}
 use Rattle.layouts.specs.Known.{known}
-use Rattle.layouts.specs.Entities.{entityCheck, marks}
-use Rattle.layouts.proofs.Fits.{keeps-accepts}
-use Rattle.sheets.specs.Sheet.{sheetText}
+use Rattle.layouts.specs.Entities.{entity_check, marks}
+use Rattle.layouts.proofs.Fits.{keeps_accepts}
+use Rattle.sheets.specs.Sheet.{sheet_text}
 use Rattle.sheets.specs.WellFormed.{Each, none, one, Closed, no_rows, a-row, RowSpelt, WellFormed}
 use Rattle.sheets.proofs.Sheets.{read-written}
-use Rattle.model.specs.Model.{Carried, Model, type_of, types_of, entityOf, row_of, sheetOf, valueIn}
-use Rattle.model.specs.Write.{globalRule, rowRules, rowReferences, rowEntity, marksRight, rowEntityRules, rowSize, firstGlobal, firstRow, sheetRules, writeModel, one as oneLine}
+use Rattle.model.specs.Model.{Carried, Model, type_of, types_of, entity_of, row_of, sheet_of, value_in}
+use Rattle.model.specs.Write.{global_rule, row_rules, row_references, row_entity, marks_right, row_entity_rules, row_size, first_global, first_row, sheet_rules, write_model, one as oneLine}
 use Rattle.model.specs.Fit.{InKind, EntryFits, Fits}
-use Rattle.sheets.proofs.Each.{each-made, each-accepts, made-accepts}
-use Rattle.demands.proofs.Trims.{ends-given}
-use Rattle.demands.proofs.Marks.{equal-self, all-equal-self}
-use Rattle.demands.proofs.Rows.{row-values, row-marks, model-again, types-again}
+use Rattle.sheets.proofs.Each.{each_made, each_accepts, made_accepts}
+use Rattle.demands.proofs.Trims.{ends_given}
+use Rattle.demands.proofs.Marks.{equal_self, all_equal_self}
+use Rattle.demands.proofs.Rows.{row_values, row-marks, model_again, types_again}
 
 -- ---- it has a text
 
 -- what holds of each value holds of each with its mark
-each-value : {P : Item → Type 0} (ws : List (Bool × Item)) → Each P (map valueIn ws) → Each (λ (w : Bool × Item). P w.1) ws
-each-value [] none = none
-each-value (w ∷ ws) (one p ps) = one p (each-value ws ps)
+each_value : {P : Item → Type 0} (ws : List (Bool × Item)) → Each P (map value_in ws) → Each (λ (w : Bool × Item). P w.1) ws
+each_value [] none = none
+each_value (w ∷ ws) (one p ps) = one p (each_value ws ps)
 
 module _ (list : ℕ) (types : List ℕ) where
   rows-closed : {es : List Carried} → Each (EntryFits list types) es → Closed (map (row_of list) es)
   rows-closed none = no_rows
-  rows-closed (one {x = e} f fs) = a-row (ends-given (row_of list e).values (rw (row-values list e) f.last-given)) (rows-closed fs)
+  rows-closed (one {x = e} f fs) = a-row (ends_given (row_of list e).values (rw (row_values list e) f.last_given_lem)) (rows-closed fs)
 
   row-spelt : (e : Carried) → EntryFits list types e → RowSpelt (row_of list e)
   unfolding row_of
-  row-spelt e f = record { numbers = f.numbers; label = f.label; values = each-value (row_of list e).values (rw (row-values list e) f.values) }
+  row-spelt e f = record { numbers = f.numbers; label = f.label; values = each_value (row_of list e).values (rw (row_values list e) f.values) }
 
-pub sheet-formed : (list : ℕ) (m : Model) → Fits list m → WellFormed (sheetOf list m)
-unfolding sheetOf
-sheet-formed list m f = record {
+pub sheet_formed : (list : ℕ) (m : Model) → Fits list m → WellFormed (sheet_of list m)
+unfolding sheet_of
+sheet_formed list m f = record {
   ordered = record { some = f.some; rising = f.rising; closed = rows-closed list (types_of m.entries) f.entries };
   spelt = record {
     starts = f.starts;
     globals = f.globals;
-    rows = each-made (row_of list) (row-spelt list (types_of m.entries)) f.entries;
+    rows = each_made (row_of list) (row-spelt list (types_of m.entries)) f.entries;
     few = rw (length-map m.entries (row_of list)) f.few;
   };
 }
@@ -60,50 +60,50 @@ sheet-formed list m f = record {
 
 module _ (list : ℕ) (types : List ℕ) (e : Carried) (f : EntryFits list types e) (p : ℕ) where
   -- 9, 13
-  row-rules : rowRules p (row_of list e) ≡ accepted tt
+  row_rules_lem : row_rules p (row_of list e) ≡ accepted tt
   unfolding row_of
-  row-rules = rules-pass e.fields f.ranges f.no-macro p
+  row_rules_lem = rules_pass_lem e.fields f.ranges f.no_macro p
 
   -- 10
-  row-references : rowReferences types p (row_of list e) ≡ accepted tt
-  unfolding row_of referenceRule
-  row-references = demand-true _ Reference p f.references-fit
+  row-references : row_references types p (row_of list e) ≡ accepted tt
+  unfolding row_of reference_rule
+  row-references = demand_true _ Reference p f.references_fit
 
-  entity-is : rowEntity (row_of list e) ≡ entityOf e.fields e.values
+  entity-is : row_entity (row_of list e) ≡ entity_of e.fields e.values
   unfolding row_of
-  entity-is = ap (entityOf e.fields) (row-values list e)
+  entity-is = ap (entity_of e.fields) (row_values list e)
 
-  marks-right : marksRight list (row_of list e) ≡ true
+  marks_right_lem : marks_right list (row_of list e) ≡ true
   unfolding row_of
-  marks-right =
-      both_true (equal-self (known list (type_of e.fields) e.fields.form.size))
-      (rw (row-marks list e, entity-is) (all-equal-self (marks list (entityOf e.fields e.values))))
+  marks_right_lem =
+      both_true (equal_self (known list (type_of e.fields) e.fields.form.size))
+      (rw (row-marks list e, entity-is) (all_equal_self (marks list (entity_of e.fields e.values))))
 
   -- 14, 15, then 18
-  row-entity : rowEntityRules list types p (row_of list e) ≡ accepted tt
+  row-entity : row_entity_rules list types p (row_of list e) ≡ accepted tt
   row-entity =
-      let check : entityCheck list types (rowEntity (row_of list e)) p ≡ accepted tt = rw entity-is (keeps-accepts types (entityOf e.fields e.values) list p f.layout) in
-      rw check (demand-true (marksRight list (row_of list e)) Mark p marks-right)
+      let check : entity_check list types (row_entity (row_of list e)) p ≡ accepted tt = rw entity-is (keeps_accepts types (entity_of e.fields e.values) list p f.layout) in
+      rw check (demand_true (marks_right list (row_of list e)) Mark p marks_right_lem)
 
 -- 8; each entry 9, 13; all 10; each entry 14, 15, 18
-rules-kept : (list : ℕ) (m : Model) → Fits list m → sheetRules list (sheetOf list m) ≡ accepted tt
-unfolding sheetRules sheetOf
-rules-kept list m f =
-    let globals = each-accepts oneLine globalRule globals-kept (firstGlobal (sheetOf list m)) f.in-kind in
-    let rules = made-accepts rowSize rowRules (row_of list) (λ p e k. row-rules list types e k p) (firstRow (sheetOf list m)) f.entries in
-    let refer = made-accepts rowSize (rowReferences types) (row_of list) (λ p e k. row-references list types e k p) (firstRow (sheetOf list m)) f.entries in
-    let entities = made-accepts rowSize (rowEntityRules list types) (row_of list) (λ p e k. row-entity list types e k p) (firstRow (sheetOf list m)) f.entries in
-    rw (globals.1, rules.1, types-again list m, refer.1, entities.1)
+rules_kept : (list : ℕ) (m : Model) → Fits list m → sheet_rules list (sheet_of list m) ≡ accepted tt
+unfolding sheet_rules sheet_of
+rules_kept list m f =
+    let globals = each_accepts oneLine global_rule globals-kept (first_global (sheet_of list m)) f.in_kind in
+    let rules = made_accepts row_size row_rules (row_of list) (λ p e k. row_rules_lem list types e k p) (first_row (sheet_of list m)) f.entries in
+    let refer = made_accepts row_size (row_references types) (row_of list) (λ p e k. row-references list types e k p) (first_row (sheet_of list m)) f.entries in
+    let entities = made_accepts row_size (row_entity_rules list types) (row_of list) (λ p e k. row-entity list types e k p) (first_row (sheet_of list m)) f.entries in
+    rw (globals.1, rules.1, types_again list m, refer.1, entities.1)
   where
     types : List ℕ
     types = types_of m.entries
 
-    globals-kept : (p : ℕ) (g : ℕ × Item) → InKind g → globalRule p g ≡ accepted tt
-    globals-kept p g k = demand-true (globalFits g.0 (seen g.1)) Global p k
+    globals-kept : (p : ℕ) (g : ℕ × Item) → InKind g → global_rule p g ≡ accepted tt
+    globals-kept p g k = demand_true (global_fits g.0 (seen g.1)) Global p k
 
 -- ---- it is written
 
-pub fits-writes : (list : ℕ) (m : Model) → Fits list m → writeModel list (sheetText (sheetOf list m)) ≡ accepted m
-unfolding writeModel
+pub fits-writes : (list : ℕ) (m : Model) → Fits list m → write_model list (sheet_text (sheet_of list m)) ≡ accepted m
+unfolding write_model
 fits-writes list m f =
-    rw (le-leb list mostList f.list-ok, read-written (sheetOf list m) (sheet-formed list m f), rules-kept list m f, model-again list m)
+    rw (le-leb list most_list f.list_ok, read-written (sheet_of list m) (sheet_formed list m f), rules_kept list m f, model_again list m)

@@ -6,8 +6,8 @@ use Prim.Native.Nat.{ℕ}
 use native.Mathlib.Omega.{arith}
 use Rattle.values.specs.Value.{Item, is_default}
 use Rattle.records.specs.Record.{trim, trimmed}
-use Rattle.sheets.specs.WellFormed.{endsDefault}
-use Rattle.model.specs.Model.{valueIn}
+use Rattle.sheets.specs.WellFormed.{ends_default}
+use Rattle.model.specs.Model.{value_in}
 
 -- behind the first value too the last is given
 trimmed-tail : (v : Item) (vs : List Item) → trimmed (v ∷ vs) ≡ v ∷ vs → trimmed vs ≡ vs
@@ -26,19 +26,19 @@ trimmed-one v h = pick (is_default v) refl h
     pick false e k = refl
 
 -- values of which the last is given don't end with a default
-pub ends-given : (ws : List (Bool × Item)) → trimmed (map valueIn ws) ≡ map valueIn ws → endsDefault false ws ≡ false
-unfolding endsDefault
-ends-given [] h = refl
-ends-given (w ∷ []) h = trimmed-one w.1 h
-ends-given (w ∷ (u ∷ us)) h = ends-given (u ∷ us) (trimmed-tail w.1 (map valueIn (u ∷ us)) h)
+pub ends_given : (ws : List (Bool × Item)) → trimmed (map value_in ws) ≡ map value_in ws → ends_default false ws ≡ false
+unfolding ends_default
+ends_given [] h = refl
+ends_given (w ∷ []) h = trimmed-one w.1 h
+ends_given (w ∷ (u ∷ us)) h = ends_given (u ∷ us) (trimmed-tail w.1 (map value_in (u ∷ us)) h)
 
 -- and the other way round
-given-behind : (w : Bool × Item) (ws : List (Bool × Item)) → endsDefault (is_default w.1) ws ≡ false → trimmed (map valueIn (w ∷ ws)) ≡ map valueIn (w ∷ ws)
-unfolding endsDefault
+given-behind : (w : Bool × Item) (ws : List (Bool × Item)) → ends_default (is_default w.1) ws ≡ false → trimmed (map value_in (w ∷ ws)) ≡ map value_in (w ∷ ws)
+unfolding ends_default
 given-behind w [] h = rw h
 given-behind w (u ∷ us) h = rw (given-behind u us h)
 
-pub given-ends : (ws : List (Bool × Item)) → endsDefault false ws ≡ false → trimmed (map valueIn ws) ≡ map valueIn ws
-unfolding endsDefault
-given-ends [] h = refl
-given-ends (w ∷ ws) h = given-behind w ws h
+pub given_ends : (ws : List (Bool × Item)) → ends_default false ws ≡ false → trimmed (map value_in ws) ≡ map value_in ws
+unfolding ends_default
+given_ends [] h = refl
+given_ends (w ∷ ws) h = given-behind w ws h

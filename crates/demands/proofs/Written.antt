@@ -4,21 +4,21 @@ use Prim.Native.Nat.{ℕ, ◌≤◌, ◌<◌}
 use borrow.Author.Tests.{le-leb, lt-leb}
 use Rattle.columns.specs.declared.Fault.TheVariants.{TooLong}
 use Rattle.columns.specs.Refusal.{accepted, refused}
-use Rattle.columns.specs.Format.{mostLines}
-use Rattle.sheets.specs.Sheet.{sheetText}
-use Rattle.model.specs.Model.{Model, sheetOf}
-use Rattle.model.specs.Canonical.{lineTotal, canonical}
+use Rattle.columns.specs.Format.{most_lines}
+use Rattle.sheets.specs.Sheet.{sheet_text}
+use Rattle.model.specs.Model.{Model, sheet_of}
+use Rattle.model.specs.Canonical.{line_total, canonical}
 use Rattle.model.specs.Write.{writes}
 use Rattle.model.specs.Fit.{Fits}
 use Rattle.demands.proofs.ToSheet.{fits-writes}
 
 module _ (list : ℕ) (m : Model) (f : Fits list m) where
   -- within the limit
-  pub written-short : lineTotal m ≤ mostLines → writes list (sheetText (sheetOf list m)) ≡ accepted (canonical m)
+  pub written_short : line_total m ≤ most_lines → writes list (sheet_text (sheet_of list m)) ≡ accepted (canonical m)
   unfolding writes
-  written-short h = rw (fits-writes list m f, le-leb (lineTotal m) mostLines h)
+  written_short h = rw (fits-writes list m f, le-leb (line_total m) most_lines h)
 
   -- above it
-  pub written-long : mostLines < lineTotal m → writes list (sheetText (sheetOf list m)) ≡ refused TooLong 0
+  pub written_long : most_lines < line_total m → writes list (sheet_text (sheet_of list m)) ≡ refused TooLong 0
   unfolding writes
-  written-long h = rw (fits-writes list m f, lt-leb (lineTotal m) mostLines h)
+  written_long h = rw (fits-writes list m f, lt-leb (line_total m) most_lines h)

@@ -6,7 +6,7 @@ use denote.Triple.Clauses.{Lasts, at_exit}
 use borrow.Fn.Kinds.{Dens, ended_of}
 use Rattle.desk.specs.declared.Answer.{Answer}
 use Rattle.desk.specs.Rules.{MeetsRules}
-use Rattle.desk.specs.Content.{sheetBy}
+use Rattle.desk.specs.Content.{sheet_by}
 use Rattle.read_file.proofs.read.Kinds as read-kinds
 use Rattle.read_file.proofs.read.Reads as read-reads
 use Rattle.write_sheet.proofs.write.Kinds as write-kinds
@@ -21,7 +21,7 @@ pub data ReadCall : ℕ → List ℕ → List ℕ → Answer → List ℕ → Ty
   read : (κs : Lfts 2) (a : Dens κs read-kinds.ps) (z : Answer) (left : Lasts (ended_of 2 read-kinds.ps read-kinds.r) κs a)
       → read-reads.Post κs a z (at_exit (ended_of 2 read-kinds.ps read-kinds.r) κs a left)
       → ReadCall a.0 a.1.0.now a.1.1.0.now z left.1.1.0
-  szelmikra-read : (κs : Lfts 2) (a : Dens κs szelmikra-read-kinds.ps) (z : Answer)
+  szelmikra_read : (κs : Lfts 2) (a : Dens κs szelmikra-read-kinds.ps) (z : Answer)
       (left : Lasts (ended_of 2 szelmikra-read-kinds.ps szelmikra-read-kinds.r) κs a)
       → szelmikra-read-reads.Post κs a z (at_exit (ended_of 2 szelmikra-read-kinds.ps szelmikra-read-kinds.r) κs a left)
       → ReadCall a.0 a.1.0.now a.1.1.0.now z left.1.1.0
@@ -31,7 +31,7 @@ pub data WriteCall : ℕ → List ℕ → List ℕ → Answer → List ℕ → T
   write : (κs : Lfts 2) (a : Dens κs write-kinds.ps) (z : Answer) (left : Lasts (ended_of 2 write-kinds.ps write-kinds.r) κs a)
       → write-reads.Post κs a z (at_exit (ended_of 2 write-kinds.ps write-kinds.r) κs a left)
       → WriteCall a.0 a.1.0.now a.1.1.0.now z left.1.1.0
-  szelmikra-write : (κs : Lfts 2) (a : Dens κs szelmikra-write-kinds.ps) (z : Answer)
+  szelmikra_write : (κs : Lfts 2) (a : Dens κs szelmikra-write-kinds.ps) (z : Answer)
       (left : Lasts (ended_of 2 szelmikra-write-kinds.ps szelmikra-write-kinds.r) κs a)
       → szelmikra-write-reads.Post κs a z (at_exit (ended_of 2 szelmikra-write-kinds.ps szelmikra-write-kinds.r) κs a left)
       → WriteCall a.0 a.1.0.now a.1.1.0.now z left.1.1.0
@@ -44,7 +44,7 @@ given a s = take a.length s
 
 -- for the sheet of a file, if it has one
 abbrev pub RoomFor : ℕ → List ℕ → List ℕ → Type 0
-RoomFor list file o = (r : MeetsRules list file) → length (sheetBy r) ≤ length o
+RoomFor list file o = (r : MeetsRules list file) → length (sheet_by r) ≤ length o
 
 -- so it is wherever reading doesn't answer 16
 abbrev pub RoomSeen : Type 0

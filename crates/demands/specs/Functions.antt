@@ -1,14 +1,14 @@
 -- Demand 2 over the functions: which files and sheets are answered with 0, and with what; and a file read, its sheet written, and what
 -- was written read again. Apart from the two calls (`Calls`) only lists, bytes, rooms, answers and the rules of a file are spoken of.
 use Rattle.std.specs.Prelude.{◌≡◌, List, [], ◌⊎◌, ℕ, ◌≤◌, ◌<◌, length, drop}
-use Rattle.columns.specs.Format.{mostLines, mostBytes}
-use Rattle.model.specs.Canonical.{lineTotal, canonical}
+use Rattle.columns.specs.Format.{most_lines, most_bytes}
+use Rattle.model.specs.Canonical.{line_total, canonical}
 use Rattle.desk.specs.declared.Answer.{Answer}
 use Rattle.desk.specs.Answers.{answer}
 use Rattle.desk.specs.Words.{Iff}
 use Rattle.desk.specs.Rules.{MeetsRules}
 use Rattle.desk.specs.Demands.{described}
-use Rattle.desk.specs.Content.{sheetBy}
+use Rattle.desk.specs.Content.{sheet_by}
 use Rattle.demands.specs.Calls.{ReadCall, WriteCall, given, RoomFor}
 
 -- ---- what is accepted
@@ -23,16 +23,16 @@ ReadsExactly = (list : ℕ) (file o s : List ℕ) (a : Answer)
 -- the buffer. So no length is invented.
 abbrev pub SheetTold : Type 0
 SheetTold = (list : ℕ) (file o s : List ℕ) (a : Answer)
-    → ReadCall list file o a s → (r : MeetsRules list file) → length (sheetBy r) ≤ length o
-    → (a ≡ answer 0 0 (length (sheetBy r))) × (given a s ≡ sheetBy r)
+    → ReadCall list file o a s → (r : MeetsRules list file) → length (sheet_by r) ≤ length o
+    → (a ≡ answer 0 0 (length (sheet_by r))) × (given a s ≡ sheet_by r)
 
 -- "a sheet is accepted exactly if the canonical file it describes keeps to that limit and reads back as that sheet"; that file is then in
 -- the buffer
 abbrev pub WritesExactly : Type 0
 WritesExactly = (list : ℕ) (sheet o s o' s' : List ℕ) (a a' : Answer)
-    → WriteCall list sheet o a s → mostBytes ≤ length o
+    → WriteCall list sheet o a s → most_bytes ≤ length o
     → ReadCall list (canonical (described sheet)) o' a' s' → length sheet ≤ length o'
-    → Iff (a.number ≡ 0) ((lineTotal (described sheet) ≤ mostLines) × (a'.number ≡ 0) × (given a' s' ≡ sheet))
+    → Iff (a.number ≡ 0) ((line_total (described sheet) ≤ most_lines) × (a'.number ≡ 0) × (given a' s' ≡ sheet))
     × (a.number ≡ 0 → given a s ≡ canonical (described sheet))
 
 -- ---- read, write, read
@@ -42,7 +42,7 @@ WritesExactly = (list : ℕ) (sheet o s o' s' : List ℕ) (a a' : Answer)
 abbrev pub ReadWriteRead : Type 0
 ReadWriteRead = (list : ℕ) (file o s o' s' o'' s'' : List ℕ) (a a' a'' : Answer)
     → ReadCall list file o a s → a.number ≡ 0
-    → WriteCall list (given a s) o' a' s' → mostBytes ≤ length o'
+    → WriteCall list (given a s) o' a' s' → most_bytes ≤ length o'
     → ReadCall list (given a' s') o'' a'' s'' → a.length ≤ length o''
     → ((a'.number ≡ 0) × (a'' ≡ a) × (given a'' s'' ≡ given a s)) ⊎ (a' ≡ answer 19 0 0)
 
@@ -52,7 +52,7 @@ abbrev pub SheetWritten : Type 0
 SheetWritten = (list : ℕ) (file o s o' s' : List ℕ) (a a' : Answer)
     → ReadCall list file o a s → a.number ≡ 0
     → WriteCall list (given a s) o' a' s'
-    → (a'.number ≡ 0) ⊎ (((a'.number ≡ 16) × (length o' < a'.length) × (a'.length ≤ mostBytes))
+    → (a'.number ≡ 0) ⊎ (((a'.number ≡ 16) × (length o' < a'.length) × (a'.length ≤ most_bytes))
     ⊎ (a' ≡ answer 19 0 0))
 
 -- Of any sheet: what is written of it is read back as it, if there is room for it.

@@ -2,9 +2,9 @@
 use Rattle.std.specs.Prelude.{◌≡◌, List, ◌⊎◌, ℕ, ◌≤◌, length}
 use Rattle.columns.specs.declared.Fault.{Fault}
 use Rattle.columns.specs.Refusal.{number}
-use Rattle.columns.specs.Format.{mostBytes}
+use Rattle.columns.specs.Format.{most_bytes}
 use Rattle.layouts.specs.Larger.{Late}
-use Rattle.sheets.specs.Sheet.{Sheet, sheetText}
+use Rattle.sheets.specs.Sheet.{Sheet, sheet_text}
 use Rattle.desk.specs.declared.Answer.{Answer}
 use Rattle.desk.specs.Answers.{answer}
 use Rattle.desk.specs.Demands.{OneInside, SheetsAlike, EarlierEntry}
@@ -14,11 +14,11 @@ use Rattle.demands.specs.Letters.{LettersOnly}
 -- two texts are two sheets that differ only in the letters that mark an entity only the larger list knows, and its references
 pub record TextsAlike (small large : ℕ) (s t : List ℕ) : Type 0 where
   pub letters : LettersOnly s t
-  pub small-sheet : Sheet
-  pub large-sheet : Sheet
-  pub small-text : s ≡ sheetText small-sheet
-  pub large-text : t ≡ sheetText large-sheet
-  pub alike : SheetsAlike small large small-sheet large-sheet
+  pub small_sheet : Sheet
+  pub large_sheet : Sheet
+  pub small_text : s ≡ sheet_text small_sheet
+  pub large_text : t ≡ sheet_text large_sheet
+  pub alike : SheetsAlike small large small_sheet large_sheet
 
 -- a, b. If the larger list answers 0, so does the smaller, if there is room for as many bytes, and with the same length; the two buffers
 -- differ only in marks
@@ -33,8 +33,8 @@ abbrev pub SameWritten : Type 0
 SameWritten = (small large : ℕ) → OneInside small large → (file o s o' s' w t w' t' : List ℕ) (a a' b b' : Answer)
     → ReadCall large file o a s → a.number ≡ 0
     → ReadCall small file o' a' s' → a.length ≤ length o'
-    → WriteCall large (given a s) w b t → mostBytes ≤ length w
-    → WriteCall small (given a' s') w' b' t' → mostBytes ≤ length w'
+    → WriteCall large (given a s) w b t → most_bytes ≤ length w
+    → WriteCall small (given a' s') w' b' t' → most_bytes ≤ length w'
     → ((b.number ≡ 0) × (b' ≡ b) × (given b' t' ≡ given b t)) ⊎ ((b ≡ answer 19 0 0) × (b' ≡ answer 19 0 0))
 
 -- 14 or 15 at an earlier entry than the one of the smaller list's refusal

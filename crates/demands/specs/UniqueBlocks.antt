@@ -6,7 +6,7 @@ use contract.Lifetimes.{Lfts}
 use denote.Triple.Clauses.{Lasts, at_exit}
 use borrow.Fn.Kind.{ParamKind, ResultKind}
 use borrow.Fn.Kinds.{In, Out, Dens, res_t, ended_of}
-use Rattle.sheets.specs.Sheet.{Line, linesIn}
+use Rattle.sheets.specs.Sheet.{Line, lines_in}
 use Rattle.file_blocks.specs.declared.Block.{Block}
 use Rattle.file_globals.proofs.put_globals.Kinds as put-globals-kinds
 use Rattle.file_globals.proofs.put_globals.Reads as put-globals-reads
@@ -14,8 +14,8 @@ use Rattle.file_parameters.proofs.put_block.Kinds as put-block-kinds
 use Rattle.file_parameters.proofs.put_block.Reads as put-block-reads
 
 -- the lines that stand behind a block
-abbrev pub linesBehind : List ℕ → Block → List Line
-linesBehind t b = linesIn (drop b.next t)
+abbrev pub lines_behind : List ℕ → Block → List Line
+lines_behind t b = lines_in (drop b.next t)
 
 abbrev pub GlobalsDetermined : Type 0
 GlobalsDetermined =
@@ -23,7 +23,7 @@ GlobalsDetermined =
     (left left' : Lasts (ended_of 2 put-globals-kinds.ps put-globals-kinds.r) κs a)
     → put-globals-reads.Post κs a z (at_exit (ended_of 2 put-globals-kinds.ps put-globals-kinds.r) κs a left)
     → put-globals-reads.Post κs a z' (at_exit (ended_of 2 put-globals-kinds.ps put-globals-kinds.r) κs a left')
-    → (z.lines ≡ z'.lines) × (linesBehind a.1.1.0.now z ≡ linesBehind a.1.1.0.now z') × (left ≡ left')
+    → (z.lines ≡ z'.lines) × (lines_behind a.1.1.0.now z ≡ lines_behind a.1.1.0.now z') × (left ≡ left')
 
 abbrev pub BlockDetermined : Type 0
 BlockDetermined =
@@ -31,7 +31,7 @@ BlockDetermined =
     (left left' : Lasts (ended_of 2 put-block-kinds.ps put-block-kinds.r) κs a)
     → put-block-reads.Post κs a z (at_exit (ended_of 2 put-block-kinds.ps put-block-kinds.r) κs a left)
     → put-block-reads.Post κs a z' (at_exit (ended_of 2 put-block-kinds.ps put-block-kinds.r) κs a left')
-    → (z.lines ≡ z'.lines) × (linesBehind a.1.1.0.now z ≡ linesBehind a.1.1.0.now z') × (left ≡ left')
+    → (z.lines ≡ z'.lines) × (lines_behind a.1.1.0.now z ≡ lines_behind a.1.1.0.now z') × (left ≡ left')
 
 -- arguments as a contract asks for, and two results as it promises
 pub record SecondFits {n : ℕ} (ps : List (ParamKind n)) (r : ResultKind n) (Pre : In n ps) (Post : Out n ps r) (κs : Lfts n) : Type 0 where

@@ -4,13 +4,13 @@ use Prim.Native.Nat.{◌≤◌}
 use native.Mathlib.Omega.{arith}
 use lib.ListN.{length}
 use Rattle.values.specs.Value.{Item}
-use Rattle.records.specs.Flow.{Fines, fine-one, fine_more, Prints}
+use Rattle.records.specs.Flow.{Fines, fine_one, fine_more, Prints}
 use Rattle.sheets.specs.WellFormed.{Each, none, one, Held}
 
 -- one value at least
 pub fines : {vs : List Item} → Each Held vs → 1 ≤ length vs → Fines vs
 fines none h = absurd (omega arith)
-fines (one p none) h = fine-one p.fine
+fines (one p none) h = fine_one p.fine
 fines (one p (one q qs)) h = fine_more p.fine (fines (one q qs) (omega arith))
 
 pub prints : {vs : List Item} → Each Held vs → Prints vs

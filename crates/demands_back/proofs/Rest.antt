@@ -4,47 +4,47 @@ use mathlib.Core.Path.{◌≡◌}
 use mathlib.Core.List.{List, map}
 use Prim.Native.Nat.{ℕ}
 use Rattle.columns.specs.Refusal.{accepted}
-use Rattle.owners.specs.InFile.{ownersIn, outcome}
+use Rattle.owners.specs.InFile.{owners_in, outcome}
 use Rattle.model.specs.Model.{Model, types_of}
-use Rattle.model.specs.Canonical.{startLines, globalLines, directoryLines, parameterLines, canonical}
+use Rattle.model.specs.Canonical.{start_lines, global_lines, directory_lines, parameter_lines, canonical}
 use Rattle.model.specs.Fit.{Fits}
-use Rattle.model.specs.Read.{globalRead, entriesIn, referencesIn, lastPass}
+use Rattle.model.specs.Read.{global_read, entries_in, references_in, last_pass}
 use Rattle.demands_back.proofs.Places.{laid}
-use Rattle.demands_back.proofs.Bodies.{countsIn, Lined}
-use Rattle.demands_back.proofs.Entries.{listedFrom, noted, entries-back, references-back}
-use Rattle.demands_back.proofs.Owned.{ownership-back}
-use Rattle.demands_back.proofs.Last.{last-back}
+use Rattle.demands_back.proofs.Bodies.{counts_in, Lined}
+use Rattle.demands_back.proofs.Entries.{listed_from, noted, entries_back, references_back}
+use Rattle.demands_back.proofs.Owned.{ownership_back}
+use Rattle.demands_back.proofs.Last.{last_back}
 
 module _ (list : ℕ) (m : Model) (h : Fits list m) (b : Lined m) where
   abbrev S : List (List ℕ)
-  S = startLines m
+  S = start_lines m
 
   abbrev G : List (List ℕ)
-  G = globalLines m
+  G = global_lines m
 
   abbrev D : List (List ℕ)
-  D = directoryLines 1 1 m.entries
+  D = directory_lines 1 1 m.entries
 
   abbrev P : List (List ℕ)
-  P = parameterLines 1 m.entries
+  P = parameter_lines 1 m.entries
 
   -- 9 and 13 of each entry
-  pub directory-back : entriesIn (canonical m) (countsIn m) ≡ accepted (listedFrom 1 m.entries)
+  pub directory_back : entries_in (canonical m) (counts_in m) ≡ accepted (listed_from 1 m.entries)
   unfolding canonical
-  directory-back =
-      entries-back S G D P b.in-s b.in_g b.in-d b.in_p b.few list (types_of m.entries) m.entries (laid m.entries) h.entries
+  directory_back =
+      entries_back S G D P b.in_s b.in_g b.in_d b.in_p b.few list (types_of m.entries) m.entries (laid m.entries) h.entries
 
   -- 10 of all
-  pub references-pass : referencesIn (countsIn m) (listedFrom 1 m.entries) ≡ accepted (map noted (listedFrom 1 m.entries))
-  references-pass = references-back list (countsIn m) 1 m.entries h.entries
+  pub references-pass : references_in (counts_in m) (listed_from 1 m.entries) ≡ accepted (map noted (listed_from 1 m.entries))
+  references-pass = references_back list (counts_in m) 1 m.entries h.entries
 
   -- 11
-  pub owners-pass : outcome (countsIn m) (ownersIn (canonical m) (countsIn m)) ≡ accepted tt
+  pub owners_pass : outcome (counts_in m) (owners_in (canonical m) (counts_in m)) ≡ accepted tt
   unfolding canonical
-  owners-pass =
-      ownership-back S G D P b.in-s b.in_g b.in-d b.in_p b.few list (types_of m.entries) m.entries (laid m.entries) h.entries
+  owners_pass =
+      ownership_back S G D P b.in_s b.in_g b.in_d b.in_p b.few list (types_of m.entries) m.entries (laid m.entries) h.entries
 
   -- the last pass
-  pub entries-given : lastPass list (canonical m) (countsIn m) (globalRead 44 59 m.globals) (listedFrom 1 m.entries) ≡ accepted m.entries
+  pub entries-given : last_pass list (canonical m) (counts_in m) (global_read 44 59 m.globals) (listed_from 1 m.entries) ≡ accepted m.entries
   unfolding canonical
-  entries-given = last-back S G D P b.in-s b.in_g b.in-d b.in_p b.few list m.globals m.entries (laid m.entries) h.entries
+  entries-given = last_back S G D P b.in_s b.in_g b.in_d b.in_p b.few list m.globals m.entries (laid m.entries) h.entries

@@ -7,44 +7,44 @@ use native.Mathlib.Omega.{arith}
 use lib.ListN.{get_or, take, drop}
 use Rattle.columns.specs.declared.Fault.{Fault}
 use Rattle.columns.specs.declared.Fault.TheVariants.{FirstValue}
-use Rattle.columns.specs.Refusal.{Outcome, accepted, refused, demand, eachAt, ◌then◌}
-use Rattle.columns.specs.Format.{mostList}
+use Rattle.columns.specs.Refusal.{Outcome, accepted, refused, demand, each_at, ◌then◌}
+use Rattle.columns.specs.Format.{most_list}
 use Rattle.values.specs.Value.{default}
-use Rattle.records.specs.Record.{Values, values, wrong, trimmed, valuesAt}
+use Rattle.records.specs.Record.{Values, values, wrong, trimmed, values_at}
 use Rattle.layouts.specs.Known.{Inside}
 use Rattle.layouts.specs.Entities.{Entity}
 use Rattle.layouts.specs.Larger.{Late}
-use Rattle.layouts.proofs.Demand.{Added, alike, added_then, added-after, sooner, entity-more}
-use Rattle.model.specs.Model.{Carried, type_of, entityOf}
-use Rattle.model.specs.Read.{Listed, Before, two, is_type, carried, byParameters, parametersOf, entityIn, firstEntry, listedType, lastPass, modelWith, before, reads}
-use Rattle.desk.proofs.Lists.{read-list}
-use Rattle.desk.specs.Demands.{entityUnder, StopsAt, EarlierEntry, LargerRefuses, RefusedAtEntry}
-use Rattle.columns.proofs.Stops.{Stops, here, later, Accepts, next, not-both, first-refused, stops-refused, all-accepted}
+use Rattle.layouts.proofs.Demand.{Added, alike, added_then, added_after, sooner, entity-more}
+use Rattle.model.specs.Model.{Carried, type_of, entity_of}
+use Rattle.model.specs.Read.{Listed, Before, two, is_type, carried, by_parameters, parameters_of, entity_in, first_entry, listed_type, last_pass, model_with, before, reads}
+use Rattle.desk.proofs.Lists.{read_list}
+use Rattle.desk.specs.Demands.{entity_under, StopsAt, EarlierEntry, LargerRefuses, RefusedAtEntry}
+use Rattle.columns.proofs.Stops.{Stops, here, later, Accepts, next, not_both, first_refused, stops_refused, all_accepted}
 
 -- ---- one entity
 
 module _ (small large : ℕ) (inside : Inside small large) where
-  parameters-added : (types : List ℕ) (p : ℕ) (e : Listed) (vs : Values) → Added (byParameters small types p e vs) (byParameters large types p e vs)
-  parameters-added types p e (wrong n start at) = alike _ _
-  parameters-added types p e (values vs end) =
+  parameters_added : (types : List ℕ) (p : ℕ) (e : Listed) (vs : Values) → Added (by_parameters small types p e vs) (by_parameters large types p e vs)
+  parameters_added types p e (wrong n start at) = alike _ _
+  parameters_added types p e (values vs end) =
       added_then (demand (is_type (type_of e.fields) (get_or vs 0 default)) FirstValue p) _ _
-      (λ _. added-after _ _ (λ _. y) (λ _. y) (entity-more types small large inside x p))
+      (λ _. added_after _ _ (λ _. y) (λ _. y) (entity-more types small large inside x p))
     where
       x : Entity
-      x = entityOf e.fields (trimmed (drop 1 vs))
+      x = entity_of e.fields (trimmed (drop 1 vs))
 
       y : Carried
       y = carried e (trimmed (drop 1 vs))
 
-  entity-added : (f : List ℕ) (b : Before) (p : ℕ) (e : Listed) → Added (entityUnder small f b p e) (entityUnder large f b p e)
-  unfolding entityIn
-  entity-added f b p e = parameters-added (map listedType b.listed) p e (valuesAt 64 b.global.parameter b.global.record-end (parametersOf f b.counts e) 0)
+  entity_added : (f : List ℕ) (b : Before) (p : ℕ) (e : Listed) → Added (entity_under small f b p e) (entity_under large f b p e)
+  unfolding entity_in
+  entity_added f b p e = parameters_added (map listed_type b.listed) p e (values_at 64 b.global.parameter b.global.record_end (parameters_of f b.counts e) 0)
 
 -- ---- an index of the last pass
 
 module _ {A B : Type 0} (f : ℕ → A → Outcome B) where
   to_at : {p : ℕ} {xs : List A} {i : ℕ} {n : Fault} {q : ℕ} → Stops two f p xs i n q → StopsAt f p xs i n q
-  unfolding eachAt
+  unfolding each_at
   to_at (here {p = p} {x = x} {xs = xs} {n = n} {q = q} e) =
       let k : p + 2 * 0 ≡ p = omega arith in
       record { passed = []; pass = refl; entry = x; others = xs; stands = refl; stops = rw k e }
@@ -69,58 +69,58 @@ module _ {A B : Type 0} (f : ℕ → A → Outcome B) where
 -- ---- the whole of reading
 
 -- what is made of an accepted one refuses nothing
-then-refused : {A B : Type 0} (o : Outcome A) (g : A → B) (n : Fault) (p : ℕ) → (o then λ a. accepted (g a)) ≡ refused n p → o ≡ refused n p
-then-refused (accepted a) g n p h = absurd (not-both h)
-then-refused (refused m q) g n p h = (cc)
+then_refused : {A B : Type 0} (o : Outcome A) (g : A → B) (n : Fault) (p : ℕ) → (o then λ a. accepted (g a)) ≡ refused n p → o ≡ refused n p
+then_refused (accepted a) g n p h = absurd (not_both h)
+then_refused (refused m q) g n p h = (cc)
 
-reads_before : (list : ℕ) (f : List ℕ) (n : Fault) (p : ℕ) → list ≤ mostList → before f ≡ refused n p → reads list f ≡ refused n p
+reads_before : (list : ℕ) (f : List ℕ) (n : Fault) (p : ℕ) → list ≤ most_list → before f ≡ refused n p → reads list f ≡ refused n p
 unfolding reads
-reads_before list f n p h e = rw (read-list list f h, e)
+reads_before list f n p h e = rw (read_list list f h, e)
 
 -- the last pass, as it goes from entry to entry
 abbrev Turns : ℕ → List ℕ → Before → ℕ → Fault → ℕ → Type 0
-Turns list f b i n p = Stops two (entityUnder list f b) (firstEntry b.counts) b.listed i n p
+Turns list f b i n p = Stops two (entity_under list f b) (first_entry b.counts) b.listed i n p
 
-reads-turns : (list : ℕ) (f : List ℕ) (b : Before) → list ≤ mostList → before f ≡ accepted b → (n : Fault) (p : ℕ)
+reads_turns : (list : ℕ) (f : List ℕ) (b : Before) → list ≤ most_list → before f ≡ accepted b → (n : Fault) (p : ℕ)
     → reads list f ≡ refused n p → (i : ℕ) × Turns list f b i n p
-unfolding reads lastPass
-reads-turns list f b h e n p r =
-    first-refused two (entityUnder list f b) (firstEntry b.counts) b.listed n p
-    (then-refused (lastPass list f b.counts b.global b.listed) (modelWith f b.counts b.global) n p
-    (then-refused (lastPass list f b.counts b.global b.listed then λ es. accepted (modelWith f b.counts b.global es)) _ n p
-    (rw (read-list list f h, e) at r)))
+unfolding reads last_pass
+reads_turns list f b h e n p r =
+    first_refused two (entity_under list f b) (first_entry b.counts) b.listed n p
+    (then_refused (last_pass list f b.counts b.global b.listed) (model_with f b.counts b.global) n p
+    (then_refused (last_pass list f b.counts b.global b.listed then λ es. accepted (model_with f b.counts b.global es)) _ n p
+    (rw (read_list list f h, e) at r)))
 
-turns-reads : (list : ℕ) (f : List ℕ) (b : Before) → list ≤ mostList → before f ≡ accepted b → (n : Fault) (p i : ℕ)
+turns_reads : (list : ℕ) (f : List ℕ) (b : Before) → list ≤ most_list → before f ≡ accepted b → (n : Fault) (p i : ℕ)
     → Turns list f b i n p → reads list f ≡ refused n p
-unfolding reads lastPass
-turns-reads list f b h e n p i s = rw (read-list list f h, e, stops-refused two (entityUnder list f b) s)
+unfolding reads last_pass
+turns_reads list f b h e n p i s = rw (read_list list f h, e, stops_refused two (entity_under list f b) s)
 
-pub refused-at-entry : RefusedAtEntry
-refused-at-entry list f b h e n p = (
-  λ r. let t = reads-turns list f b h e n p r in (t.0, to_at _ t.1),
-  λ i s. turns-reads list f b h e n p i (of_at _ _ _ i n p s.passed s.entry s.others (all-accepted two _ _ _ s.passed s.pass) s.stands s.stops),
+pub refused_at_entry : RefusedAtEntry
+refused_at_entry list f b h e n p = (
+  λ r. let t = reads_turns list f b h e n p r in (t.0, to_at _ t.1),
+  λ i s. turns_reads list f b h e n p i (of_at _ _ _ i n p s.passed s.entry s.others (all_accepted two _ _ _ s.passed s.pass) s.stands s.stops),
 )
 
 -- d
-pub larger-refuses : LargerRefuses
-larger-refuses small large o f n p h = by (before f) refl
+pub larger_refuses : LargerRefuses
+larger_refuses small large o f n p h = by (before f) refl
   where
     by : (x : Outcome Before) → before f ≡ x
         → (reads large f ≡ refused n p) ⊎ ((m : Fault) × (q : ℕ) × (reads large f ≡ refused m q) × Late m × EarlierEntry small large f n p m q)
-    by (refused m q) e = inl (reads_before large f m q o.large-list e ∙ (sym (reads_before small f m q o.small-list e) ∙ h))
-    by (accepted b) e = last (sooner two (entityUnder small f b) (entityUnder large f b) (entity-added small large o.inside f b) t.1)
+    by (refused m q) e = inl (reads_before large f m q o.large_list e ∙ (sym (reads_before small f m q o.small_list e) ∙ h))
+    by (accepted b) e = last (sooner two (entity_under small f b) (entity_under large f b) (entity_added small large o.inside f b) t.1)
       where
         t : (i : ℕ) × Turns small f b i n p
-        t = reads-turns small f b o.small-list e n p h
+        t = reads_turns small f b o.small_list e n p h
 
         last : Turns large f b t.0 n p ⊎ ((j : ℕ) × (m : Fault) × (r : ℕ) × (j < t.0) × Late m × Turns large f b j m r)
             → (reads large f ≡ refused n p) ⊎ ((m : Fault) × (q : ℕ) × (reads large f ≡ refused m q) × Late m × EarlierEntry small large f n p m q)
-        last (inl s) = inl (turns-reads large f b o.large-list e n p t.0 s)
+        last (inl s) = inl (turns_reads large f b o.large_list e n p t.0 s)
         last (inr (j, m, r, u, l, s)) =
             inr (
               m,
               r,
-              turns-reads large f b o.large-list e m r j s,
+              turns_reads large f b o.large_list e m r j s,
               l,
               record { reached = b; before_last = e; i = t.0; j = j; earlier = u; smaller = to_at _ t.1; larger = to_at _ s },
             )

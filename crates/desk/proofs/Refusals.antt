@@ -7,7 +7,7 @@ use lib.ListN.{length, drop}
 use lib.Dec.{leb}
 use Rattle.columns.specs.Laid.{laid}
 use Rattle.columns.specs.Refusal.{accepted, refused}
-use Rattle.desk.specs.Answers.{answer_of, leftIn, slotsLeft}
+use Rattle.desk.specs.Answers.{answer_of, left_in, slots_left}
 use Rattle.desk.specs.Demands.{RefusalKeepsBuffer, RefusalKeepsTable}
 
 -- what was accepted is told by 0, or there is no room for it
@@ -15,12 +15,12 @@ kept : {A : Type 0} (b : Bool) (x y : A) → (◌≡◌ {A = ℕ} (cond b 0 16) 
 kept true x y h = absurd (h refl)
 kept false x y h = refl
 
-pub refusal-keeps-buffer : RefusalKeepsBuffer
-unfolding answer_of leftIn
-refusal-keeps-buffer (accepted bs) out h = kept (leb (length bs) (length out)) (laid out 0 bs) out h
-refusal-keeps-buffer (refused n p) out h = refl
+pub refusal_keeps_buffer : RefusalKeepsBuffer
+unfolding answer_of left_in
+refusal_keeps_buffer (accepted bs) out h = kept (leb (length bs) (length out)) (laid out 0 bs) out h
+refusal_keeps_buffer (refused n p) out h = refl
 
-pub refusal-keeps-table : RefusalKeepsTable
-unfolding answer_of slotsLeft
-refusal-keeps-table (accepted rs) table h = kept (leb (length rs) (length table)) (rs ++ drop (length rs) table) table h
-refusal-keeps-table (refused n p) table h = refl
+pub refusal_keeps_table : RefusalKeepsTable
+unfolding answer_of slots_left
+refusal_keeps_table (accepted rs) table h = kept (leb (length rs) (length table)) (rs ++ drop (length rs) table) table h
+refusal_keeps_table (refused n p) table h = refl

@@ -6,16 +6,16 @@ use Rattle.columns.specs.declared.Field.TheVariants.{Number, Bad}
 use Rattle.columns.specs.Quoted.{codes}
 use Rattle.columns.specs.declared.Fault.TheVariants.{Directory}
 use Rattle.columns.specs.Refusal.{number}
-use Rattle.columns.specs.Fixed.{digitsOf, field_of}
-use Rattle.columns.specs.Decimal.{lastDigits, dec}
-use Rattle.columns.specs.Format.{textColumns}
+use Rattle.columns.specs.Fixed.{digits_of, field_of}
+use Rattle.columns.specs.Decimal.{last_digits, dec}
+use Rattle.columns.specs.Format.{text_columns}
 use Rattle.columns.specs.Letters.{comma, semicolon}
-use Rattle.values.specs.Number.{power, powerAt, number_of}
+use Rattle.values.specs.Number.{power, power_at, number_of}
 use Rattle.values.specs.Head.{head_of}
 use Rattle.values.specs.Value.{spelled}
 use Rattle.values.specs.Cases.{Answer, is, gives, table as values-table}
-use Rattle.records.specs.Record.{Values, values, wrong, next_at, value_at, valuesFrom, valuesAt}
-use Rattle.directory.specs.Rules.{statusOk}
+use Rattle.records.specs.Record.{Values, values, wrong, next_at, value_at, values_from, values_at}
+use Rattle.directory.specs.Rules.{status_ok}
 
 -- what is told of a text: the spelling of each value in it, or a refusal's number
 pub data Told : Type 0 where
@@ -44,13 +44,13 @@ abbrev told : Values → Told
 told (values vs end) = reads_as (map spelled vs)
 told (wrong n start at) = refuses (number n)
 
-abbrev statusTold : Field → Told
-statusTold (Number n) = cond (statusOk n) passes (refuses (number Directory))
-statusTold Bad = refuses (number Directory)
+abbrev status_told : Field → Told
+status_told (Number n) = cond (status_ok n) passes (refuses (number Directory))
+status_told Bad = refuses (number Directory)
 
 abbrev computed : Case → Told
-computed (value t x) = told (valuesAt textColumns comma semicolon (codes t ++ (semicolon ∷ [])) 0)
-computed (status t x) = statusTold (field_of (codes t))
+computed (value t x) = told (values_at text_columns comma semicolon (codes t ++ (semicolon ∷ [])) 0)
+computed (status t x) = status_told (field_of (codes t))
 
 abbrev expected : Case → Told
 expected (value t x) = x
@@ -58,5 +58,5 @@ expected (status t x) = x
 
 -- each case is as the paper has it
 pub cases : map computed table ≡ map expected table
-unfolding digitsOf field_of lastDigits dec power powerAt number_of head_of spelled next_at value_at valuesFrom valuesAt statusOk
+unfolding digits_of field_of last_digits dec power power_at number_of head_of spelled next_at value_at values_from values_at status_ok
 cases = refl

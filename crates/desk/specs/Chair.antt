@@ -2,49 +2,49 @@
 use Rattle.std.specs.Prelude.{◌≡◌, refl, List, [], ◌∷◌, ◌++◌, ℕ, length}
 use Rattle.columns.specs.Quoted.{codes}
 use Rattle.columns.specs.Refusal.{accepted}
-use Rattle.columns.specs.Columns.{columns, printable, blank, sameBytes, joined, line_at, text_of as columns-textOf}
-use Rattle.columns.specs.Decimal.{lastDigits, dec, signedDec, toRight, toLeft}
-use Rattle.columns.specs.First.{firstNot, up_from}
-use Rattle.columns.specs.Fixed.{digitsOf, field_of, is_number, signed_of}
-use Rattle.columns.specs.Refusal.{eachAt}
-use Rattle.columns.specs.Format.{mostList}
+use Rattle.columns.specs.Columns.{columns, printable, blank, same_bytes, joined, line_at, text_of as columns-textOf}
+use Rattle.columns.specs.Decimal.{last_digits, dec, signed_dec, to_right, to_left}
+use Rattle.columns.specs.First.{first_not, up_from}
+use Rattle.columns.specs.Fixed.{digits_of, field_of, is_number, signed_of}
+use Rattle.columns.specs.Refusal.{each_at}
+use Rattle.columns.specs.Format.{most_list}
 use Rattle.values.specs.Head.{head_of}
-use Rattle.values.specs.Number.{power, powerAt, number_of}
-use Rattle.values.specs.Strict.{strictOf}
+use Rattle.values.specs.Number.{power, power_at, number_of}
+use Rattle.values.specs.Strict.{strict_of}
 use Rattle.values.specs.Value.{spelled}
-use Rattle.records.specs.Flow.{firm, gap, piece, flow, lineCount, cut, inLines}
-use Rattle.records.specs.Global.{mayDelimit, opened, recordDelimiter, openingOf, canonicalOpening, kind_of, in_range as records-inRange}
-use Rattle.records.specs.Global.{globalFits}
-use Rattle.records.specs.Record.{next_at, value_at, valuesFrom, valuesAt, position_of, start_at}
+use Rattle.records.specs.Flow.{firm, gap, piece, flow, line_count, cut, in_lines}
+use Rattle.records.specs.Global.{may_delimit, opened, record_delimiter, opening_of, canonical_opening, kind_of, in_range as records-inRange}
+use Rattle.records.specs.Global.{global_fits}
+use Rattle.records.specs.Record.{next_at, value_at, values_from, values_at, position_of, start_at}
 use Rattle.references.specs.References.{class_of, class_at}
 use Rattle.directory.specs.Fields.{entry_of as directory-entryOf}
-use Rattle.directory.specs.Lines.{slots, slotIn, number_in, numbersFrom, entry_at, label_at, entryLines}
-use Rattle.directory.specs.Rules.{statusOk, rangesOk, entryRules, referenceRule}
-use Rattle.cards.specs.Cards.{lines_from, lines_of as cards-linesOf, lineOk, seven, place_of, numberedOf, step_of, pass, tells, totals, closes}
-use Rattle.cards.specs.Cards.{closed as cards-closed, lengthOk, cardsOf}
-use Rattle.cards.specs.Written.{zeros, line_of as cards-lineOf, section, totalsOf, fileLines, fileOf}
-use Rattle.owners.specs.InFile.{numberOr0, sizeOr0, name_of, ownerIn, fromIn, countIn, ownersIn}
-use Rattle.owners.specs.Owners.{nameIs, entryOwns, in_range as owners-inRange, lineOwned, ownersOf}
-use Rattle.layouts.specs.Entities.{everywhere, verdict, entityCheck, referencePlaces, marks}
+use Rattle.directory.specs.Lines.{slots, slot_in, number_in, numbers_from, entry_at, label_at, entry_lines}
+use Rattle.directory.specs.Rules.{status_ok, ranges_ok, entry_rules, reference_rule}
+use Rattle.cards.specs.Cards.{lines_from, lines_of as cards-linesOf, line_ok, seven, place_of, numbered_of, step_of, pass, tells, totals, closes}
+use Rattle.cards.specs.Cards.{closed as cards-closed, length_ok, cards_of}
+use Rattle.cards.specs.Written.{zeros, line_of as cards-lineOf, section, totals_of, file_lines, file_of}
+use Rattle.owners.specs.InFile.{number_or0, size_or0, name_of, owner_in, from_in, count_in, owners_in}
+use Rattle.owners.specs.Owners.{name_is, entry_owns, in_range as owners-inRange, line_owned, owners_of}
+use Rattle.layouts.specs.Entities.{everywhere, verdict, entity_check, reference_places, marks}
 use Rattle.layouts.specs.Fits.{places_of, asked}
 use Rattle.layouts.specs.Known.{known}
 use Rattle.layouts.specs.Layout.{paper, bit_of}
 use Rattle.layouts.specs.Named.{named}
-use Rattle.sheets.specs.Line.{run as sheets-run, isLabel, isEntryNumber, entryNumber, numbersOf, entry_of as sheets-entryOf, label_of, spell}
-use Rattle.sheets.specs.Line.{spells, entryLine}
-use Rattle.sheets.specs.Order.{closed as sheets-closed, startStep, globalStep, entryStep, valueStep, lastStep, noneStep}
-use Rattle.sheets.specs.Order.{finish as sheets-finish, goLines, verdictOf, readSheet}
-use Rattle.sheets.specs.Plain.{is_plain, is_signed, signedNumber, allDigits, isStatus, statusNumber}
-use Rattle.sheets.specs.Sheet.{startLines as sheets-startLines, globalLines as sheets-globalLines, valueLines, row_lines}
-use Rattle.sheets.specs.Sheet.{lines_of as sheets-linesOf, line_of as sheets-lineOf, text_of as sheets-textOf, sheetText, isMark, isStart}
-use Rattle.sheets.specs.Sheet.{startLine, isFieldNumber, isNumbered, globalLine, lastLine, byMark, says_of, saidBy, into, pieces_of}
-use Rattle.sheets.specs.Sheet.{lastPiece, saidByAll, linesIn, parts_of, sheetOf as sheets-sheetOf}
-use Rattle.model.specs.Canonical.{startLines as model-startLines, filled, globalText, globalLines as model-globalLines, parameterText}
-use Rattle.model.specs.Canonical.{block_of, directoryLines, parameterLines, lineTotal, canonical}
-use Rattle.model.specs.Model.{marked, row_of, sheetOf as model-sheetOf, modelOf}
-use Rattle.model.specs.Read.{startsIn, noStray, given, globalIn, entryIn, entriesIn, referencesIn, entityIn, lastPass, before, readModel}
+use Rattle.sheets.specs.Line.{run as sheets-run, is_label, is_entry_number, entry_number, numbers_of, entry_of as sheets-entryOf, label_of, spell}
+use Rattle.sheets.specs.Line.{spells, entry_line}
+use Rattle.sheets.specs.Order.{closed as sheets-closed, start_step, global_step, entry_step, value_step, last_step, none_step}
+use Rattle.sheets.specs.Order.{finish as sheets-finish, go_lines, verdict_of, read_sheet}
+use Rattle.sheets.specs.Plain.{is_plain, is_signed, signed_number, all_digits, is_status, status_number}
+use Rattle.sheets.specs.Sheet.{start_lines as sheets-startLines, global_lines as sheets-globalLines, value_lines, row_lines}
+use Rattle.sheets.specs.Sheet.{lines_of as sheets-linesOf, line_of as sheets-lineOf, text_of as sheets-textOf, sheet_text, is_mark, is_start}
+use Rattle.sheets.specs.Sheet.{start_line, is_field_number, is_numbered, global_line, last_line, by_mark, says_of, said_by, into, pieces_of}
+use Rattle.sheets.specs.Sheet.{last_piece, said_by_all, lines_in, parts_of, sheet_of as sheets-sheetOf}
+use Rattle.model.specs.Canonical.{start_lines as model-startLines, filled, global_text, global_lines as model-globalLines, parameter_text}
+use Rattle.model.specs.Canonical.{block_of, directory_lines, parameter_lines, line_total, canonical}
+use Rattle.model.specs.Model.{marked, row_of, sheet_of as model-sheetOf, model_of}
+use Rattle.model.specs.Read.{starts_in, no_stray, given, global_in, entry_in, entries_in, references_in, entity_in, last_pass, before, read_model}
 use Rattle.model.specs.Read.{reads}
-use Rattle.model.specs.Write.{sheetRules, writeModel, writes}
+use Rattle.model.specs.Write.{sheet_rules, write_model, writes}
 
 -- a line ends in LF; fields are parted by tabs
 abbrev line : List ℕ → List ℕ
@@ -82,37 +82,37 @@ pub sheet-length : length sheet ≡ 107
 sheet-length = refl
 
 -- the file is read to the sheet
-pub read-chair : reads mostList file ≡ accepted sheet
-unfolding columns printable blank sameBytes joined line_at columns-textOf lastDigits dec signedDec toRight toLeft firstNot up_from digitsOf
-    field_of is_number signed_of eachAt head_of power powerAt number_of strictOf spelled firm gap piece flow lineCount cut inLines mayDelimit
-    opened recordDelimiter openingOf canonicalOpening kind_of records-inRange globalFits next_at value_at valuesFrom valuesAt position_of
-    start_at class_of class_at directory-entryOf slots slotIn number_in numbersFrom entry_at label_at entryLines statusOk rangesOk entryRules
-    referenceRule lines_from cards-linesOf lineOk seven place_of numberedOf step_of pass tells totals closes cards-closed lengthOk cardsOf
-    zeros cards-lineOf section totalsOf fileLines fileOf numberOr0 sizeOr0 name_of ownerIn fromIn countIn ownersIn nameIs entryOwns
-    owners-inRange lineOwned ownersOf verdict entityCheck marks known paper bit_of named sheets-run isLabel isEntryNumber entryNumber
-    numbersOf sheets-entryOf label_of spell spells entryLine sheets-closed startStep globalStep entryStep valueStep lastStep noneStep
-    sheets-finish goLines verdictOf readSheet is_plain is_signed signedNumber allDigits isStatus statusNumber sheets-startLines
-    sheets-globalLines valueLines row_lines sheets-linesOf sheets-lineOf sheets-textOf sheetText isMark isStart startLine isFieldNumber
-    isNumbered globalLine lastLine byMark says_of saidBy into pieces_of lastPiece saidByAll linesIn parts_of sheets-sheetOf model-startLines
-    filled globalText model-globalLines parameterText block_of directoryLines parameterLines lineTotal canonical marked row_of model-sheetOf
-    modelOf startsIn noStray given globalIn entryIn entriesIn referencesIn entityIn lastPass before readModel reads sheetRules writeModel
-    writes everywhere referencePlaces places_of asked
+pub read-chair : reads most_list file ≡ accepted sheet
+unfolding columns printable blank same_bytes joined line_at columns-textOf last_digits dec signed_dec to_right to_left first_not up_from digits_of
+    field_of is_number signed_of each_at head_of power power_at number_of strict_of spelled firm gap piece flow line_count cut in_lines may_delimit
+    opened record_delimiter opening_of canonical_opening kind_of records-inRange global_fits next_at value_at values_from values_at position_of
+    start_at class_of class_at directory-entryOf slots slot_in number_in numbers_from entry_at label_at entry_lines status_ok ranges_ok entry_rules
+    reference_rule lines_from cards-linesOf line_ok seven place_of numbered_of step_of pass tells totals closes cards-closed length_ok cards_of
+    zeros cards-lineOf section totals_of file_lines file_of number_or0 size_or0 name_of owner_in from_in count_in owners_in name_is entry_owns
+    owners-inRange line_owned owners_of verdict entity_check marks known paper bit_of named sheets-run is_label is_entry_number entry_number
+    numbers_of sheets-entryOf label_of spell spells entry_line sheets-closed start_step global_step entry_step value_step last_step none_step
+    sheets-finish go_lines verdict_of read_sheet is_plain is_signed signed_number all_digits is_status status_number sheets-startLines
+    sheets-globalLines value_lines row_lines sheets-linesOf sheets-lineOf sheets-textOf sheet_text is_mark is_start start_line is_field_number
+    is_numbered global_line last_line by_mark says_of said_by into pieces_of last_piece said_by_all lines_in parts_of sheets-sheetOf model-startLines
+    filled global_text model-globalLines parameter_text block_of directory_lines parameter_lines line_total canonical marked row_of model-sheetOf
+    model_of starts_in no_stray given global_in entry_in entries_in references_in entity_in last_pass before read_model reads sheet_rules write_model
+    writes everywhere reference_places places_of asked
 read-chair = refl
 
 -- the sheet is written to the file
-pub written-chair : writes mostList sheet ≡ accepted file
-unfolding columns printable blank sameBytes joined line_at columns-textOf lastDigits dec signedDec toRight toLeft firstNot up_from digitsOf
-    field_of is_number signed_of eachAt head_of power powerAt number_of strictOf spelled firm gap piece flow lineCount cut inLines mayDelimit
-    opened recordDelimiter openingOf canonicalOpening kind_of records-inRange globalFits next_at value_at valuesFrom valuesAt position_of
-    start_at class_of class_at directory-entryOf slots slotIn number_in numbersFrom entry_at label_at entryLines statusOk rangesOk entryRules
-    referenceRule lines_from cards-linesOf lineOk seven place_of numberedOf step_of pass tells totals closes cards-closed lengthOk cardsOf
-    zeros cards-lineOf section totalsOf fileLines fileOf numberOr0 sizeOr0 name_of ownerIn fromIn countIn ownersIn nameIs entryOwns
-    owners-inRange lineOwned ownersOf verdict entityCheck marks known paper bit_of named sheets-run isLabel isEntryNumber entryNumber
-    numbersOf sheets-entryOf label_of spell spells entryLine sheets-closed startStep globalStep entryStep valueStep lastStep noneStep
-    sheets-finish goLines verdictOf readSheet is_plain is_signed signedNumber allDigits isStatus statusNumber sheets-startLines
-    sheets-globalLines valueLines row_lines sheets-linesOf sheets-lineOf sheets-textOf sheetText isMark isStart startLine isFieldNumber
-    isNumbered globalLine lastLine byMark says_of saidBy into pieces_of lastPiece saidByAll linesIn parts_of sheets-sheetOf model-startLines
-    filled globalText model-globalLines parameterText block_of directoryLines parameterLines lineTotal canonical marked row_of model-sheetOf
-    modelOf startsIn noStray given globalIn entryIn entriesIn referencesIn entityIn lastPass before readModel reads sheetRules writeModel
-    writes everywhere referencePlaces places_of asked
+pub written-chair : writes most_list sheet ≡ accepted file
+unfolding columns printable blank same_bytes joined line_at columns-textOf last_digits dec signed_dec to_right to_left first_not up_from digits_of
+    field_of is_number signed_of each_at head_of power power_at number_of strict_of spelled firm gap piece flow line_count cut in_lines may_delimit
+    opened record_delimiter opening_of canonical_opening kind_of records-inRange global_fits next_at value_at values_from values_at position_of
+    start_at class_of class_at directory-entryOf slots slot_in number_in numbers_from entry_at label_at entry_lines status_ok ranges_ok entry_rules
+    reference_rule lines_from cards-linesOf line_ok seven place_of numbered_of step_of pass tells totals closes cards-closed length_ok cards_of
+    zeros cards-lineOf section totals_of file_lines file_of number_or0 size_or0 name_of owner_in from_in count_in owners_in name_is entry_owns
+    owners-inRange line_owned owners_of verdict entity_check marks known paper bit_of named sheets-run is_label is_entry_number entry_number
+    numbers_of sheets-entryOf label_of spell spells entry_line sheets-closed start_step global_step entry_step value_step last_step none_step
+    sheets-finish go_lines verdict_of read_sheet is_plain is_signed signed_number all_digits is_status status_number sheets-startLines
+    sheets-globalLines value_lines row_lines sheets-linesOf sheets-lineOf sheets-textOf sheet_text is_mark is_start start_line is_field_number
+    is_numbered global_line last_line by_mark says_of said_by into pieces_of last_piece said_by_all lines_in parts_of sheets-sheetOf model-startLines
+    filled global_text model-globalLines parameter_text block_of directory_lines parameter_lines line_total canonical marked row_of model-sheetOf
+    model_of starts_in no_stray given global_in entry_in entries_in references_in entity_in last_pass before read_model reads sheet_rules write_model
+    writes everywhere reference_places places_of asked
 written-chair = refl

@@ -9,5 +9,5 @@ bytes_of (accepted bs) = bs
 bytes_of (refused n place) = []
 
 -- the bytes of a file's sheet
-unfoldable pub sheetIn : ℕ → List ℕ → List ℕ
-sheetIn list f = bytes_of (reads list f)
+unfoldable pub sheet_in : ℕ → List ℕ → List ℕ
+sheet_in list f = bytes_of (reads list f)

@@ -14,35 +14,35 @@ use Rattle.columns.specs.declared.FileLine.{FileLine}
 use Rattle.columns.specs.Columns.{columns, blank}
 use Rattle.columns.specs.Refusal.{Outcome, ◌then◌}
 use Rattle.columns.specs.First.{up_from}
-use Rattle.columns.proofs.First.{length-upFrom}
+use Rattle.columns.proofs.First.{length_up_from}
 use Rattle.cards.specs.declared.Counts.{Counts}
-use Rattle.cards.specs.Cards.{entryLine, entries}
+use Rattle.cards.specs.Cards.{entry_line, entries}
 use Rattle.directory.specs.Lines.{slots}
 use Rattle.model.specs.Model.{Model}
 use Rattle.model.specs.Read.{Before, before}
-use Rattle.read_passes.specs.Listed.{entry_of, allEntries}
+use Rattle.read_passes.specs.Listed.{entry_of, all_entries}
 use Rattle.read_passes.specs.Ready.{Ready}
 use Rattle.read_weights.specs.declared.Checked.{Checked}
 use Rattle.read_weights.specs.declared.Checked.TheVariants.{Good, Refused}
-use Rattle.read_weights.specs.Checks.{checkOf}
+use Rattle.read_weights.specs.Checks.{check_of}
 use Rattle.read_weights.proofs.Facts.{checked-model, checked-passed, checked-ready, checked_refused}
-use Rattle.desk.specs.Answers.{Shown, labelFrom, standIn, nothing, labelByte, labelOr, nameIn, byReading, shown}
+use Rattle.desk.specs.Answers.{Shown, label_from, stand_in, nothing, label_byte, label_or, name_in, by_reading, shown}
 use Rattle.desk_name.specs.declared.Found.{Found}
 use Rattle.desk_name.specs.declared.Found.TheVariants.{Label, Blank, Nobody}
-use Rattle.desk_name.specs.Finding.{nameWith, foundOf, Inside}
+use Rattle.desk_name.specs.Finding.{name_with, found_of, Inside}
 use Rattle.desk_name.specs.Names.{Part, Shows}
 
 -- ---- in the directory
 
-label-byte : (k : ℕ) → labelByte k ≡ 81 * (k + 1) + 56
+label_byte_lem : (k : ℕ) → label_byte k ≡ 81 * (k + 1) + 56
 unfolding slots
-label-byte k = refl
+label_byte_lem k = refl
 
 module _ (f : List ℕ) (c : Counts) (x n : ℕ) (en : n ≡ x) where
   -- an even number names no entry
-  pub even-nobody : (n % 2 ≡ 1 → ⊥) → Nobody ≡ foundOf (nameWith f x c)
-  unfolding nameWith
-  even-nobody h = rw (← en, ne_eqb (n % 2) 1 h)
+  pub even_nobody : (n % 2 ≡ 1 → ⊥) → Nobody ≡ found_of (name_with f x c)
+  unfolding name_with
+  even_nobody h = rw (← en, ne_eqb (n % 2) 1 h)
 
   module _ (odd : n % 2 ≡ 1) (d : ℕ) (ed : d ≡ c.d) where
     far : d / 2 ≤ n / 2 → ltb (n / 2) (entries c) ≡ false
@@ -52,15 +52,15 @@ module _ (f : List ℕ) (c : Counts) (x n : ℕ) (en : n ≡ x) where
     near h = lt-ltb (n / 2) (entries c) (omega arith)
 
     -- nor does one past the last
-    pub far-nobody : d / 2 ≤ n / 2 → Nobody ≡ foundOf (nameWith f x c)
-    unfolding nameWith
-    far-nobody h = rw (← en, eq-eqb (n % 2) 1 odd, far h)
+    pub far_nobody : d / 2 ≤ n / 2 → Nobody ≡ found_of (name_with f x c)
+    unfolding name_with
+    far_nobody h = rw (← en, eq-eqb (n % 2) 1 odd, far h)
 
-    module _ (h : n / 2 < d / 2) (k : ℕ) (ek : k ≡ entryLine c (n / 2)) (at : ℕ) (ea : at ≡ 81 * (k + 1) + 56) where
-      here : nameWith f x c ≡ labelOr f at
-      unfolding nameWith
+    module _ (h : n / 2 < d / 2) (k : ℕ) (ek : k ≡ entry_line c (n / 2)) (at : ℕ) (ea : at ≡ 81 * (k + 1) + 56) where
+      here : name_with f x c ≡ label_or f at
+      unfolding name_with
       here =
-          let e : labelByte (entryLine c (n / 2)) ≡ at = label-byte (entryLine c (n / 2)) ∙ ap (λ (j : ℕ). 81 * (j + 1) + 56) (sym ek) ∙ sym ea in
+          let e : label_byte (entry_line c (n / 2)) ≡ at = label_byte_lem (entry_line c (n / 2)) ∙ ap (λ (j : ℕ). 81 * (j + 1) + 56) (sym ek) ∙ sym ea in
           rw (← en, eq-eqb (n % 2) 1 odd, near h, e)
 
       eight : columns f at (at + 8) ≡ take 8 (drop at f)
@@ -69,71 +69,71 @@ module _ (f : List ℕ) (c : Counts) (x n : ℕ) (en : n ≡ x) where
           let e : at + 8 - at ≡ 8 = omega arith in
           rw e
 
-      pub label-blank : (b : Bool) → b ≡ blank (columns f at (at + 8)) → b ≡ true → Blank ≡ foundOf (nameWith f x c)
-      label-blank b eb t =
+      pub label_blank : (b : Bool) → b ≡ blank (columns f at (at + 8)) → b ≡ true → Blank ≡ found_of (name_with f x c)
+      label_blank b eb t =
           let e : blank (take 8 (drop at f)) ≡ true = ap blank (sym eight) ∙ sym eb ∙ t in
           rw (here, e)
 
-      pub label-here : (b : Bool) → b ≡ blank (columns f at (at + 8)) → b ≡ false → Label at ≡ foundOf (nameWith f x c)
-      label-here b eb t =
+      pub label_here : (b : Bool) → b ≡ blank (columns f at (at + 8)) → b ≡ false → Label at ≡ found_of (name_with f x c)
+      label_here b eb t =
           let e : blank (take 8 (drop at f)) ≡ false = ap blank (sym eight) ∙ sym eb ∙ t in
           rw (here, e)
 
       pub label_inside : Ready f c → at + 8 ≤ length f
-      label_inside rd = omega (arith, rd.holds.size, rd.holds.has-t)
+      label_inside rd = omega (arith, rd.holds.size, rd.holds.has_t)
 
-      pub label-low : Ready f c → at ≤ 16200000
-      label-low rd = omega (arith, rd.holds.size, rd.holds.has-t, rd.holds.most)
+      pub label_low : Ready f c → at ≤ 16200000
+      label_low rd = omega (arith, rd.holds.size, rd.holds.has_t, rd.holds.most)
 
-      pub label-starts : Ready f c → at ≤ at + 8
-      label-starts rd = omega arith
+      pub label_starts : Ready f c → at ≤ at + 8
+      label_starts rd = omega arith
 
-pub small_line : (f : List ℕ) (c : Counts) → Ready f c → (n d k : ℕ) → n / 2 < d / 2 → d ≡ c.d → k ≡ entryLine c (n / 2) → 81 * k + 162 < 2 ^ 64
+pub small_line : (f : List ℕ) (c : Counts) → Ready f c → (n d k : ℕ) → n / 2 < d / 2 → d ≡ c.d → k ≡ entry_line c (n / 2) → 81 * k + 162 < 2 ^ 64
 small_line f c rd n d k h ed ek = omega (arith, rd.holds.size, rd.holds.most)
 
-pub ruleset inDirectory = (even-nobody, far-nobody, label-blank, label-here, label_inside, label-low, label-starts, small_line)
+pub ruleset in_directory = (even_nobody, far_nobody, label_blank, label_here, label_inside, label_low, label_starts, small_line)
 
 -- ---- in a file
 
 -- there are as many entries as pairs of D lines
-entries-counted : (f : List ℕ) (b : Before) (c : Counts) → b.counts ≡ c → b.listed ≡ allEntries f b.counts → length b.listed ≡ entries c
+entries-counted : (f : List ℕ) (b : Before) (c : Counts) → b.counts ≡ c → b.listed ≡ all_entries f b.counts → length b.listed ≡ entries c
 entries-counted f b c ec el =
-    ap length el ∙ length-map (up_from 0 (entries b.counts)) (entry_of f b.counts) ∙ length-upFrom (entries b.counts) 0 ∙ ap entries ec
+    ap length el ∙ length-map (up_from 0 (entries b.counts)) (entry_of f b.counts) ∙ length_up_from (entries b.counts) 0 ∙ ap entries ec
 
-name-same : (f : List ℕ) (x : ℕ) (b : Before) (c : Counts) → b.counts ≡ c → length b.listed ≡ entries c → nameIn f x b ≡ nameWith f x c
-unfolding nameWith
-name-same f x b c ec el = ap₂ (λ (m : ℕ) (q : Counts). cond (eqb (x % 2) 1 && ltb (x / 2) m) (labelOr f (labelByte (entryLine q (x / 2)))) nothing) el ec
+name_same : (f : List ℕ) (x : ℕ) (b : Before) (c : Counts) → b.counts ≡ c → length b.listed ≡ entries c → name_in f x b ≡ name_with f x c
+unfolding name_with
+name_same f x b c ec el = ap₂ (λ (m : ℕ) (q : Counts). cond (eqb (x % 2) 1 && ltb (x / 2) m) (label_or f (label_byte (entry_line q (x / 2)))) nothing) el ec
 
-module _ (list : ℕ) (f : List ℕ) (x : ℕ) (r : Checked) (er : r ≡ checkOf list f) where
+module _ (list : ℕ) (f : List ℕ) (x : ℕ) (r : Checked) (er : r ≡ check_of list f) where
   -- a refused file has no names
-  pub refused-nobody : (n : Fault) (l : FileLine) → r ≡ Refused n l → Nobody ≡ foundOf (shown list f x)
+  pub refused_nobody : (n : Fault) (l : FileLine) → r ≡ Refused n l → Nobody ≡ found_of (shown list f x)
   unfolding shown
-  refused-nobody n l e = ap (λ (o : Outcome Model). foundOf (byReading f x (o then λ _. before f))) (sym (checked_refused list f r er n l e))
+  refused_nobody n l e = ap (λ (o : Outcome Model). found_of (by_reading f x (o then λ _. before f))) (sym (checked_refused list f r er n l e))
 
   module _ (c : Counts) (p d : ℕ) (e : r ≡ Good c p d) where
-    shown-with : shown list f x ≡ nameWith f x c
+    shown-with : shown list f x ≡ name_with f x c
     unfolding shown
     shown-with =
         let m = checked-model list f r er c p d e in
         let b : Before = m.told.whole in
         let listed = entries-counted f b c m.told.counts (checked-passed list f r er c p d e).listed in
-        ap (λ (o : Outcome Model). byReading f x (o then λ _. before f)) m.is ∙ ap (byReading f x) m.told.is ∙ name-same f x b c m.told.counts listed
+        ap (λ (o : Outcome Model). by_reading f x (o then λ _. before f)) m.is ∙ ap (by_reading f x) m.told.is ∙ name_same f x b c m.told.counts listed
 
-    pub good-found : (y : Found) → y ≡ foundOf (nameWith f x c) → y ≡ foundOf (shown list f x)
-    good-found y h = h ∙ ap foundOf (sym shown-with)
+    pub good_found : (y : Found) → y ≡ found_of (name_with f x c) → y ≡ found_of (shown list f x)
+    good_found y h = h ∙ ap found_of (sym shown-with)
 
-pub ruleset inFile = (refused-nobody, good-found, checked-ready)
+pub ruleset in_file = (refused_nobody, good_found, checked-ready)
 
 -- ---- the part that is shown
 
 abbrev Bytes : Type 0
 Bytes = Bor (List ℕ)
 
-ptr-same : (r y : Bytes) → r ≡ y → r.ptr ≡ y.ptr
-ptr-same r y e = ap (λ (z : Bytes). z.ptr) e
+ptr_same : (r y : Bytes) → r ≡ y → r.ptr ≡ y.ptr
+ptr_same r y e = ap (λ (z : Bytes). z.ptr) e
 
-now-same : (r y : Bytes) → r ≡ y → r.now ≡ y.now
-now-same r y e = ap (λ (z : Bytes). z.now) e
+now_same : (r y : Bytes) → r ≡ y → r.now ≡ y.now
+now_same r y e = ap (λ (z : Bytes). z.now) e
 
 take_all : (l : List ℕ) → take (length l) l ≡ l
 take_all [] = refl
@@ -144,40 +144,40 @@ at-start : (s : Bytes) (q : ℕ × ℕ) → q ≡ s.ptr → q ≡ (s.ptr.0, 0 + 
 at-start s q e = e ∙ ap (λ (n : ℕ). (s.ptr.0, n)) (sym (zero-add s.ptr.1))
 
 module _ (file stand r : Bytes) where
-  shows_nothing : (o : Shown) → foundOf o ≡ Nobody → Part stand 0 0 r → Shows file stand o r
+  shows_nothing : (o : Shown) → found_of o ≡ Nobody → Part stand 0 0 r → Shows file stand o r
   unfolding Shows
   shows_nothing nothing h p = p
-  shows_nothing standIn h p = let z : ◌≡◌ {A = ℕ} 0 1 = cc in absurd (omega arith)
-  shows_nothing (labelFrom at) h p = let z : ◌≡◌ {A = ℕ} 0 1 = cc in absurd (omega arith)
+  shows_nothing stand_in h p = let z : ◌≡◌ {A = ℕ} 0 1 = cc in absurd (omega arith)
+  shows_nothing (label_from at) h p = let z : ◌≡◌ {A = ℕ} 0 1 = cc in absurd (omega arith)
 
-  shows-stand-in : (o : Shown) → foundOf o ≡ Blank → Part stand 0 (length stand.now) r → Shows file stand o r
+  shows_stand_in : (o : Shown) → found_of o ≡ Blank → Part stand 0 (length stand.now) r → Shows file stand o r
   unfolding Shows
-  shows-stand-in nothing h p = let z : ◌≡◌ {A = ℕ} 0 1 = cc in absurd (omega arith)
-  shows-stand-in standIn h p = p
-  shows-stand-in (labelFrom at) h p = let z : ◌≡◌ {A = ℕ} 0 1 = cc in absurd (omega arith)
+  shows_stand_in nothing h p = let z : ◌≡◌ {A = ℕ} 0 1 = cc in absurd (omega arith)
+  shows_stand_in stand_in h p = p
+  shows_stand_in (label_from at) h p = let z : ◌≡◌ {A = ℕ} 0 1 = cc in absurd (omega arith)
 
-  shows-label : (o : Shown) (at : ℕ) → foundOf o ≡ Label at → Part file at 8 r → Shows file stand o r
+  shows_label : (o : Shown) (at : ℕ) → found_of o ≡ Label at → Part file at 8 r → Shows file stand o r
   unfolding Shows
-  shows-label nothing at h p = let z : ◌≡◌ {A = ℕ} 0 1 = cc in absurd (omega arith)
-  shows-label standIn at h p = let z : ◌≡◌ {A = ℕ} 0 1 = cc in absurd (omega arith)
-  shows-label (labelFrom a) at h p =
+  shows_label nothing at h p = let z : ◌≡◌ {A = ℕ} 0 1 = cc in absurd (omega arith)
+  shows_label stand_in at h p = let z : ◌≡◌ {A = ℕ} 0 1 = cc in absurd (omega arith)
+  shows_label (label_from a) at h p =
       let e : a ≡ at = cc in
       rw e p
 
-module _ (file stand : Bytes) (o : Shown) (w : Found) (ew : w ≡ foundOf o) where
-  pub nobody-shown : (r y : Bytes) → r ≡ y → w ≡ Nobody → y.ref_ptr ≡ stand.ref_ptr → y.now ≡ take 0 stand.now → Shows file stand o r
-  nobody-shown r y er e ep en =
-      shows_nothing file stand r o (sym ew ∙ e) (record { place = at-start stand r.ptr (ptr-same r y er ∙ ep); bytes = now-same r y er ∙ en })
+module _ (file stand : Bytes) (o : Shown) (w : Found) (ew : w ≡ found_of o) where
+  pub nobody_shown : (r y : Bytes) → r ≡ y → w ≡ Nobody → y.ref_ptr ≡ stand.ref_ptr → y.now ≡ take 0 stand.now → Shows file stand o r
+  nobody_shown r y er e ep en =
+      shows_nothing file stand r o (sym ew ∙ e) (record { place = at-start stand r.ptr (ptr_same r y er ∙ ep); bytes = now_same r y er ∙ en })
 
   pub blank-shown : (r : Bytes) → r ≡ stand → w ≡ Blank → Shows file stand o r
   blank-shown r er e =
-      shows-stand-in file stand r o (sym ew ∙ e)
-      (record { place = at-start stand r.ptr (ptr-same r stand er); bytes = now-same r stand er ∙ sym (take_all stand.now) })
+      shows_stand_in file stand r o (sym ew ∙ e)
+      (record { place = at-start stand r.ptr (ptr_same r stand er); bytes = now_same r stand er ∙ sym (take_all stand.now) })
 
-  pub label-shown : (at : ℕ) (r : Bytes) → w ≡ Label at → r.ref_ptr ≡ (file.ref_ptr.0, at + file.ref_ptr.1) → r.now ≡ take (at + 8 - at) (drop at file.now) → Shows file stand o r
-  label-shown at r e ep en =
+  pub label_shown : (at : ℕ) (r : Bytes) → w ≡ Label at → r.ref_ptr ≡ (file.ref_ptr.0, at + file.ref_ptr.1) → r.now ≡ take (at + 8 - at) (drop at file.now) → Shows file stand o r
+  label_shown at r e ep en =
       let q : at + 8 - at ≡ 8 = omega arith in
-      shows-label file stand r o at (sym ew ∙ e) (record { place = ep; bytes = en ∙ ap (λ (n : ℕ). take n (drop at file.now)) q })
+      shows_label file stand r o at (sym ew ∙ e) (record { place = ep; bytes = en ∙ ap (λ (n : ℕ). take n (drop at file.now)) q })
 
 module _ (size : ℕ) (w : Found) (h : Inside size w) (at : ℕ) (e : w ≡ Label at) where
   within : Inside size (Label at)
@@ -189,4 +189,4 @@ module _ (size : ℕ) (w : Found) (h : Inside size w) (at : ℕ) (e : w ≡ Labe
   pub within-fits : at + 8 < 2 ^ 64
   within-fits = omega (arith, within.1)
 
-pub ruleset parts = (nobody-shown, blank-shown, label-shown, within_end, within-fits)
+pub ruleset parts = (nobody_shown, blank-shown, label_shown, within_end, within-fits)

@@ -1,8 +1,8 @@
 -- The name to show, as a part of what was lent: where it stands, and its bytes.
 use Rattle.std.specs.Prelude.{◌≡◌, List, ℕ, ◌+◌, length, take, drop}
 use Rattle.std.specs.Borrow.{Bor}
-use Rattle.columns.specs.Format.{fieldColumns}
-use Rattle.desk.specs.Answers.{Shown, labelFrom, standIn, nothing}
+use Rattle.columns.specs.Format.{field_columns}
+use Rattle.desk.specs.Answers.{Shown, label_from, stand_in, nothing}
 
 -- r is the n bytes of s from at on, where they stand
 pub record Part (s : Bor (List ℕ)) (at n : ℕ) (r : Bor (List ℕ)) : Type 0 where
@@ -11,6 +11,6 @@ pub record Part (s : Bor (List ℕ)) (at n : ℕ) (r : Bor (List ℕ)) : Type 0 
 
 -- r is what is shown: eight columns of the file, the whole stand-in, or the empty part at its start
 unfoldable pub Shows : Bor (List ℕ) → Bor (List ℕ) → Shown → Bor (List ℕ) → Type 0
-Shows file stand (labelFrom at) r = Part file at fieldColumns r
-Shows file stand standIn r = Part stand 0 (length stand.now) r
+Shows file stand (label_from at) r = Part file at field_columns r
+Shows file stand stand_in r = Part stand 0 (length stand.now) r
 Shows file stand nothing r = Part stand 0 0 r

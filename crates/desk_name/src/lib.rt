@@ -2,7 +2,7 @@
 ghost use Rattle.std.specs.Prelude.{◌≡◌, ◌<◌, length};
 ghost use Rattle.read_passes.specs.Ready.{Ready};
 ghost use Rattle.desk.specs.Answers.{shown};
-ghost use Rattle.desk_name.specs.Finding.{nameWith, foundOf, Inside};
+ghost use Rattle.desk_name.specs.Finding.{name_with, found_of, Inside};
 ghost use Rattle.desk_name.specs.Names.{Shows};
 
 use cards::Counts;
@@ -21,7 +21,7 @@ enum Found {
 // In a file with these counts: a directory number names an entry if it is odd and in the file.
 fn in_directory(file: &[u8], c: Counts, number: DirectoryNumber) -> Found
     requires { Ready file.now c }
-    ensures value { result ≡ foundOf (nameWith file.now number.0 c) }
+    ensures value { result ≡ found_of (name_with file.now number.0 c) }
     ensures inside { Inside (length file.now) result }
 {
     let n = wide(number.0);
@@ -42,7 +42,7 @@ fn in_directory(file: &[u8], c: Counts, number: DirectoryNumber) -> Found
 
 // Under a list: a file that reading refuses has no names.
 fn looked_up(list: u64, file: &[u8], number: DirectoryNumber) -> Found
-    ensures value { result ≡ foundOf (shown list file.now number.0) }
+    ensures value { result ≡ found_of (shown list file.now number.0) }
     ensures inside { Inside (length file.now) result }
 {
     let told = read_check::check(list, file);

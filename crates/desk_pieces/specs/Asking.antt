@@ -4,7 +4,7 @@ use Prim.Native.Nat.{ℕ, ◌+◌}
 use Rattle.columns.specs.declared.Fault.{Fault}
 use Rattle.columns.specs.Refusal.{number}
 use Rattle.cards.specs.declared.Counts.{Counts}
-use Rattle.cards.specs.Cards.{firstD, firstP, firstT}
+use Rattle.cards.specs.Cards.{first_d, first_p, first_t}
 use Rattle.pieces.specs.declared.PiecesAnswer.{PiecesAnswer}
 use Rattle.pieces_ahead.specs.Places.{Places, places_of}
 use Rattle.pieces_count.specs.declared.Counted.{Counted}
@@ -19,5 +19,5 @@ answering first (Good p v) = record { number = 0; place = 0; pieces = p; visits 
 answering first (Refused fault e) = refusing fault (first + e.0)
 
 -- what holds for a file with these counts and delimiters
-abbrev pub placesIn : List ℕ → Counts → ℕ → ℕ → Places
-placesIn f c p d = places_of f (firstD c) (firstP c) (firstT c) p d
+abbrev pub places_in : List ℕ → Counts → ℕ → ℕ → Places
+places_in f c p d = places_of f (first_d c) (first_p c) (first_t c) p d

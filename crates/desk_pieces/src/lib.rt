@@ -2,10 +2,10 @@
 ghost use mathlib.Core.Path.{◌≡◌};
 ghost use Prim.Native.Nat.{◌^◌, ◌<◌};
 ghost use Rattle.read_passes.specs.Ready.{Ready};
-ghost use Rattle.read_weights.specs.Checks.{checkOf};
-ghost use Rattle.pieces.specs.Subfigures.{knowsBoth};
-ghost use Rattle.pieces.specs.Pieces.{pieces_of, piecesAnswer};
-ghost use Rattle.desk_pieces.specs.Asking.{refusing, answering, placesIn};
+ghost use Rattle.read_weights.specs.Checks.{check_of};
+ghost use Rattle.pieces.specs.Subfigures.{knows_both};
+ghost use Rattle.pieces.specs.Pieces.{pieces_of, pieces_answer};
+ghost use Rattle.desk_pieces.specs.Asking.{refusing, answering, places_in};
 
 use cards::Counts;
 use columns::{DirectoryNumber, Fault, wide};
@@ -52,7 +52,7 @@ fn answer_of(first: usize, counted: Counted) -> PiecesAnswer
 
 // Whether a list knows instances and definitions; their form has no say.
 fn knows_both(list: u64) -> bool
-    ensures { result ≡ knowsBoth list }
+    ensures { result ≡ knows_both list }
 {
     if !known(list, INSTANCE, 0) {
         return false;
@@ -63,7 +63,7 @@ fn knows_both(list: u64) -> bool
 // What holds for a file with these counts and delimiters, in one row.
 fn places(file: &[u8], c: Counts, parameter: u8, closing: u8) -> [u32; PLACES]
     requires { Ready file.now c }
-    ensures { result ≡ placesIn file.now c parameter closing }
+    ensures { result ≡ places_in file.now c parameter closing }
 {
     let first = cards::entry_line(c, 0);
     let parameters = first + wide(c.d);
@@ -80,8 +80,8 @@ fn asked(
     closing: u8,
     number: DirectoryNumber,
 ) -> PiecesAnswer
-    requires { Checked.Good c parameter closing ≡ checkOf list file.now }
-    ensures { result ≡ piecesAnswer (pieces_of list file.now number.0) }
+    requires { Checked.Good c parameter closing ≡ check_of list file.now }
+    ensures { result ≡ pieces_answer (pieces_of list file.now number.0) }
 {
     if !knows_both(list) {
         return refusal(Fault::NoInstance, 0);
@@ -99,7 +99,7 @@ fn asked(
 
 // Under a list: how many pieces the instance with this directory number places, and how many visits that takes.
 pub fn pieces(list: u64, file: &[u8], number: DirectoryNumber) -> PiecesAnswer
-    ensures { result ≡ piecesAnswer (pieces_of list file.now number.0) }
+    ensures { result ≡ pieces_answer (pieces_of list file.now number.0) }
 {
     let told = read_check::check(list, file);
     match told {

@@ -2,8 +2,8 @@
 ghost use Rattle.std.specs.Prelude.{◌≡◌, [], ◌∷◌, ◌++◌, ◌+◌, ◌^◌, ◌≤◌, ◌<◌, length};
 ghost use Rattle.columns.specs.Decimal.{dec};
 ghost use Rattle.columns.specs.Laid.{Wrote};
-ghost use Rattle.desk.specs.Answers.{igsheet, mostOutput};
-ghost use Rattle.desk_show.specs.Refusal.{refusalLine};
+ghost use Rattle.desk.specs.Answers.{igsheet, most_output};
+ghost use Rattle.desk_show.specs.Refusal.{refusal_line};
 
 use columns::format::MOST_LIST;
 
@@ -22,7 +22,7 @@ fn put_number(out: &mut [u8], at: usize, n: u64, end: u8) -> usize
 
 // The line of a refusal, laid over out from its start.
 fn put_refusal(out: &mut [u8], number: u64, place: u64) -> usize
-    ensures wrote { Wrote out.old 0 (refusalLine number place) out.new result }
+    ensures wrote { Wrote out.old 0 (refusal_line number place) out.new result }
     ensures upper_bound { result ≤ 44 }
 {
     let a = columns_emit::put(out, 0, b'X');
@@ -34,9 +34,9 @@ fn put_refusal(out: &mut [u8], number: u64, place: u64) -> usize
 // Lays what igsheet prints of a file over out from its start, and returns how many bytes that is.
 // A refusal leaves out as it was lent, so its line is laid over the same bytes as a sheet would be.
 pub fn show(file: &[u8], out: &mut [u8]) -> usize
-    requires { length out.old ≡ mostOutput }
+    requires { length out.old ≡ most_output }
     ensures wrote { Wrote out.old 0 (igsheet file.now) out.new result }
-    ensures upper_bound { (result ≤ mostOutput) × (length out.new ≡ mostOutput) }
+    ensures upper_bound { (result ≤ most_output) × (length out.new ≡ most_output) }
 {
     if MOST_INPUT < file.len() {
         return put_refusal(out, 1, 0);

@@ -3,8 +3,8 @@
 mod slot;
 
 ghost use Rattle.std.specs.Prelude.{◌≡◌, length};
-ghost use Rattle.desk.specs.Answers.{answer_of, listedIn, slotsLeft};
-ghost use Rattle.desk_table.specs.Tables.{planWith, plan_of, recordIn, HasEntry};
+ghost use Rattle.desk.specs.Answers.{answer_of, listed_in, slots_left};
+ghost use Rattle.desk_table.specs.Tables.{plan_with, plan_of, record_in, HasEntry};
 
 use cards::Counts;
 use columns::wide;
@@ -21,7 +21,7 @@ struct Plan {
 
 // For a file with these counts: 16 and how many are needed, if the slots are too few.
 fn plan_with(c: Counts, room: usize) -> Plan
-    ensures { result ≡ planWith c room }
+    ensures { result ≡ plan_with c room }
 {
     let count = wide(c.d) / 2;
     let first = wide(c.s) + wide(c.g);
@@ -78,7 +78,7 @@ fn answer_of(plan: Plan) -> Answer
 // The record of entry i.
 fn record_of(list: u64, file: &[u8], plan: Plan, i: usize) -> Record
     requires { HasEntry file.now plan.first i }
-    ensures { result ≡ recordIn list file.now plan.first i }
+    ensures { result ≡ record_in list file.now plan.first i }
 {
     let number = cards::entry_number(i);
     slot::record_at(list, file, number, plan.first + 2 * i)
@@ -86,8 +86,8 @@ fn record_of(list: u64, file: &[u8], plan: Plan, i: usize) -> Record
 
 // The table of a file's directory under a list; slots past the entries stay, and a refusal changes none.
 pub fn directory(list: u64, file: &[u8], table: &mut [Record]) -> Answer
-    ensures { (result ≡ answer_of (length table.old) (listedIn list file.now))
-        × (table.new ≡ slotsLeft table.old (listedIn list file.now)) }
+    ensures { (result ≡ answer_of (length table.old) (listed_in list file.now))
+        × (table.new ≡ slots_left table.old (listed_in list file.now)) }
 {
     let told = plan_for(list, file, table.len());
     let n = count_of(told);

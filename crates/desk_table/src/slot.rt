@@ -1,8 +1,8 @@
 // The record of an entry, by value.
 ghost use Rattle.std.specs.Prelude.{◌≡◌, [], ◌+◌, ◌*◌, ◌≤◌, length, take, drop};
-ghost use Rattle.columns.specs.Format.{lineBytes, fieldColumns};
+ghost use Rattle.columns.specs.Format.{line_bytes, field_columns};
 ghost use Rattle.directory.specs.Fields.{fields_of};
-ghost use Rattle.desk_table.specs.Tables.{recordSpelt, recordAt};
+ghost use Rattle.desk_table.specs.Tables.{record_spelt, record_at};
 
 use columns::format::FIELD_COLUMNS;
 use columns::{DirectoryNumber, ParameterLine, Signed};
@@ -11,8 +11,8 @@ use directory::{EntryRead, Fields};
 
 // The eight bytes from a place on.
 fn eight(file: &[u8], at: usize) -> [u8; FIELD_COLUMNS]
-    requires { at + fieldColumns ≤ length file.now }
-    ensures { result ≡ take fieldColumns (drop at file.now) }
+    requires { at + field_columns ≤ length file.now }
+    ensures { result ≡ take field_columns (drop at file.now) }
 {
     [
         file[at],
@@ -59,7 +59,7 @@ fn record_with(
     pointer: ParameterLine,
     lines: u32,
 ) -> Record
-    ensures { result ≡ recordSpelt list number.0 fields label pointer lines }
+    ensures { result ≡ record_spelt list number.0 fields label pointer lines }
 {
     let entity = fields.entity;
     let form = fields.form;
@@ -77,8 +77,8 @@ fn record_with(
 
 // Of the entry with this directory number whose first D line is line k.
 pub fn record_at(list: u64, file: &[u8], number: DirectoryNumber, k: usize) -> Record
-    requires { lineBytes * k + 2 * lineBytes ≤ length file.now }
-    ensures { result ≡ recordAt list file.now number.0 k }
+    requires { line_bytes * k + 2 * line_bytes ≤ length file.now }
+    ensures { result ≡ record_at list file.now number.0 k }
 {
     let at = directory_read::label_at(k);
     let label = eight(file, at);

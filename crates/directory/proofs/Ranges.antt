@@ -12,38 +12,38 @@ use lib.Dec.{leb, ltb, eqb}
 use borrow.Author.Tests.{le-leb, lt-leb, lt-ltb, le-ltb, ne_eqb, not-true, not-false}
 use Rattle.columns.specs.declared.Fault.TheVariants.{Directory, Macro}
 use Rattle.columns.specs.declared.Signed.{Signed}
-use Rattle.columns.specs.Decimal.{dec, minus, signedDec}
+use Rattle.columns.specs.Decimal.{dec, minus, signed_dec}
 use Rattle.columns.specs.Refusal.{◌then◌, demand}
-use Rattle.columns.proofs.Decimals.{dec-below, length-dec-below, length-signed}
+use Rattle.columns.proofs.Decimals.{dec-below, length_dec_below, length-signed}
 use Rattle.directory.specs.declared.Fields.{Fields}
 use Rattle.directory.specs.declared.Rule.TheVariants.{Good, Refused}
-use Rattle.directory.specs.Fields.{nought, inOrder}
-use Rattle.directory.specs.Rules.{narrow, rangesOk, entryRules}
-use Rattle.directory.specs.Asking.{outcomeOf, ruleOf}
+use Rattle.directory.specs.Fields.{nought, in_order}
+use Rattle.directory.specs.Rules.{narrow, ranges_ok, entry_rules}
+use Rattle.directory.specs.Asking.{outcome_of, rule_of}
 
 -- ---- one number
 
 -- so many columns are left for the digits of x, its sign in one of the eight
-width : (x : Signed) (k : ℕ) → 1 ≤ k → length (signedDec x) + k ≡ length (dec x.size) + 8 → ltb x.size (10 ^ k) ≡ leb (length (signedDec x)) 8
+width : (x : Signed) (k : ℕ) → 1 ≤ k → length (signed_dec x) + k ≡ length (dec x.size) + 8 → ltb x.size (10 ^ k) ≡ leb (length (signed_dec x)) 8
 width x k h e = elim (dec_lt x.size (10 ^ k)) [
-  | yes l ↦ lt-ltb _ _ l ∙ sym (le-leb (length (signedDec x)) 8 (omega (arith, length-dec-below k x.size h l)))
-  | no l ↦ le-ltb x.size (10 ^ k) (omega arith) ∙ sym (lt-leb (length (signedDec x)) 8 (wide l))
+  | yes l ↦ lt-ltb _ _ l ∙ sym (le-leb (length (signed_dec x)) 8 (omega (arith, length_dec_below k x.size h l)))
+  | no l ↦ le-ltb x.size (10 ^ k) (omega arith) ∙ sym (lt-leb (length (signed_dec x)) 8 (wide l))
 ]
   where
-    wide : (x.size < 10 ^ k → ⊥) → 8 < length (signedDec x)
-    wide l = elim (dec_lt 8 (length (signedDec x))) [ yes q ↦ q | no q ↦ absurd (l (dec-below k x.size (omega arith))) ]
+    wide : (x.size < 10 ^ k → ⊥) → 8 < length (signed_dec x)
+    wide l = elim (dec_lt 8 (length (signed_dec x))) [ yes q ↦ q | no q ↦ absurd (l (dec-below k x.size (omega arith))) ]
 
-signed-length : (x : Signed) (b : Bool) → x.neg ≡ b → length (signedDec x) ≡ length (minus b) + length (dec x.size)
+signed-length : (x : Signed) (b : Bool) → x.neg ≡ b → length (signed_dec x) ≡ length (minus b) + length (dec x.size)
 signed-length x b h = length-signed x ∙ ap (λ (s : Bool). length (minus s) + length (dec x.size)) h
 
-pub narrow-minus : (x : Signed) → x.neg ≡ true → ltb x.size 10000000 ≡ leb (length (signedDec x)) 8
+pub narrow-minus : (x : Signed) → x.neg ≡ true → ltb x.size 10000000 ≡ leb (length (signed_dec x)) 8
 narrow-minus x h =
-    let e : length (signedDec x) ≡ 1 + length (dec x.size) = signed-length x true h in
+    let e : length (signed_dec x) ≡ 1 + length (dec x.size) = signed-length x true h in
     width x 7 (omega arith) (omega arith)
 
-pub narrow-plain : (x : Signed) → x.neg ≡ false → ltb x.size 100000000 ≡ leb (length (signedDec x)) 8
+pub narrow-plain : (x : Signed) → x.neg ≡ false → ltb x.size 100000000 ≡ leb (length (signed_dec x)) 8
 narrow-plain x h =
-    let e : length (signedDec x) ≡ 0 + length (dec x.size) = signed-length x false h in
+    let e : length (signed_dec x) ≡ 0 + length (dec x.size) = signed-length x false h in
     width x 8 (omega arith) (omega arith)
 
 pub ruleset numbered = (narrow-minus, narrow-plain)
@@ -51,12 +51,12 @@ pub ruleset numbered = (narrow-minus, narrow-plain)
 -- ---- all of them, one by one
 
 module _ (f : Bool) (xs : List Signed) (n : ℕ) (inv : narrow (drop n xs) ≡ f) where
-  module _ (h : n < length xs) (x : Bool) (e : x ≡ leb (length (signedDec (get_or xs n nought))) 8) where
-    next : leb (length (signedDec (get_or xs n nought))) 8 && narrow (drop (suc n) xs) ≡ f
+  module _ (h : n < length xs) (x : Bool) (e : x ≡ leb (length (signed_dec (get_or xs n nought))) 8) where
+    next : leb (length (signed_dec (get_or xs n nought))) 8 && narrow (drop (suc n) xs) ≡ f
     next = rw (drop-cons xs n nought h) at inv
 
-    pub narrow-no : x ≡ false → false ≡ f
-    narrow-no t = rw (← e, t) at next
+    pub narrow_no : x ≡ false → false ≡ f
+    narrow_no t = rw (← e, t) at next
 
     pub narrow-on : x ≡ true → narrow (drop (n + 1) xs) ≡ f
     narrow-on t = rw add-one (rw (← e, t) at next)
@@ -65,7 +65,7 @@ module _ (f : Bool) (xs : List Signed) (n : ℕ) (inv : narrow (drop n xs) ≡ f
 pub narrow-end : (xs : List Signed) (n : ℕ) → narrow (drop n xs) ≡ narrow xs → length xs ≡ 12 → 12 ≤ n → true ≡ narrow xs
 narrow-end xs n inv l h = ap narrow (sym (drop_of_length-le xs {i = n} (omega arith))) ∙ inv
 
-pub ruleset narrowing = (not-true, not-false, narrow-no, narrow-on, narrow-end)
+pub ruleset narrowing = (not-true, not-false, narrow_no, narrow-on, narrow-end)
 
 -- ---- the whole
 
@@ -80,34 +80,34 @@ and_yes s p q r e h f = rw (← e, h) f
 pub or_no : (p q : Bool) → p ≡ false → q ≡ (p || q)
 or_no p q h = rw h
 
-pub narrow-all : (x : Fields) (xs : List Signed) (r : Bool) → xs ≡ inOrder x → r ≡ narrow xs → r ≡ narrow (inOrder x)
-narrow-all x xs r e h = h ∙ ap narrow e
+pub narrow_all : (x : Fields) (xs : List Signed) (r : Bool) → xs ≡ in_order x → r ≡ narrow xs → r ≡ narrow (in_order x)
+narrow_all x xs r e h = h ∙ ap narrow e
 
 module _ (x : Fields) where
   -- ---- 9, then 13
 
-  pub rule-9 : (s : Bool) → s ≡ rangesOk x → s ≡ false → Refused Directory ≡ ruleOf x
-  unfolding ruleOf
-  rule-9 s e h = rw (← e, h)
+  pub rule_9 : (s : Bool) → s ≡ ranges_ok x → s ≡ false → Refused Directory ≡ rule_of x
+  unfolding rule_of
+  rule_9 s e h = rw (← e, h)
 
-  pub rule-13 : (s : Bool) → s ≡ rangesOk x → s ≡ true → x.entity.size ≡ 306 → Refused Macro ≡ ruleOf x
-  unfolding ruleOf
-  rule-13 s e h k = rw (← e, h, k)
+  pub rule_13 : (s : Bool) → s ≡ ranges_ok x → s ≡ true → x.entity.size ≡ 306 → Refused Macro ≡ rule_of x
+  unfolding rule_of
+  rule_13 s e h k = rw (← e, h, k)
 
-  pub rule-good : (s : Bool) → s ≡ rangesOk x → s ≡ true → (x.entity.size ≡ 306 → ⊥) → Good ≡ ruleOf x
-  unfolding ruleOf
-  rule-good s e h k = rw (← e, h, ne_eqb _ _ k)
+  pub rule_good : (s : Bool) → s ≡ ranges_ok x → s ≡ true → (x.entity.size ≡ 306 → ⊥) → Good ≡ rule_of x
+  unfolding rule_of
+  rule_good s e h k = rw (← e, h, ne_eqb _ _ k)
 
   -- what the code answers is the rule's outcome
-  pub rule-outcome : (place : ℕ) → outcomeOf (ruleOf x) place ≡ entryRules x place
-  unfolding ruleOf entryRules
-  rule-outcome place = pick (rangesOk x) (eqb x.entity.size 306)
+  pub rule_outcome : (place : ℕ) → outcome_of (rule_of x) place ≡ entry_rules x place
+  unfolding rule_of entry_rules
+  rule_outcome place = pick (ranges_ok x) (eqb x.entity.size 306)
     where
-      pick : (a b : Bool) → outcomeOf (cond a (cond b (Refused Macro) Good) (Refused Directory)) place ≡ demand a Directory place then λ _. demand (not b) Macro place
+      pick : (a b : Bool) → outcome_of (cond a (cond b (Refused Macro) Good) (Refused Directory)) place ≡ demand a Directory place then λ _. demand (not b) Macro place
       pick true true = refl
       pick true false = refl
       pick false b = refl
 
-pub ruleset ranging = (and_no, and_yes, or_no, narrow-all)
+pub ruleset ranging = (and_no, and_yes, or_no, narrow_all)
 
-pub ruleset ruling = (not-true, not-false, rule-9, rule-13, rule-good)
+pub ruleset ruling = (not-true, not-false, rule_9, rule_13, rule_good)

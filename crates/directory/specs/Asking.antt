@@ -12,18 +12,18 @@ use Rattle.directory.specs.declared.Rule.{Rule}
 use Rattle.directory.specs.declared.Rule.TheVariants.{Good, Refused}
 use Rattle.directory.specs.declared.Wanted.{Wanted}
 use Rattle.directory.specs.Fields.{named}
-use Rattle.directory.specs.Rules.{rangesOk}
+use Rattle.directory.specs.Rules.{ranges_ok}
 
 -- ---- 9 and 13
 
 -- the outcome at a place
-abbrev pub outcomeOf : Rule → ℕ → Outcome (Unit {0})
-outcomeOf Good place = accepted tt
-outcomeOf (Refused fault) place = refused fault place
+abbrev pub outcome_of : Rule → ℕ → Outcome (Unit {0})
+outcome_of Good place = accepted tt
+outcome_of (Refused fault) place = refused fault place
 
 -- 9, then 13
-unfoldable pub ruleOf : Fields → Rule
-ruleOf x = cond (rangesOk x) (cond (eqb x.entity.size 306) (Refused Macro) Good) (Refused Directory)
+unfoldable pub rule_of : Fields → Rule
+rule_of x = cond (ranges_ok x) (cond (eqb x.entity.size 306) (Refused Macro) Good) (Refused Directory)
 
 -- ---- 10: each of the references, asked or not
 
@@ -32,37 +32,37 @@ abbrev pub asking : Bool → DirectoryNumber → ℕ → Wanted
 asking asked number want = record { asked = asked; number = number; want = want }
 
 -- a reference of 0 asks nothing
-abbrev pub ofNumber : DirectoryNumber → ℕ → Wanted
-ofNumber d want = asking (not (eqb d.0 0)) d want
+abbrev pub of_number : DirectoryNumber → ℕ → Wanted
+of_number d want = asking (not (eqb d.0 0)) d want
 
 -- a number asks nothing
-abbrev pub ofAttribute : Attribute → ℕ → Wanted
-ofAttribute (Number n) want = asking false (named 0) want
-ofAttribute (Reference d) want = asking true d want
+abbrev pub of_attribute : Attribute → ℕ → Wanted
+of_attribute (Number n) want = asking false (named 0) want
+of_attribute (Reference d) want = asking true d want
 
 -- how many an entry may have
-abbrev pub referenceCount : ℕ
-referenceCount = 7
+abbrev pub reference_count : ℕ
+reference_count = 7
 
 -- the seven, in the order of references
 abbrev pub wants : Entry → List Wanted
 wants e =
-    ofNumber e.structure any ∷ ofAttribute e.font any ∷ ofAttribute e.level any ∷ ofNumber e.view any
-    ∷ ofNumber e.matrix entry124 ∷ ofNumber e.display any ∷ ofAttribute e.colour entry314 ∷ []
+    of_number e.structure any ∷ of_attribute e.font any ∷ of_attribute e.level any ∷ of_number e.view any
+    ∷ of_number e.matrix entry124 ∷ of_number e.display any ∷ of_attribute e.colour entry314 ∷ []
 
 -- one of them
-unfoldable pub wantedOf : Entry → ℕ → Wanted
-wantedOf e j = get_or (wants e) j (asking false (named 0) any)
+unfoldable pub wanted_of : Entry → ℕ → Wanted
+wanted_of e j = get_or (wants e) j (asking false (named 0) any)
 
 -- it asks nothing, or what it names is there and of the class wanted
-abbrev pub asksOk : List ℕ → Wanted → Bool
-asksOk types w = cond w.asked (fits w.want (class_at types w.number.0)) true
+abbrev pub asks_ok : List ℕ → Wanted → Bool
+asks_ok types w = cond w.asked (fits w.want (class_at types w.number.0)) true
 
 -- all of them
-abbrev pub allAskOk : List ℕ → List Wanted → Bool
-allAskOk types [] = true
-allAskOk types (w ∷ ws) = asksOk types w && allAskOk types ws
+abbrev pub all_ask_ok : List ℕ → List Wanted → Bool
+all_ask_ok types [] = true
+all_ask_ok types (w ∷ ws) = asks_ok types w && all_ask_ok types ws
 
 -- from reference j on
-unfoldable pub restFit : List ℕ → Entry → ℕ → Bool
-restFit types e j = allAskOk types (drop j (wants e))
+unfoldable pub rest_fit : List ℕ → Entry → ℕ → Bool
+rest_fit types e j = all_ask_ok types (drop j (wants e))

@@ -6,14 +6,14 @@ use Rattle.columns.specs.declared.SignedField.TheVariants.{Number, Bad}
 use Rattle.columns.specs.declared.ParameterLine.{ParameterLine}
 use Rattle.columns.specs.Columns.{columns, line_at, joined}
 use Rattle.columns.specs.Fixed.{field_of, signed_of, with_sign}
-use Rattle.columns.specs.Decimal.{dec, signedDec, padded, zeroFilled}
-use Rattle.columns.specs.Format.{fieldColumns}
+use Rattle.columns.specs.Decimal.{dec, signed_dec, padded, zero_filled}
+use Rattle.columns.specs.Format.{field_columns}
 use Rattle.columns.specs.Letters.{space}
 use Rattle.directory.specs.declared.Fields.{Fields}
 use Rattle.directory.specs.declared.EntryRead.{EntryRead}
 use Rattle.directory.specs.declared.EntryRead.TheVariants.{Spelt, Wrong}
-use Rattle.directory.specs.Fields.{type_at, formAt, structureAt, fontAt, levelAt, viewAt, matrixAt, displayAt}
-use Rattle.directory.specs.Fields.{statusAt, weightAt, colourAt, subscriptAt, fieldCount, nought, inOrder, fields_of}
+use Rattle.directory.specs.Fields.{type_at, form_at, structure_at, font_at, level_at, view_at, matrix_at, display_at}
+use Rattle.directory.specs.Fields.{status_at, weight_at, colour_at, subscript_at, field_count, nought, in_order, fields_of}
 
 -- ---- the fields of the two lines, said once for reading and writing
 
@@ -30,55 +30,55 @@ pub data Slot : Type 0 where
 -- second: type again, weight, colour, parameter line count, form, two reserved fields, label, subscript
 unfoldable pub slots : List Slot
 slots =
-    number type_at ∷ pointer ∷ number structureAt ∷ number fontAt ∷ number levelAt
-    ∷ number viewAt ∷ number matrixAt ∷ number displayAt ∷ number statusAt
-    ∷ again ∷ number weightAt ∷ number colourAt ∷ lines ∷ number formAt
-    ∷ reserved ∷ reserved ∷ label ∷ number subscriptAt ∷ []
+    number type_at ∷ pointer ∷ number structure_at ∷ number font_at ∷ number level_at
+    ∷ number view_at ∷ number matrix_at ∷ number display_at ∷ number status_at
+    ∷ again ∷ number weight_at ∷ number colour_at ∷ lines ∷ number form_at
+    ∷ reserved ∷ reserved ∷ label ∷ number subscript_at ∷ []
 
 -- nine fields fill the columns 1-72 of a line
-abbrev pub slotsALine : ℕ
-slotsALine = 9
+abbrev pub slots_aLine : ℕ
+slots_aLine = 9
 
 -- the same slot
-abbrev pub isSlot : Slot → Slot → Bool
-isSlot (number j) (number k) = eqb j k
-isSlot (number j) again = false
-isSlot (number j) pointer = false
-isSlot (number j) lines = false
-isSlot (number j) reserved = false
-isSlot (number j) label = false
-isSlot again x =
+abbrev pub is_slot : Slot → Slot → Bool
+is_slot (number j) (number k) = eqb j k
+is_slot (number j) again = false
+is_slot (number j) pointer = false
+is_slot (number j) lines = false
+is_slot (number j) reserved = false
+is_slot (number j) label = false
+is_slot again x =
     elim x [ number k ↦ false | again ↦ true | pointer ↦ false | lines ↦ false | reserved ↦ false | label ↦ false ]
-isSlot pointer x =
+is_slot pointer x =
     elim x [ number k ↦ false | again ↦ false | pointer ↦ true | lines ↦ false | reserved ↦ false | label ↦ false ]
-isSlot lines x =
+is_slot lines x =
     elim x [ number k ↦ false | again ↦ false | pointer ↦ false | lines ↦ true | reserved ↦ false | label ↦ false ]
-isSlot reserved x =
+is_slot reserved x =
     elim x [ number k ↦ false | again ↦ false | pointer ↦ false | lines ↦ false | reserved ↦ true | label ↦ false ]
-isSlot label x =
+is_slot label x =
     elim x [ number k ↦ false | again ↦ false | pointer ↦ false | lines ↦ false | reserved ↦ false | label ↦ true ]
 
 -- which of them it is, from 0
 abbrev pub seek : Slot → List Slot → ℕ
 seek x [] = 0
-seek x (y ∷ ys) = cond (isSlot x y) 0 (suc (seek x ys))
+seek x (y ∷ ys) = cond (is_slot x y) 0 (suc (seek x ys))
 
 -- the columns of a slot: the entry's first D line is line k of the file
-unfoldable pub slotIn : List ℕ → ℕ → Slot → List ℕ
-slotIn f k x =
+unfoldable pub slot_in : List ℕ → ℕ → Slot → List ℕ
+slot_in f k x =
     let j = seek x slots in
-    let at = fieldColumns * (j % slotsALine) in
-    columns (line_at f (k + j / slotsALine)) at (at + fieldColumns)
+    let at = field_columns * (j % slots_aLine) in
+    columns (line_at f (k + j / slots_aLine)) at (at + field_columns)
 
 -- ---- reading
 
 -- status and subscript have no sign
 abbrev pub unsigned : ℕ → Bool
-unsigned n = eqb n statusAt || eqb n subscriptAt
+unsigned n = eqb n status_at || eqb n subscript_at
 
 -- number n of the entry
 unfoldable pub number_in : List ℕ → ℕ → ℕ → SignedField
-number_in f k n = cond (unsigned n) (with_sign false (field_of (slotIn f k (number n)))) (signed_of (slotIn f k (number n)))
+number_in f k n = cond (unsigned n) (with_sign false (field_of (slot_in f k (number n)))) (signed_of (slot_in f k (number n)))
 
 -- all of them are numbers, or one is misspelt
 pub data Numbers : Type 0 where
@@ -92,9 +92,9 @@ with (Number n) misspelt = misspelt
 with Bad ns = misspelt
 
 -- so many numbers, from number n on
-unfoldable pub numbersFrom : List ℕ → ℕ → ℕ → ℕ → Numbers
-numbersFrom f k n zero = numbers []
-numbersFrom f k n (suc more) = with (number_in f k n) (numbersFrom f k (n + 1) more)
+unfoldable pub numbers_from : List ℕ → ℕ → ℕ → ℕ → Numbers
+numbers_from f k n zero = numbers []
+numbers_from f k n (suc more) = with (number_in f k n) (numbers_from f k (n + 1) more)
 
 -- a field that is at least 1
 abbrev pub positive : SignedField → Bool
@@ -107,51 +107,51 @@ size_of (Number n) = n.size
 size_of Bad = 0
 
 -- the type again is equal, as a number
-abbrev pub isSame : Signed → SignedField → Bool
-isSame x (Number n) = eqb x.size n.size && cond x.neg n.neg (not n.neg)
-isSame x Bad = false
+abbrev pub is_same : Signed → SignedField → Bool
+is_same x (Number n) = eqb x.size n.size && cond x.neg n.neg (not n.neg)
+is_same x Bad = false
 
 -- as the code has it
-abbrev pub parameterLine : ℕ → ParameterLine
-parameterLine n = record { 0 = n }
+abbrev pub parameter_line : ℕ → ParameterLine
+parameter_line n = record { 0 = n }
 
 -- parameter pointer and line count are at least 1; the type again is equal
-abbrev pub speltAs : Fields → SignedField → SignedField → SignedField → EntryRead
-speltAs x type² from count =
-    cond (isSame x.entity type² && (positive from && positive count)) (Spelt x (parameterLine (size_of from)) (size_of count)) Wrong
+abbrev pub spelt_as : Fields → SignedField → SignedField → SignedField → EntryRead
+spelt_as x type² from count =
+    cond (is_same x.entity type² && (positive from && positive count)) (Spelt x (parameter_line (size_of from)) (size_of count)) Wrong
 
 -- all of it, or a wrong field
 abbrev pub spelt : Numbers → SignedField → SignedField → SignedField → EntryRead
 spelt misspelt type² from count = Wrong
-spelt (numbers ns) type² from count = speltAs (fields_of ns) type² from count
+spelt (numbers ns) type² from count = spelt_as (fields_of ns) type² from count
 
 -- the entry whose first D line is line k of the file
 unfoldable pub entry_at : List ℕ → ℕ → EntryRead
 entry_at f k =
-    spelt (numbersFrom f k 0 fieldCount) (signed_of (slotIn f k again)) (signed_of (slotIn f k pointer)) (signed_of (slotIn f k lines))
+    spelt (numbers_from f k 0 field_count) (signed_of (slot_in f k again)) (signed_of (slot_in f k pointer)) (signed_of (slot_in f k lines))
 
 -- the label, eight columns as they stand
 unfoldable pub label_at : List ℕ → ℕ → List ℕ
-label_at f k = slotIn f k label
+label_at f k = slot_in f k label
 
 -- ---- writing: numbers right-justified with blanks, status 8 digits, reserved columns blank
 
 -- number n of the entry
 abbrev pub written : ℕ → Signed → List ℕ
-written n x = cond (eqb n statusAt) (zeroFilled fieldColumns x.size) (padded fieldColumns (signedDec x))
+written n x = cond (eqb n status_at) (zero_filled field_columns x.size) (padded field_columns (signed_dec x))
 
 -- what stands in a field
 abbrev pub slot_of : Fields → ℕ → ℕ → List ℕ → Slot → List ℕ
-slot_of x from count name (number n) = written n (get_or (inOrder x) n nought)
+slot_of x from count name (number n) = written n (get_or (in_order x) n nought)
 slot_of x from count name again = written type_at x.entity
-slot_of x from count name pointer = padded fieldColumns (dec from)
-slot_of x from count name lines = padded fieldColumns (dec count)
-slot_of x from count name reserved = replicate fieldColumns space
+slot_of x from count name pointer = padded field_columns (dec from)
+slot_of x from count name lines = padded field_columns (dec count)
+slot_of x from count name reserved = replicate field_columns space
 slot_of x from count name label = name
 
 -- the columns 1-72 of an entry's two D lines: its numbers, the pointer and line count of its parameters, its label
-unfoldable pub entryLines : Fields → ℕ → ℕ → List ℕ → List (List ℕ)
-entryLines x from count name =
-    joined (map (slot_of x from count name) (take slotsALine slots))
-    ∷ joined (map (slot_of x from count name) (drop slotsALine slots))
+unfoldable pub entry_lines : Fields → ℕ → ℕ → List ℕ → List (List ℕ)
+entry_lines x from count name =
+    joined (map (slot_of x from count name) (take slots_aLine slots))
+    ∷ joined (map (slot_of x from count name) (drop slots_aLine slots))
     ∷ []

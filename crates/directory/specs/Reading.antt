@@ -5,44 +5,44 @@ use Rattle.columns.specs.declared.Signed.{Signed}
 use Rattle.columns.specs.declared.ParameterLine.{ParameterLine}
 use Rattle.columns.specs.Columns.{columns, line_at, joined}
 use Rattle.columns.specs.Fixed.{NormalSign}
-use Rattle.columns.specs.Decimal.{signedDec, padded}
-use Rattle.columns.specs.Format.{lineBytes, fieldColumns}
+use Rattle.columns.specs.Decimal.{signed_dec, padded}
+use Rattle.columns.specs.Format.{line_bytes, field_columns}
 use Rattle.directory.specs.declared.Fields.{Fields}
 use Rattle.directory.specs.declared.EntryRead.{EntryRead}
 use Rattle.directory.specs.declared.EntryRead.TheVariants.{Spelt, Wrong}
-use Rattle.directory.specs.Fields.{inOrder}
-use Rattle.directory.specs.Rules.{rangesOk}
-use Rattle.directory.specs.Lines.{label, slots, slotsALine, slot_of}
+use Rattle.directory.specs.Fields.{in_order}
+use Rattle.directory.specs.Rules.{ranges_ok}
+use Rattle.directory.specs.Lines.{label, slots, slots_aLine, slot_of}
 
 -- ---- where a slot stands
 
 -- the columns of slot j of the entry whose first D line is line k
 unfoldable pub slot_at : List ℕ → ℕ → ℕ → List ℕ
-slot_at f k j = columns (line_at f (k + j / slotsALine)) (fieldColumns * (j % slotsALine)) (fieldColumns * (j % slotsALine) + fieldColumns)
+slot_at f k j = columns (line_at f (k + j / slots_aLine)) (field_columns * (j % slots_aLine)) (field_columns * (j % slots_aLine) + field_columns)
 
 -- its first byte in the file
 abbrev pub start_of : ℕ → ℕ → ℕ
-start_of k j = lineBytes * (k + j / slotsALine) + fieldColumns * (j % slotsALine)
+start_of k j = line_bytes * (k + j / slots_aLine) + field_columns * (j % slots_aLine)
 
 -- ---- the lines as they are written
 
 -- three numbers side by side
 unfoldable pub three : Signed → Signed → Signed → List ℕ
-three x y z = padded fieldColumns (signedDec x) ++ (padded fieldColumns (signedDec y) ++ padded fieldColumns (signedDec z))
+three x y z = padded field_columns (signed_dec x) ++ (padded field_columns (signed_dec y) ++ padded field_columns (signed_dec z))
 
--- the two elements of entryLines: neither line has what stands on the other
-unfoldable pub firstLine : Fields → ℕ → List ℕ
-firstLine x from = joined (map (slot_of x from 0 []) (take slotsALine slots))
+-- the two elements of entry_lines: neither line has what stands on the other
+unfoldable pub first_line : Fields → ℕ → List ℕ
+first_line x from = joined (map (slot_of x from 0 []) (take slots_aLine slots))
 
 -- the columns of the second line
-unfoldable pub secondLine : Fields → ℕ → List ℕ → List ℕ
-secondLine x count name = joined (map (slot_of x 0 count name) (drop slotsALine slots))
+unfoldable pub second_line : Fields → ℕ → List ℕ → List ℕ
+second_line x count name = joined (map (slot_of x 0 count name) (drop slots_aLine slots))
 
 -- ---- how large
 
 -- a number that was read from eight columns: it fits them, so it is below ten to the eighth, and nought has no sign
 pub record Eight (x : Signed) : Type 0 where
-  pub fits : length (signedDec x) ≤ fieldColumns
+  pub fits : length (signed_dec x) ≤ field_columns
   pub below : x.size < 100000000
   pub normal : NormalSign x
 
@@ -60,12 +60,12 @@ pub record Within (x : Fields) (from : ParameterLine) (count : ℕ) : Type 0 whe
   pub weight : Eight x.weight
   pub colour : Eight x.colour
   pub subscript : Eight x.subscript
-  pub statusPlain : x.status.neg ≡ false
-  pub subscriptPlain : x.subscript.neg ≡ false
-  pub fromLow : 1 ≤ from.0
-  pub fromHigh : from.0 ≤ 99999999
-  pub countLow : 1 ≤ count
-  pub countHigh : count ≤ 99999999
+  pub status_plain : x.status.neg ≡ false
+  pub subscript_plain : x.subscript.neg ≡ false
+  pub from_low : 1 ≤ from.0
+  pub from_high : from.0 ≤ 99999999
+  pub count_low : 1 ≤ count
+  pub count_high : count ≤ 99999999
 
 -- the same of an entry, if it was read
 abbrev pub Small : EntryRead → Type 0
@@ -79,11 +79,11 @@ Normals (x ∷ xs) = NormalSign x × Normals xs
 
 -- what can be written and read back: numbers in their ranges, a pointer, a line count and a label that fit their columns
 pub record Writable (x : Fields) (from count : ℕ) (name : List ℕ) : Type 0 where
-  pub ranges : rangesOk x ≡ true
-  pub normal : Normals (inOrder x)
-  pub statusPlain : x.status.neg ≡ false
-  pub fromLow : 1 ≤ from
-  pub fromHigh : from ≤ 99999999
-  pub countLow : 1 ≤ count
-  pub countHigh : count ≤ 99999999
-  pub label : length name ≡ fieldColumns
+  pub ranges : ranges_ok x ≡ true
+  pub normal : Normals (in_order x)
+  pub status_plain : x.status.neg ≡ false
+  pub from_low : 1 ≤ from
+  pub from_high : from ≤ 99999999
+  pub count_low : 1 ≤ count
+  pub count_high : count ≤ 99999999
+  pub label : length name ≡ field_columns

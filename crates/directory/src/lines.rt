@@ -1,7 +1,7 @@
 // The eighteen slots of an entry's two D lines, from 0, nine to a line: said once, for its numbers and for its parameter pointer and
 // line count.
 ghost use Rattle.std.specs.Prelude.{◌≡◌, ◌+◌, ◌*◌, ◌^◌, ◌<◌};
-ghost use Rattle.columns.specs.Format.{lineBytes};
+ghost use Rattle.columns.specs.Format.{line_bytes};
 ghost use Rattle.directory.specs.Lines.{Slot, slots, seek};
 ghost use Rattle.directory.specs.Reading.{start_of};
 
@@ -58,7 +58,7 @@ pub fn place_of(n: usize) -> usize
 
 // The byte where slot j starts, of the entry whose first D line is line k of the file, from 0.
 pub fn start_of(k: usize, j: usize) -> usize
-    requires line_bytes_bound { lineBytes * k + 2 * lineBytes < 2 ^ 64 }
+    requires line_bytes_bound { line_bytes * k + 2 * line_bytes < 2 ^ 64 }
     requires j_bound { j < 18 }
     ensures { result ≡ start_of k j }
 {

@@ -1,6 +1,6 @@
 // The numbers of an entry in their order, that of the sheet's entry line: said once, for files and for sheets.
 ghost use Rattle.std.specs.Prelude.{◌≡◌};
-ghost use Rattle.directory.specs.Fields.{inOrder, fields_of};
+ghost use Rattle.directory.specs.Fields.{in_order, fields_of};
 
 use crate::Fields;
 use columns::Signed;
@@ -34,7 +34,7 @@ pub const NUMBERS: usize = 12;
 
 // The numbers in their order.
 pub fn in_order(x: Fields) -> [Signed; NUMBERS]
-    ensures { result ≡ inOrder x }
+    ensures { result ≡ in_order x }
 {
     let entity = x.entity;
     let form = x.form;

@@ -1,9 +1,9 @@
 // The two D lines of an entry, laid over a lent buffer: columns 1 to 72 of each.
 ghost use Rattle.std.specs.Prelude.{◌+◌, ◌^◌, ◌≤◌, ◌<◌, length};
-ghost use Rattle.columns.specs.Decimal.{signedDec, padded};
+ghost use Rattle.columns.specs.Decimal.{signed_dec, padded};
 ghost use Rattle.columns.specs.Laid.{Wrote};
-ghost use Rattle.columns.specs.Format.{fieldColumns};
-ghost use Rattle.directory.specs.Reading.{three, firstLine, secondLine};
+ghost use Rattle.columns.specs.Format.{field_columns};
+ghost use Rattle.directory.specs.Reading.{three, first_line, second_line};
 
 use columns::format::{FIELD_COLUMNS, RESERVED_COLUMNS};
 use columns::{ParameterLine, Signed};
@@ -12,7 +12,7 @@ use directory::Fields;
 // Writes a number.
 fn put_number(out: &mut [u8], at: usize, x: Signed) -> usize
     requires { at < 2 ^ 60 }
-    ensures wrote { Wrote out.old at (padded fieldColumns (signedDec x)) out.new result }
+    ensures wrote { Wrote out.old at (padded field_columns (signed_dec x)) out.new result }
     ensures upper_bound { result ≤ at + 19 }
 {
     columns_decimals::put_signed_right(out, at, FIELD_COLUMNS, x)
@@ -32,7 +32,7 @@ fn put_three(out: &mut [u8], at: usize, x: Signed, y: Signed, z: Signed) -> usiz
 // Writes the first D line of an entry; `from` is its parameter pointer. The status has eight digits.
 pub fn put_first(out: &mut [u8], at: usize, x: Fields, from: ParameterLine) -> usize
     requires { at < 2 ^ 59 }
-    ensures wrote { Wrote out.old at (firstLine x from.0) out.new result }
+    ensures wrote { Wrote out.old at (first_line x from.0) out.new result }
     ensures upper_bound { result ≤ at + 252 }
 {
     let status = x.status;
@@ -46,8 +46,8 @@ pub fn put_first(out: &mut [u8], at: usize, x: Fields, from: ParameterLine) -> u
 // Writes its second D line; `count` is its parameter line count.
 pub fn put_second(out: &mut [u8], at: usize, x: Fields, count: u32, label: &[u8]) -> usize
     requires at_bound { at < 2 ^ 59 }
-    requires label_len_bound { length label.now ≤ fieldColumns }
-    ensures wrote { Wrote out.old at (secondLine x count label.now) out.new result }
+    requires label_len_bound { length label.now ≤ field_columns }
+    ensures wrote { Wrote out.old at (second_line x count label.now) out.new result }
     ensures upper_bound { result ≤ at + 252 }
 {
     let a = put_three(out, at, x.entity, x.weight, x.colour);

@@ -1,6 +1,6 @@
 // What a directory number names: entry i of the file has its first D line at index first + 2 * i among the lines.
 ghost use Rattle.std.specs.Prelude.{◌≡◌, ◌+◌, ◌*◌, ◌≤◌, length};
-ghost use Rattle.columns.specs.Format.{lineBytes};
+ghost use Rattle.columns.specs.Format.{line_bytes};
 ghost use Rattle.references.specs.References.{class_at};
 ghost use Rattle.directory.specs.Naming.{types_at};
 
@@ -10,7 +10,7 @@ use references::NO_ENTRY;
 
 // The class of what a directory number names, among n entries.
 pub fn class_at(file: &[u8], first: usize, n: usize, number: DirectoryNumber) -> u8
-    requires { lineBytes * (first + 2 * n) ≤ length file.now }
+    requires { line_bytes * (first + 2 * n) ≤ length file.now }
     ensures { result ≡ class_at (types_at file.now first n) number.0 }
 {
     if number.0 % 2 != 1 {

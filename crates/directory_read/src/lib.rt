@@ -4,10 +4,10 @@ ghost use Rattle.std.specs.Prelude.{false, ◌≡◌, ◌+◌, ◌*◌, ◌^◌,
 ghost use Rattle.columns.specs.Columns.{columns};
 ghost use Rattle.columns.specs.Fixed.{field_of, signed_of, with_sign};
 ghost use Rattle.columns.specs.Reading.{SizeBelow};
-ghost use Rattle.columns.specs.Format.{lineBytes, fieldColumns};
+ghost use Rattle.columns.specs.Format.{line_bytes, field_columns};
 ghost use Rattle.directory.specs.Fields.{type_at};
-ghost use Rattle.directory.specs.Lines.{Slot, slotIn, unsigned, number_in, Numbers, numbersFrom, entry_at};
-ghost use Rattle.directory.specs.Lines.{positive, size_of, isSame, speltAs};
+ghost use Rattle.directory.specs.Lines.{Slot, slot_in, unsigned, number_in, Numbers, numbers_from, entry_at};
+ghost use Rattle.directory.specs.Lines.{positive, size_of, is_same, spelt_as};
 ghost use Rattle.directory.specs.Reading.{slot_at, Small};
 
 use columns::format::FIELD_COLUMNS;
@@ -16,8 +16,8 @@ use directory::{EntryRead, Fields, lines, order};
 
 // What the slot from `at` on holds, a sign allowed.
 fn signed_at(file: &[u8], at: usize) -> SignedField
-    requires { at + fieldColumns ≤ length file.now }
-    ensures value { result ≡ signed_of (columns file.now at (at + fieldColumns)) }
+    requires { at + field_columns ≤ length file.now }
+    ensures value { result ≡ signed_of (columns file.now at (at + field_columns)) }
     ensures size_below { SizeBelow 100000000 result }
 {
     columns_fixed::read_signed(file, at, at + FIELD_COLUMNS)
@@ -25,7 +25,7 @@ fn signed_at(file: &[u8], at: usize) -> SignedField
 
 // What slot j holds, a sign allowed.
 fn signed_in(file: &[u8], k: usize, j: usize) -> SignedField
-    requires line_bytes_in_bounds { lineBytes * k + 2 * lineBytes ≤ length file.now }
+    requires line_bytes_in_bounds { line_bytes * k + 2 * line_bytes ≤ length file.now }
     requires j_bound { j < 18 }
     ensures value { result ≡ signed_of (slot_at file.now k j) }
     ensures size_below { SizeBelow 100000000 result }
@@ -49,7 +49,7 @@ fn plain(f: Field) -> SignedField
 
 // What slot j holds, no sign allowed.
 fn plain_in(file: &[u8], k: usize, j: usize) -> SignedField
-    requires line_bytes_in_bounds { lineBytes * k + 2 * lineBytes ≤ length file.now }
+    requires line_bytes_in_bounds { line_bytes * k + 2 * line_bytes ≤ length file.now }
     requires j_bound { j < 18 }
     ensures { result ≡ with_sign false (field_of (slot_at file.now k j)) }
 {
@@ -66,7 +66,7 @@ fn is_plain(n: usize) -> bool
 
 // Number n of the entry.
 fn number_in(file: &[u8], k: usize, n: usize) -> SignedField
-    requires line_bytes_in_bounds { lineBytes * k + 2 * lineBytes ≤ length file.now }
+    requires line_bytes_in_bounds { line_bytes * k + 2 * line_bytes ≤ length file.now }
     requires n_bound { n < 12 }
     ensures { result ≡ number_in file.now k n }
 {
@@ -78,7 +78,7 @@ fn number_in(file: &[u8], k: usize, n: usize) -> SignedField
 }
 
 fn is_same(x: Signed, f: SignedField) -> bool
-    ensures { result ≡ isSame x f }
+    ensures { result ≡ is_same x f }
 {
     let SignedField::Number(n) = f else {
         return false;
@@ -115,7 +115,7 @@ fn size_of(f: SignedField) -> u32
 
 // The numbers x, with the type again, the parameter pointer and the line count.
 fn spelt_as(x: Fields, again: SignedField, from: SignedField, count: SignedField) -> EntryRead
-    ensures { result ≡ speltAs x again from count }
+    ensures { result ≡ spelt_as x again from count }
 {
     if !is_same(x.entity, again) {
         return EntryRead::Wrong;
@@ -135,8 +135,8 @@ fn spelt_as(x: Fields, again: SignedField, from: SignedField, count: SignedField
 
 // The entry of the numbers xs.
 fn with_pointer(file: &[u8], k: usize, xs: [Signed; order::NUMBERS]) -> EntryRead
-    requires line_bytes_in_bounds { lineBytes * k + 2 * lineBytes ≤ length file.now }
-    requires k_value { numbersFrom file.now k 0 12 ≡ Numbers.numbers xs }
+    requires line_bytes_in_bounds { line_bytes * k + 2 * line_bytes ≤ length file.now }
+    requires k_value { numbers_from file.now k 0 12 ≡ Numbers.numbers xs }
     ensures value { result ≡ entry_at file.now k }
     ensures small { Small result }
 {
@@ -148,7 +148,7 @@ fn with_pointer(file: &[u8], k: usize, xs: [Signed; order::NUMBERS]) -> EntryRea
 
 // The entry whose first D line is line k.
 pub fn entry_at(file: &[u8], k: usize) -> EntryRead
-    requires { lineBytes * k + 2 * lineBytes ≤ length file.now }
+    requires { line_bytes * k + 2 * line_bytes ≤ length file.now }
     ensures value { result ≡ entry_at file.now k }
     ensures small { Small result }
 {
@@ -170,7 +170,7 @@ pub fn entry_at(file: &[u8], k: usize) -> EntryRead
 
 // The size of what slot j holds.
 fn size_in(file: &[u8], k: usize, j: usize) -> u32
-    requires line_bytes_in_bounds { lineBytes * k + 2 * lineBytes ≤ length file.now }
+    requires line_bytes_in_bounds { line_bytes * k + 2 * line_bytes ≤ length file.now }
     requires j_bound { j < 18 }
     ensures value { result ≡ size_of (signed_of (slot_at file.now k j)) }
     ensures upper_bound { result < 100000000 }
@@ -182,8 +182,8 @@ fn size_in(file: &[u8], k: usize, j: usize) -> u32
 
 // Its type.
 pub fn type_at(file: &[u8], k: usize) -> u32
-    requires { lineBytes * k + 2 * lineBytes ≤ length file.now }
-    ensures value { result ≡ size_of (signed_of (slotIn file.now k (Slot.number type_at))) }
+    requires { line_bytes * k + 2 * line_bytes ≤ length file.now }
+    ensures value { result ≡ size_of (signed_of (slot_in file.now k (Slot.number type_at))) }
     ensures upper_bound { result < 100000000 }
 {
     size_in(file, k, lines::TYPE)
@@ -191,8 +191,8 @@ pub fn type_at(file: &[u8], k: usize) -> u32
 
 // The byte where its label starts.
 pub fn label_at(k: usize) -> usize
-    requires { lineBytes * k + 2 * lineBytes < 2 ^ 64 }
-    ensures { result ≡ lineBytes * (k + 1) + 7 * fieldColumns }
+    requires { line_bytes * k + 2 * line_bytes < 2 ^ 64 }
+    ensures { result ≡ line_bytes * (k + 1) + 7 * field_columns }
 {
     lines::start_of(k, lines::LABEL)
 }

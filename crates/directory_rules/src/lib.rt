@@ -1,10 +1,10 @@
 // What an entry's numbers mean, and what rules 9, 13 and 10 ask of them.
 ghost use Rattle.std.specs.Prelude.{◌≡◌, ◌<◌, length, leb};
-ghost use Rattle.columns.specs.Decimal.{signedDec};
-ghost use Rattle.columns.specs.Format.{fieldColumns};
-ghost use Rattle.directory.specs.Fields.{attributeOf, entry_of};
-ghost use Rattle.directory.specs.Rules.{orLess, up_to, signsOk, limitsOk, pairOk, statusOk, narrow, rangesOk};
-ghost use Rattle.directory.specs.Asking.{ruleOf, ofNumber, ofAttribute, referenceCount, wantedOf};
+ghost use Rattle.columns.specs.Decimal.{signed_dec};
+ghost use Rattle.columns.specs.Format.{field_columns};
+ghost use Rattle.directory.specs.Fields.{attribute_of, entry_of};
+ghost use Rattle.directory.specs.Rules.{or_less, up_to, signs_ok, limits_ok, pair_ok, status_ok, narrow, ranges_ok};
+ghost use Rattle.directory.specs.Asking.{rule_of, of_number, of_attribute, reference_count, wanted_of};
 
 use columns::{DirectoryNumber, Fault, Signed};
 use directory::{Attribute, Entry, Fields, Rule, Wanted, order};
@@ -12,7 +12,7 @@ use directory::{Attribute, Entry, Fields, Rule, Wanted, order};
 // ---- what the numbers mean
 
 fn attribute_of(x: Signed) -> Attribute
-    ensures { result ≡ attributeOf x }
+    ensures { result ≡ attribute_of x }
 {
     if x.neg {
         return Attribute::Reference(DirectoryNumber(x.size));
@@ -46,7 +46,7 @@ pub fn entry_of(x: Fields) -> Entry
 // ---- 9 and 13
 
 fn signs_ok(x: Fields) -> bool
-    ensures { result ≡ signsOk x }
+    ensures { result ≡ signs_ok x }
 {
     !x.entity.neg
         && (!x.view.neg
@@ -55,7 +55,7 @@ fn signs_ok(x: Fields) -> bool
 }
 
 fn or_less(x: Signed) -> bool
-    ensures { result ≡ orLess x }
+    ensures { result ≡ or_less x }
 {
     x.neg || x.size == 0
 }
@@ -67,26 +67,26 @@ fn up_to(most: u32, x: Signed) -> bool
 }
 
 fn limits_ok(x: Fields) -> bool
-    ensures { result ≡ limitsOk x }
+    ensures { result ≡ limits_ok x }
 {
     or_less(x.structure) && (up_to(5, x.font) && up_to(8, x.colour))
 }
 
 fn pair_ok(pair: u32, most: u32) -> bool
-    ensures { result ≡ pairOk pair most }
+    ensures { result ≡ pair_ok pair most }
 {
     pair % 100 <= most
 }
 
 fn status_ok(n: u32) -> bool
-    ensures { result ≡ statusOk n }
+    ensures { result ≡ status_ok n }
 {
     pair_ok(n / 1000000, 1) && (pair_ok(n / 10000, 3) && (pair_ok(n / 100, 5) && pair_ok(n, 2)))
 }
 
 // Whether x fits eight columns, its sign counted.
 fn is_narrow(x: Signed) -> bool
-    ensures { result ≡ leb (length (signedDec x)) fieldColumns }
+    ensures { result ≡ leb (length (signed_dec x)) field_columns }
 {
     if x.neg {
         return x.size < 10000000;
@@ -110,14 +110,14 @@ fn all_narrow(xs: [Signed; order::NUMBERS]) -> bool
 
 // Whether every number is in its range and fits its columns.
 fn ranges_ok(x: Fields) -> bool
-    ensures { result ≡ rangesOk x }
+    ensures { result ≡ ranges_ok x }
 {
     signs_ok(x) && (limits_ok(x) && (status_ok(x.status.size) && all_narrow(order::in_order(x))))
 }
 
 // Rules 9 and 13.
 pub fn entry_rules(x: Fields) -> Rule
-    ensures { result ≡ ruleOf x }
+    ensures { result ≡ rule_of x }
 {
     if !ranges_ok(x) {
         return Rule::Refused(Fault::Directory);
@@ -131,7 +131,7 @@ pub fn entry_rules(x: Fields) -> Rule
 // ---- 10
 
 fn of_number(d: DirectoryNumber, want: u8) -> Wanted
-    ensures { result ≡ ofNumber d want }
+    ensures { result ≡ of_number d want }
 {
     Wanted {
         asked: d.0 != 0,
@@ -141,7 +141,7 @@ fn of_number(d: DirectoryNumber, want: u8) -> Wanted
 }
 
 fn of_attribute(a: Attribute, want: u8) -> Wanted
-    ensures { result ≡ ofAttribute a want }
+    ensures { result ≡ of_attribute a want }
 {
     match a {
         Attribute::Number(_) => Wanted {
@@ -159,8 +159,8 @@ fn of_attribute(a: Attribute, want: u8) -> Wanted
 
 // What reference j of the entry asks: structure, font, level, view, matrix, label display, colour.
 pub fn wanted(e: Entry, j: usize) -> Wanted
-    requires { j < referenceCount }
-    ensures { result ≡ wantedOf e j }
+    requires { j < reference_count }
+    ensures { result ≡ wanted_of e j }
 {
     let font = e.font;
     let level = e.level;

@@ -8,15 +8,15 @@ use native.Mathlib.Omega.{arith}
 use lib.ListN.{length, take, drop, set, length-append}
 use lib.Seq.{set_comm}
 use Rattle.columns.specs.Columns.{joined}
-use Rattle.columns.specs.Decimal.{toLeft}
+use Rattle.columns.specs.Decimal.{to_left}
 use Rattle.columns.specs.Laid.{laid, laid_nil, laid-laid}
 use Rattle.records.specs.Flow.{cut}
 use Rattle.records.specs.Written.{index_of, over}
 use Rattle.records.proofs.Puts.{over-over}
-use Rattle.records.proofs.Lines.{line-long}
+use Rattle.records.proofs.Lines.{line_long}
 use Rattle.cards.specs.Written.{zeros, line_of, section}
 use Rattle.cards.proofs.Round.{length-zeros}
-use Rattle.file_blocks.specs.Blocks.{tailOf}
+use Rattle.file_blocks.specs.Blocks.{tail_of}
 use Rattle.file_blocks.specs.Writing.{tailed}
 
 -- ---- stores at different places
@@ -67,13 +67,13 @@ over_first base w h o x t l =
 -- ---- lines with their ends
 
 -- a line is its columns and its end
-line-end : (x m : List ℕ) (b n : ℕ) → line_of (x ++ m) b n ≡ x ++ (m ++ tailOf b n)
-unfolding line_of tailOf
+line-end : (x m : List ℕ) (b n : ℕ) → line_of (x ++ m) b n ≡ x ++ (m ++ tail_of b n)
+unfolding line_of tail_of
 line-end x m b n = rw (append_assoc (x ++ m) (b ∷ zeros n) (10 ∷ []), append_assoc x m ((b ∷ zeros n) ++ (10 ∷ [])))
 
-pub tail-long : (b n : ℕ) → n ≤ 9999999 → length (tailOf b n) ≡ 9
-unfolding tailOf
-tail-long b n h = simp length-append (omega (arith, length-zeros n (omega arith)))
+pub tail_long : (b n : ℕ) → n ≤ 9999999 → length (tail_of b n) ≡ 9
+unfolding tail_of
+tail_long b n h = simp length-append (omega (arith, length-zeros n (omega arith)))
 
 -- n lines of the text t, the columns from w + 1 up to the letter being m
 module _ (w b : ℕ) (m : List ℕ) (f : List ℕ → List ℕ) (wide : 1 ≤ w) (all : w + length m ≡ 72) (is : (x : List ℕ) → f x ≡ x ++ m) where
@@ -82,12 +82,12 @@ module _ (w b : ℕ) (m : List ℕ) (f : List ℕ → List ℕ) (wide : 1 ≤ w)
   unfolding tailed cut joined section over
   filed zero t o base n h = sym (laid_nil o base)
   filed (suc k) t o base n h =
-      let x = toLeft w (take w t) in
+      let x = to_left w (take w t) in
       let u = joined (cut w k (drop w t)) in
-      let z = m ++ tailOf b n in
+      let z = m ++ tail_of b n in
       let s = joined (section b (n + 1) (map f (cut w k (drop w t)))) in
-      let lx : length x ≡ w = line-long w t in
-      let lz : length z ≡ 81 - w = rw (length-append m (tailOf b n)) (omega (arith, tail-long b n (omega arith))) in
+      let lx : length x ≡ w = line_long w t in
+      let lz : length z ≡ 81 - w = rw (length-append m (tail_of b n)) (omega (arith, tail_long b n (omega arith))) in
       let o1 = laid o base x in
       let o2 = laid o1 (base + w) z in
       let p1 : base + w + 81 ≡ base + 81 + w = omega arith in

@@ -1,13 +1,13 @@
 // The lines of which each is written whole: S, D and T.
 ghost use Rattle.std.specs.Prelude.{◌≡◌, ◌∷◌, ◌++◌, ◌+◌, ◌^◌, ◌≤◌, ◌<◌, length};
 ghost use Rattle.columns.specs.Columns.{joined};
-ghost use Rattle.columns.specs.Decimal.{toLeft};
+ghost use Rattle.columns.specs.Decimal.{to_left};
 ghost use Rattle.columns.specs.Laid.{Wrote};
-ghost use Rattle.columns.specs.Format.{lineBytes, textColumns, fieldColumns};
-ghost use Rattle.columns.specs.Letters.{letterD, letterG, letterP, letterS, letterT};
-ghost use Rattle.directory.specs.Lines.{entryLines};
-ghost use Rattle.cards.specs.Written.{zeros, line_of, section, totalsOf};
-ghost use Rattle.file_blocks.specs.Blocks.{tailOf};
+ghost use Rattle.columns.specs.Format.{line_bytes, text_columns, field_columns};
+ghost use Rattle.columns.specs.Letters.{letter_d, letter_g, letter_p, letter_s, letter_t};
+ghost use Rattle.directory.specs.Lines.{entry_lines};
+ghost use Rattle.cards.specs.Written.{zeros, line_of, section, totals_of};
+ghost use Rattle.file_blocks.specs.Blocks.{tail_of};
 
 use crate::{DIRECTORY, GLOBAL, PARAMETER, START, TERMINATE};
 use cards::Counts;
@@ -33,7 +33,7 @@ fn put_count(out: &mut [u8], at: usize, letter: u8, n: usize) -> usize
 pub fn put_tail(out: &mut [u8], at: usize, letter: u8, n: usize) -> usize
     requires at_bound { at < 2 ^ 60 }
     requires n_bound { n ≤ 9999999 }
-    ensures wrote { Wrote out.old at (tailOf letter n) out.new result }
+    ensures wrote { Wrote out.old at (tail_of letter n) out.new result }
     ensures value { result ≡ at + 9 }
 {
     let a = put_count(out, at, letter, n);
@@ -43,10 +43,10 @@ pub fn put_tail(out: &mut [u8], at: usize, letter: u8, n: usize) -> usize
 // S line n with this text.
 pub fn put_start_line(out: &mut [u8], at: usize, text: &[u8], n: usize) -> usize
     requires at_bound { at < 2 ^ 59 }
-    requires text_len_bound { length text.now ≤ textColumns }
+    requires text_len_bound { length text.now ≤ text_columns }
     requires n_bound { n ≤ 9999999 }
-    ensures wrote { Wrote out.old at (line_of (toLeft textColumns text.now) letterS n) out.new result }
-    ensures value { result ≡ at + lineBytes }
+    ensures wrote { Wrote out.old at (line_of (to_left text_columns text.now) letter_s n) out.new result }
+    ensures value { result ≡ at + line_bytes }
 {
     let a = columns_decimals::put_left(out, at, TEXT_COLUMNS, text);
     put_tail(out, a, START, n)
@@ -64,10 +64,10 @@ pub fn put_entry_lines(
     number: DirectoryNumber,
 ) -> usize
     requires at_bound { at < 2 ^ 58 }
-    requires label_len_bound { length label.now ≤ fieldColumns }
+    requires label_len_bound { length label.now ≤ field_columns }
     requires number_bound { number.0 + 1 ≤ 9999999 }
     ensures wrote { Wrote out.old at
-        (joined (section letterD number.0 (entryLines x from.0 count label.now))) out.new result }
+        (joined (section letter_d number.0 (entry_lines x from.0 count label.now))) out.new result }
     ensures upper_bound { result ≤ at + 522 }
 {
     let n = number.0 as usize;
@@ -85,7 +85,7 @@ fn put_totals(out: &mut [u8], at: usize, c: Counts) -> usize
     requires d_bound { c.d ≤ 9999999 }
     requires p_bound { c.p ≤ 9999999 }
     ensures wrote { Wrote out.old at
-        ((letterS ∷ zeros c.s) ++ ((letterG ∷ zeros c.g) ++ ((letterD ∷ zeros c.d) ++ (letterP ∷ zeros c.p))))
+        ((letter_s ∷ zeros c.s) ++ ((letter_g ∷ zeros c.g) ++ ((letter_d ∷ zeros c.d) ++ (letter_p ∷ zeros c.p))))
         out.new result }
     ensures value { result ≡ at + 32 }
 {
@@ -102,8 +102,8 @@ pub fn put_last_line(out: &mut [u8], at: usize, c: Counts) -> usize
     requires g_bound { c.g ≤ 9999999 }
     requires d_bound { c.d ≤ 9999999 }
     requires p_bound { c.p ≤ 9999999 }
-    ensures wrote { Wrote out.old at (line_of (totalsOf c) letterT 1) out.new result }
-    ensures value { result ≡ at + lineBytes }
+    ensures wrote { Wrote out.old at (line_of (totals_of c) letter_t 1) out.new result }
+    ensures value { result ≡ at + line_bytes }
 {
     let a = put_totals(out, at, c);
     let b = columns_emit::put_run(out, a, b' ', REST);

@@ -23,8 +23,8 @@ laid-before o p x d (b ∷ y) h = ap (λ (l : List ℕ). laid l (suc d) y) (set-
 -- ---- two writes under way
 
 -- b is laid at q, then a at d
-pub owing-less : {o o' o'' : List ℕ} {d q r : ℕ} (a b ds ps : List ℕ) → Owing o o' d (a ++ ds) q (b ++ ps) → Wrote (laid o' q b) d a o'' r → Owing o o'' r ds (q + length b) ps
-owing-less {o} {o'} {o''} {d} {q} {r} a b ds ps w z =
+pub owing_less : {o o' o'' : List ℕ} {d q r : ℕ} (a b ds ps : List ℕ) → Owing o o' d (a ++ ds) q (b ++ ps) → Wrote (laid o' q b) d a o'' r → Owing o o'' r ds (q + length b) ps
+owing_less {o} {o'} {o''} {d} {q} {r} a b ds ps w z =
     let k : length (a ++ ds) ≡ length a + length ds = length-append a ds in
     let e : laid (laid o'' r ds) (q + length b) ps ≡ laid (laid o' d (a ++ ds)) q (b ++ ps) =
     ap (λ (l : List ℕ). laid l (q + length b) ps) (rw (z.bytes, z.next) (laid-laid (laid o' q b) d a ds) ∙ laid-before o' q b d (a ++ ds) w.apart) ∙ laid-laid (laid o' d (a ++ ds)) q b ps in

@@ -6,33 +6,33 @@ use native.Mathlib.Omega.{arith}
 use native.Mathlib.Decide.{ℕ_discrete}
 use lib.ListN.{length, take, drop, length-take, length-drop}
 use Rattle.columns.specs.Columns.{columns, joined}
-use Rattle.columns.specs.Decimal.{toLeft}
+use Rattle.columns.specs.Decimal.{to_left}
 use Rattle.columns.specs.Laid.{Wrote, Owes}
 use Rattle.columns.proofs.Columns.{length-columns}
-use Rattle.columns.proofs.Writes.{owes-all, owes-less, owes-none, owes-length}
+use Rattle.columns.proofs.Writes.{owes_all, owes_less, owes_none, owes_length}
 use Rattle.cards.specs.Written.{line_of, section}
 use Rattle.sheets.specs.declared.Said.{Said}
 use Rattle.sheets.specs.declared.Said.TheVariants.{Start, Global, Entry, Value as Given, Last, Nothing}
 use Rattle.sheets.specs.Line.{run}
 use Rattle.sheets.specs.Reading.{Within}
-use Rattle.sheets.specs.Sheet.{Line, lineFrom, lastPiece, says_of, linesIn}
-use Rattle.sheets.proofs.Bounds.{says-within}
-use Rattle.sheets.proofs.Walk.{lines-first, line-says}
+use Rattle.sheets.specs.Sheet.{Line, line_from, last_piece, says_of, lines_in}
+use Rattle.sheets.proofs.Bounds.{says_within}
+use Rattle.sheets.proofs.Walk.{lines_first, line_says}
 use Rattle.sheets_rows.proofs.Rows.{behind-none}
-use Rattle.file_blocks.proofs.Said.{line-part, lines-whole}
-use Rattle.file_canonical.specs.Laying.{startGiven, startsFirst, behindStarts, StartStands, startBytes}
-use Rattle.sheets.proofs.Limits.{Can, says-can}
+use Rattle.file_blocks.proofs.Said.{line-part, lines_whole}
+use Rattle.file_canonical.specs.Laying.{start_given, starts_first, behind_starts, StartStands, start_bytes}
+use Rattle.sheets.proofs.Limits.{Can, says_can}
 
 -- the last piece is no start line
-no-starts : (s : List ℕ) → startsFirst (lastPiece s) ≡ []
-unfolding startsFirst lastPiece
-no-starts [] = refl
-no-starts (b ∷ bs) = refl
+no_starts : (s : List ℕ) → starts_first (last_piece s) ≡ []
+unfolding starts_first last_piece
+no_starts [] = refl
+no_starts (b ∷ bs) = refl
 
 module _ (t : List ℕ) (at e : ℕ) (en : e ≡ at + run 10 (drop at t)) (lo : at ≤ e) (hi : e ≤ length t) where
-  stands : (x : Said) (rest : List Line) → Can (columns t at e) x → Within (length (columns t at e)) x → linesIn (drop at t) ≡ lineFrom (columns t at e) x ∷ rest
-      → linesIn (drop (e + 1) t) ≡ rest → e < length t → 0 < length (startsFirst (lineFrom (columns t at e) x ∷ rest)) → StartStands t at e
-  unfolding startsFirst behindStarts
+  stands : (x : Said) (rest : List Line) → Can (columns t at e) x → Within (length (columns t at e)) x → lines_in (drop at t) ≡ line_from (columns t at e) x ∷ rest
+      → lines_in (drop (e + 1) t) ≡ rest → e < length t → 0 < length (starts_first (line_from (columns t at e) x ∷ rest)) → StartStands t at e
+  unfolding starts_first behind_starts
   stands Start rest c w q f h s =
       let l : length (columns t at e) ≡ e - at = length-columns t at e lo hi in
       let d : length (drop 2 (columns t at e)) ≡ e - at - 2 = length-drop 2 (columns t at e) ∙ ap (λ (k : ℕ). k - 2) l in
@@ -40,8 +40,8 @@ module _ (t : List ℕ) (at e : ℕ) (en : e ≡ at + run 10 (drop at t)) (lo : 
         low = omega arith;
         high = h;
         short = omega arith;
-        texts = ap startsFirst q ∙ rw (line-part t at 2 e, f);
-        behind = ap behindStarts q ∙ rw f;
+        texts = ap starts_first q ∙ rw (line-part t at 2 e, f);
+        behind = ap behind_starts q ∙ rw f;
       }
   stands (Global n k v) rest c w q f h s = absurd (omega arith)
   stands (Entry known n x) rest c w q f h s = absurd (omega arith)
@@ -50,24 +50,24 @@ module _ (t : List ℕ) (at e : ℕ) (en : e ≡ at + run 10 (drop at t)) (lo : 
   stands (Nothing b) rest c w q f h s = absurd (omega arith)
 
   -- where start lines stand, the first of them
-  pub start-here : 0 < length (startsFirst (linesIn (drop at t))) → StartStands t at e
+  pub start-here : 0 < length (starts_first (lines_in (drop at t))) → StartStands t at e
   start-here s = pick (ℕ_discrete e (length t))
     where
       pick : Dec (e ≡ length t) → StartStands t at e
-      pick (yes h) = absurd (omega (arith, ap length (ap startsFirst (lines-whole t at e en h) ∙ no-starts (drop at t))))
+      pick (yes h) = absurd (omega (arith, ap length (ap starts_first (lines_whole t at e en h) ∙ no_starts (drop at t))))
       pick (no h) =
           let l = columns t at e in
-          let q : linesIn (drop at t) ≡ lineFrom l (says_of l) ∷ linesIn (drop (e + 1) t) = lines-first t at e lo (omega arith) en ∙ ap (λ (i : Line). i ∷ linesIn (drop (e + 1) t)) (line-says l (says_of l) refl) in
-          stands (says_of l) (linesIn (drop (e + 1) t)) (says-can l) (says-within l) q refl (omega arith) (rw q at s)
+          let q : lines_in (drop at t) ≡ line_from l (says_of l) ∷ lines_in (drop (e + 1) t) = lines_first t at e lo (omega arith) en ∙ ap (λ (i : Line). i ∷ lines_in (drop (e + 1) t)) (line_says l (says_of l) refl) in
+          stands (says_of l) (lines_in (drop (e + 1) t)) (says_can l) (says_within l) q refl (omega arith) (rw q at s)
 
 -- ---- the pass
 
-start_first : (n : ℕ) (x : List ℕ) (xs : List (List ℕ)) → startBytes n (x ∷ xs) ≡ line_of (toLeft 72 x) 83 n ++ startBytes (n + 1) xs
-unfolding startBytes section joined
+start_first : (n : ℕ) (x : List ℕ) (xs : List (List ℕ)) → start_bytes n (x ∷ xs) ≡ line_of (to_left 72 x) 83 n ++ start_bytes (n + 1) xs
+unfolding start_bytes section joined
 start_first n x xs = refl
 
-start_none : (n : ℕ) → startBytes n [] ≡ []
-unfolding startBytes section joined
+start_none : (n : ℕ) → start_bytes n [] ≡ []
+unfolding start_bytes section joined
 start_none n = refl
 
 empty : (ts : List (List ℕ)) → length ts ≡ 0 → ts ≡ []
@@ -78,29 +78,29 @@ module _ {t : List ℕ} {at e : ℕ} (st : StartStands t at e) where
   pub starts-text : length (take (e - (at + 2)) (drop (at + 2) t)) ≤ 72
   starts-text = rw length-take (omega (arith, st.low, st.short))
 
-  pub starts-less : (k s : ℕ) → k + length (startsFirst (linesIn (drop at t))) ≡ s → k + 1 + length (startsFirst (linesIn (drop (e + 1) t))) ≡ s
-  starts-less k s q = omega (arith, ap length st.texts)
+  pub starts_less : (k s : ℕ) → k + length (starts_first (lines_in (drop at t))) ≡ s → k + 1 + length (starts_first (lines_in (drop (e + 1) t))) ≡ s
+  starts_less k s q = omega (arith, ap length st.texts)
 
-  pub starts-behind : (ls : List Line) → behindStarts (linesIn (drop at t)) ≡ ls → behindStarts (linesIn (drop (e + 1) t)) ≡ ls
+  pub starts-behind : (ls : List Line) → behind_starts (lines_in (drop at t)) ≡ ls → behind_starts (lines_in (drop (e + 1) t)) ≡ ls
   starts-behind ls q = sym st.behind ∙ q
 
-  pub starts-laid : {o bs o1 o2 : List ℕ} {p r r1 : ℕ} (k : ℕ) → Owes o p bs o1 r (startBytes (k + 1) (startsFirst (linesIn (drop at t))))
-      → Wrote o1 r (line_of (toLeft 72 (take (e - (at + 2)) (drop (at + 2) t))) 83 (k + 1)) o2 r1
-      → Owes o p bs o2 r1 (startBytes (k + 1 + 1) (startsFirst (linesIn (drop (e + 1) t))))
-  starts-laid k w z = owes-less (rw (st.texts, start_first (k + 1) (take (e - (at + 2)) (drop (at + 2) t)) (startsFirst (linesIn (drop (e + 1) t)))) at w) z
+  pub starts-laid : {o bs o1 o2 : List ℕ} {p r r1 : ℕ} (k : ℕ) → Owes o p bs o1 r (start_bytes (k + 1) (starts_first (lines_in (drop at t))))
+      → Wrote o1 r (line_of (to_left 72 (take (e - (at + 2)) (drop (at + 2) t))) 83 (k + 1)) o2 r1
+      → Owes o p bs o2 r1 (start_bytes (k + 1 + 1) (starts_first (lines_in (drop (e + 1) t))))
+  starts-laid k w z = owes_less (rw (st.texts, start_first (k + 1) (take (e - (at + 2)) (drop (at + 2) t)) (starts_first (lines_in (drop (e + 1) t)))) at w) z
 
-pub starts-some : (t : List ℕ) (at k s : ℕ) → k + length (startsFirst (linesIn (drop at t))) ≡ s → k < s → 0 < length (startsFirst (linesIn (drop at t)))
-starts-some t at k s q h = omega arith
+pub starts_some : (t : List ℕ) (at k s : ℕ) → k + length (starts_first (lines_in (drop at t))) ≡ s → k < s → 0 < length (starts_first (lines_in (drop at t)))
+starts_some t at k s q h = omega arith
 
-pub starts-all : {o bs o1 : List ℕ} {r : ℕ} (t : List ℕ) (at k s : ℕ) → Owes o 0 bs o1 r (startBytes (k + 1) (startsFirst (linesIn (drop at t)))) → r ≡ 81 * k
-    → k + length (startsFirst (linesIn (drop at t))) ≡ s → s ≤ k → Wrote o 0 bs o1 (81 * s)
-starts-all {o} {bs} {o1} {r} t at k s w z q h =
+pub starts_all : {o bs o1 : List ℕ} {r : ℕ} (t : List ℕ) (at k s : ℕ) → Owes o 0 bs o1 r (start_bytes (k + 1) (starts_first (lines_in (drop at t)))) → r ≡ 81 * k
+    → k + length (starts_first (lines_in (drop at t))) ≡ s → s ≤ k → Wrote o 0 bs o1 (81 * s)
+starts_all {o} {bs} {o1} {r} t at k s w z q h =
     let e : k ≡ s = omega arith in
-    let n : startsFirst (linesIn (drop at t)) ≡ [] = empty (startsFirst (linesIn (drop at t))) (omega arith) in
-    rw (← e, ← z) (owes-none (rw (n, start_none (k + 1)) at w))
+    let n : starts_first (lines_in (drop at t)) ≡ [] = empty (starts_first (lines_in (drop at t))) (omega arith) in
+    rw (← e, ← z) (owes_none (rw (n, start_none (k + 1)) at w))
 
-pub starts-end : (t : List ℕ) (at k s : ℕ) (ls : List Line) → behindStarts (linesIn (drop at t)) ≡ ls → k + length (startsFirst (linesIn (drop at t))) ≡ s → s ≤ k → linesIn (drop at t) ≡ ls
-unfolding startsFirst behindStarts
-starts-end t at k s ls q c h = sym (behind-none startGiven (linesIn (drop at t)) (empty (startsFirst (linesIn (drop at t))) (omega arith))) ∙ q
+pub starts-end : (t : List ℕ) (at k s : ℕ) (ls : List Line) → behind_starts (lines_in (drop at t)) ≡ ls → k + length (starts_first (lines_in (drop at t))) ≡ s → s ≤ k → lines_in (drop at t) ≡ ls
+unfolding starts_first behind_starts
+starts-end t at k s ls q c h = sym (behind-none start_given (lines_in (drop at t)) (empty (starts_first (lines_in (drop at t))) (omega arith))) ∙ q
 
-pub ruleset starts = (start-here, starts-text, starts-less, starts-behind, starts-laid, starts-some, starts-all, starts-end, owes-all, owes-length)
+pub ruleset starts = (start-here, starts-text, starts_less, starts-behind, starts-laid, starts_some, starts_all, starts-end, owes_all, owes_length)

@@ -1,6 +1,6 @@
 // The D and P lines, entry by entry: D lines in their section, P lines in theirs.
 ghost use Rattle.std.specs.Prelude.{◌≡◌, ◌<◌, length};
-ghost use Rattle.file_canonical.specs.Laying.{entries_at, bothLaid, Turn, Turned, EntryHasRoom, EntryLaid};
+ghost use Rattle.file_canonical.specs.Laying.{entries_at, both_laid, Turn, Turned, EntryHasRoom, EntryLaid};
 
 use crate::EntryPlace;
 use columns::ParameterLine;
@@ -56,7 +56,7 @@ fn put_row(out: &mut [u8], t: &[u8], x: EntryPlace, k: usize) -> EntryPlace
 pub fn put_rows(out: &mut [u8], t: &[u8], x: EntryPlace, n: usize)
     requires turn { Turn t.now x 0 }
     requires at_len { length (entries_at t.now x.at) ≡ n }
-    ensures { out.new ≡ bothLaid out.old t.now x 0 }
+    ensures { out.new ≡ both_laid out.old t.now x 0 }
 {
     let mut y = x;
     let mut k = 0;

@@ -1,10 +1,10 @@
 // The S lines, from the start lines of a sheet.
 ghost use Rattle.std.specs.Prelude.{◌≡◌, ◌*◌, ◌≤◌, ◌<◌, length};
 ghost use Rattle.columns.specs.Laid.{Wrote};
-ghost use Rattle.columns.specs.Format.{lineBytes};
-ghost use Rattle.sheets.specs.Sheet.{linesIn};
-ghost use Rattle.sheets_rows.specs.Rows.{linesAt};
-ghost use Rattle.file_canonical.specs.Laying.{startsFirst, behindStarts, StartStands, startBytes};
+ghost use Rattle.columns.specs.Format.{line_bytes};
+ghost use Rattle.sheets.specs.Sheet.{lines_in};
+ghost use Rattle.sheets_rows.specs.Rows.{lines_at};
+ghost use Rattle.file_canonical.specs.Laying.{starts_first, behind_starts, StartStands, start_bytes};
 
 use file_blocks::lines::put_start_line;
 use sheets_read::end_of;
@@ -12,7 +12,7 @@ use sheets_read::end_of;
 // Where the start line at `at` ends.
 fn start_end(t: &[u8], at: usize) -> usize
     requires at_in_bounds { at ≤ length t.now }
-    requires nonzero { 0 < length (startsFirst (linesAt t.now at)) }
+    requires nonzero { 0 < length (starts_first (lines_at t.now at)) }
     ensures { StartStands t.now at result }
 {
     end_of(t, at)
@@ -20,11 +20,11 @@ fn start_end(t: &[u8], at: usize) -> usize
 
 // Lays the S lines of a sheet with so many start lines, and tells where the sheet goes on.
 pub fn put_starts(out: &mut [u8], t: &[u8], s: usize) -> usize
-    requires t_len { length (startsFirst (linesIn t.now)) ≡ s }
+    requires t_len { length (starts_first (lines_in t.now)) ≡ s }
     requires s_bound { s ≤ 9999998 }
-    ensures wrote { Wrote out.old 0 (startBytes 1 (startsFirst (linesIn t.now))) out.new
-        (lineBytes * s) }
-    ensures result_value { linesAt t.now result ≡ behindStarts (linesIn t.now) }
+    ensures wrote { Wrote out.old 0 (start_bytes 1 (starts_first (lines_in t.now))) out.new
+        (line_bytes * s) }
+    ensures result_value { lines_at t.now result ≡ behind_starts (lines_in t.now) }
     ensures upper_bound { result ≤ length t.now }
 {
     let mut at = 0;

@@ -15,103 +15,103 @@ use Rattle.values.specs.Value.{Item, default, item_of, spelled}
 use Rattle.records.specs.Flow.{firm, gap, piece}
 use Rattle.records.specs.Reading.{Writable}
 use Rattle.records.specs.Written.{Put}
-use Rattle.records.proofs.Puts.{then, Owed, owed_all, owed-less, owed_none, put-length}
+use Rattle.records.proofs.Puts.{then, Owed, owed_all, owed_less, owed_none, put-length}
 use Rattle.directory.specs.declared.Fields.{Fields}
 use Rattle.sheets.specs.declared.Said.{Said}
 use Rattle.sheets.specs.declared.Said.TheVariants.{Start, Global, Entry, Value as Given, Last, Nothing}
 use Rattle.sheets.specs.Line.{run}
-use Rattle.sheets.specs.Sheet.{Line, start, global, last, none, lineFrom, says_of, lastPiece, linesIn}
+use Rattle.sheets.specs.Sheet.{Line, start, global, last, none, line_from, says_of, last_piece, lines_in}
 use Rattle.sheets.specs.Reading.{Within}
-use Rattle.sheets.proofs.Walk.{line-says, lines-first}
+use Rattle.sheets.proofs.Walk.{line_says, lines_first}
 use Rattle.model.specs.Canonical.{filled}
 use Rattle.file_blocks.specs.declared.GlobalLine.{GlobalLine}
 use Rattle.file_blocks.specs.declared.GlobalLine.TheVariants.{Field, Otherwise}
-use Rattle.sheets_rows.proofs.Rows.{behind-none, piece-gives-none}
-use Rattle.file_blocks.specs.Blocks.{globalGiven, globalsFirst, behindGlobals}
+use Rattle.sheets_rows.proofs.Rows.{behind-none, piece_gives_none}
+use Rattle.file_blocks.specs.Blocks.{global_given, globals_first, behind_globals}
 use Rattle.file_blocks.specs.Writing.{parted, FieldStands, FieldsEnd, FieldAt}
 use Rattle.file_blocks.proofs.Ended.{put_same}
-use Rattle.file_blocks.proofs.Said.{global-writable, line-part, lines-whole}
+use Rattle.file_blocks.proofs.Said.{global_writable, line-part, lines_whole}
 
 -- ---- a line
 
 -- the fields end
-ends_at : (t : List ℕ) (at : ℕ) {ls : List Line} → linesIn (drop at t) ≡ ls → globalsFirst ls ≡ [] → FieldsEnd t at
-unfolding globalsFirst behindGlobals
+ends_at : (t : List ℕ) (at : ℕ) {ls : List Line} → lines_in (drop at t) ≡ ls → globals_first ls ≡ [] → FieldsEnd t at
+unfolding globals_first behind_globals
 ends_at t at e h =
-    let f : globalsFirst (linesIn (drop at t)) ≡ [] = ap globalsFirst e ∙ h in
-    record { fields = f; behind = behind-none globalGiven (linesIn (drop at t)) f }
+    let f : globals_first (lines_in (drop at t)) ≡ [] = ap globals_first e ∙ h in
+    record { fields = f; behind = behind-none global_given (lines_in (drop at t)) f }
 
-piece-ends : (t : List ℕ) → globalsFirst (lastPiece t) ≡ []
-unfolding globalsFirst
-piece-ends t = piece-gives-none globalGiven (λ b. refl) t
+piece_ends : (t : List ℕ) → globals_first (last_piece t) ≡ []
+unfolding globals_first
+piece_ends t = piece_gives_none global_given (λ b. refl) t
 
 module _ (t : List ℕ) (at end : ℕ) (run_is : end ≡ at + run 10 (drop at t)) where
   pub field-none : end ≡ length t → FieldsEnd t at
-  field-none h = ends_at t at (lines-whole t at end run_is h) (piece-ends (drop at t))
+  field-none h = ends_at t at (lines_whole t at end run_is h) (piece_ends (drop at t))
 
   module _ (lo : at ≤ end) (hi : end ≤ length t) (h : end ≡ length t → ⊥) (x : Said) (e : x ≡ says_of (columns t at end)) where
-    lines_are : (i : Line) → lineFrom (columns t at end) x ≡ i → linesIn (drop at t) ≡ i ∷ linesIn (drop (end + 1) t)
+    lines_are : (i : Line) → line_from (columns t at end) x ≡ i → lines_in (drop at t) ≡ i ∷ lines_in (drop (end + 1) t)
     lines_are i q =
         let k : end < length t = omega arith in
-        lines-first t at end lo k run_is ∙ ap (λ (j : Line). j ∷ linesIn (drop (end + 1) t)) (line-says (columns t at end) x e ∙ q)
+        lines_first t at end lo k run_is ∙ ap (λ (j : Line). j ∷ lines_in (drop (end + 1) t)) (line_says (columns t at end) x e ∙ q)
 
     pub field-here : {n k : ℕ} {v : Value} → Within (end - at) x → x ≡ Global n k v → FieldStands t at n (at + k) end v
-    unfolding globalsFirst behindGlobals
+    unfolding globals_first behind_globals
     field-here {n} {k} {v} w q =
         let i : Within (end - at) (Global n k v) = rw q at w in
-        let ls : linesIn (drop at t) ≡ global n (item_of (take (end - (at + k)) (drop (at + k) t)) v) ∷ linesIn (drop (end + 1) t)
+        let ls : lines_in (drop at t) ≡ global n (item_of (take (end - (at + k)) (drop (at + k) t)) v) ∷ lines_in (drop (end + 1) t)
         = lines_are (global n (item_of (take (end - (at + k)) (drop (at + k) t)) v))
-        (ap (lineFrom (columns t at end)) q ∙ ap (λ (l : List ℕ). global n (item_of l v)) (line-part t at k end)) in
+        (ap (line_from (columns t at end)) q ∙ ap (λ (l : List ℕ). global n (item_of l v)) (line-part t at k end)) in
         record {
           low = omega arith;
           inside = omega arith;
           high = omega arith;
           field = i.1;
-          writable = global-writable t at end lo hi x e q;
-          fields = ap globalsFirst ls;
-          behind = ap behindGlobals ls;
+          writable = global_writable t at end lo hi x e q;
+          fields = ap globals_first ls;
+          behind = ap behind_globals ls;
         }
 
     pub start-here : x ≡ Start → FieldsEnd t at
-    unfolding globalsFirst
-    start-here q = ends_at t at (lines_are (start (drop 2 (columns t at end))) (ap (lineFrom (columns t at end)) q)) refl
+    unfolding globals_first
+    start-here q = ends_at t at (lines_are (start (drop 2 (columns t at end))) (ap (line_from (columns t at end)) q)) refl
 
     pub value-here : {reference : Bool} {v : Value} → x ≡ Given reference v → FieldsEnd t at
-    unfolding globalsFirst
-    value-here {reference} {v} q = ends_at t at (lines_are (lineFrom (columns t at end) (Given reference v)) (ap (lineFrom (columns t at end)) q)) refl
+    unfolding globals_first
+    value-here {reference} {v} q = ends_at t at (lines_are (line_from (columns t at end) (Given reference v)) (ap (line_from (columns t at end)) q)) refl
 
     pub entry_here : {known : Bool} {n : Signed} {f : Fields} → x ≡ Entry known n f → FieldsEnd t at
-    unfolding globalsFirst
-    entry_here {known} {n} {f} q = ends_at t at (lines_are (lineFrom (columns t at end) (Entry known n f)) (ap (lineFrom (columns t at end)) q)) refl
+    unfolding globals_first
+    entry_here {known} {n} {f} q = ends_at t at (lines_are (line_from (columns t at end) (Entry known n f)) (ap (line_from (columns t at end)) q)) refl
 
-    pub last-here : {n : ℕ} → x ≡ Last n → FieldsEnd t at
-    unfolding globalsFirst
-    last-here {n} q = ends_at t at (lines_are (last n) (ap (lineFrom (columns t at end)) q)) refl
+    pub last_here : {n : ℕ} → x ≡ Last n → FieldsEnd t at
+    unfolding globals_first
+    last_here {n} q = ends_at t at (lines_are (last n) (ap (line_from (columns t at end)) q)) refl
 
-    pub nothing-here : {b : Bool} → x ≡ Nothing b → FieldsEnd t at
-    unfolding globalsFirst
-    nothing-here {b} q = ends_at t at (lines_are (none b) (ap (lineFrom (columns t at end)) q)) refl
+    pub nothing_here : {b : Bool} → x ≡ Nothing b → FieldsEnd t at
+    unfolding globals_first
+    nothing_here {b} q = ends_at t at (lines_are (none b) (ap (line_from (columns t at end)) q)) refl
 
-pub field_fits : (t : List ℕ) (at end : ℕ) (x : Said) {n k : ℕ} {v : Value} → Within (end - at) x → x ≡ Global n k v → at ≤ end → end ≤ length t → length t < 2 ^ 64 → at + k < 2 ^ 64
-field_fits t at end x {n} {k} {v} w q l h m =
+pub field_fits_lem : (t : List ℕ) (at end : ℕ) (x : Said) {n k : ℕ} {v : Value} → Within (end - at) x → x ≡ Global n k v → at ≤ end → end ≤ length t → length t < 2 ^ 64 → at + k < 2 ^ 64
+field_fits_lem t at end x {n} {k} {v} w q l h m =
     let i : Within (end - at) (Global n k v) = rw q at w in
     omega arith
 
-pub ruleset fielded = (field-none, field-here, start-here, value-here, entry_here, last-here, nothing-here, field_fits)
+pub ruleset fielded = (field-none, field-here, start-here, value-here, entry_here, last_here, nothing_here, field_fits_lem)
 
 -- ---- fields that are not given
 
 -- a default is its delimiter
-default-piece : (w p : ℕ) → 1 ≤ w → piece w p default false ≡ 44 ∷ []
+default_piece : (w p : ℕ) → 1 ≤ w → piece w p default false ≡ 44 ∷ []
 unfolding piece gap firm spelled
-default-piece w p h = simp (le-leb (p % w + 1) w (omega (arith, mod-lt p h)))
+default_piece w p h = simp (le-leb (p % w + 1) w (omega (arith, mod-lt p h)))
 
 defaults : (w : ℕ) → 1 ≤ w → (j p : ℕ) (vs : List Item) → parted w p (replicate j default ++ vs) ≡ replicate j 44 ++ parted w (p + j) vs
 unfolding parted
 defaults w h zero p vs = rw add-zero
 defaults w h (suc j) p vs =
     let e : p + 1 + j ≡ p + suc j = omega arith in
-    rw (default-piece w p h, ← e) (ap (λ (l : List ℕ). 44 ∷ l) (defaults w h j (p + 1) vs))
+    rw (default_piece w p h, ← e) (ap (λ (l : List ℕ). 44 ∷ l) (defaults w h j (p + 1) vs))
 
 -- the delimiters of those before it, and the field
 pub one_field : {base p a r : ℕ} {o oa o1 : List ℕ} (n number j : ℕ) (v : Item) → j ≡ number - n → Put base 72 o p (replicate j 44) oa a → a ≡ p + j → Put base 72 oa a (piece 72 a v false) o1 r
@@ -132,10 +132,10 @@ parted-append w p (v ∷ xs) ys =
     ap (λ (l : List ℕ). z ++ l) (parted-append w q xs ys) ∙ sym (append_assoc z (parted w q xs) (parted w (q + length (parted w q xs)) ys)) ∙ ap (λ (k : ℕ). (z ++ parted w q xs) ++ parted w k ys) e
 
 -- the first field, and the others
-first_field : (w p n : ℕ) (g : ℕ × Item) (gs : List (ℕ × Item))
+first_field_lem : (w p n : ℕ) (g : ℕ × Item) (gs : List (ℕ × Item))
     → parted w p (filled n (g ∷ gs)) ≡ parted w p (filled n (g ∷ [])) ++ parted w (p + length (parted w p (filled n (g ∷ [])))) (filled (suc g.0) gs)
 unfolding filled
-first_field w p n g gs =
+first_field_lem w p n g gs =
     let ds : List Item = replicate (g.0 - n) default in
     ap (parted w p) (sym (append_assoc ds (g.1 ∷ []) (filled (suc g.0) gs))) ∙ parted-append w p (ds ++ (g.1 ∷ [])) (filled (suc g.0) gs)
 
@@ -154,11 +154,11 @@ module _ (t : List ℕ) (at : ℕ) {x : GlobalLine} (h : FieldAt t at x) {number
   stands : FieldStands t at number from end v
   stands = rw q at h
 
-  pub field-low : from ≤ end
-  field-low = stands.inside
+  pub field_low : from ≤ end
+  field_low = stands.inside
 
-  pub field-high : end ≤ length t
-  field-high = omega (arith, stands.high)
+  pub field_high : end ≤ length t
+  field_high = omega (arith, stands.high)
 
   pub field_next : end + 1 ≤ length t
   field_next = omega (arith, stands.high)
@@ -169,13 +169,13 @@ module _ (t : List ℕ) (at : ℕ) {x : GlobalLine} (h : FieldAt t at x) {number
   pub field-sum : length t < 2 ^ 64 → end + 1 < 2 ^ 64
   field-sum k = omega (arith, stands.high)
 
-  pub field-less : length t - (end + 1) < length t - at
-  field-less = omega (arith, stands.low, stands.inside, stands.high)
+  pub field_less : length t - (end + 1) < length t - at
+  field_less = omega (arith, stands.low, stands.inside, stands.high)
 
-  pub field-few : number ≤ 24
-  field-few = stands.field
+  pub field_few : number ≤ 24
+  field_few = stands.field
 
-  pub field-behind : (ls : List Line) → behindGlobals (linesIn (drop at t)) ≡ ls → behindGlobals (linesIn (drop (end + 1) t)) ≡ ls
+  pub field-behind : (ls : List Line) → behind_globals (lines_in (drop at t)) ≡ ls → behind_globals (lines_in (drop (end + 1) t)) ≡ ls
   field-behind ls e = sym stands.behind ∙ e
 
   pub field-written : Writable (length (take (end - from) (drop from t))) v
@@ -184,26 +184,26 @@ module _ (t : List ℕ) (at : ℕ) {x : GlobalLine} (h : FieldAt t at x) {number
       part : (t : List ℕ) (from end : ℕ) → from ≤ end → end ≤ length t → length (take (end - from) (drop from t)) ≡ end - from
       part t from end a b = simp (length-take, length-drop) (omega arith)
 
-  pub field-more : {base p r r' : ℕ} {o bs o1 o2 : List ℕ} (n : ℕ) → Owed base 72 o p bs o1 r (parted 72 r (filled n (globalsFirst (linesIn (drop at t)))))
+  pub field-more : {base p r r' : ℕ} {o bs o1 o2 : List ℕ} (n : ℕ) → Owed base 72 o p bs o1 r (parted 72 r (filled n (globals_first (lines_in (drop at t)))))
       → Put base 72 o1 r (parted 72 r (filled n ((number, item_of (take (end - from) (drop from t)) v) ∷ []))) o2 r'
-      → Owed base 72 o p bs o2 r' (parted 72 r' (filled (number + 1) (globalsFirst (linesIn (drop (end + 1) t)))))
+      → Owed base 72 o p bs o2 r' (parted 72 r' (filled (number + 1) (globals_first (lines_in (drop (end + 1) t)))))
   field-more {r = r} n a y =
-      let gs = globalsFirst (linesIn (drop (end + 1) t)) in
+      let gs = globals_first (lines_in (drop (end + 1) t)) in
       let g : ℕ × Item = (number, item_of (take (end - from) (drop from t)) v) in
-      rw (y.next, add-one number) (owed-less (rw (stands.fields, first_field 72 r n g gs) at a) (rw y.next at y))
+      rw (y.next, add-one number) (owed_less (rw (stands.fields, first_field_lem 72 r n g gs) at a) (rw y.next at y))
 
 module _ (t : List ℕ) (at : ℕ) {x : GlobalLine} (h : FieldAt t at x) (q : x ≡ Otherwise) where
   done : FieldsEnd t at
   done = rw q at h
 
-  pub fields-behind : (ls : List Line) → behindGlobals (linesIn (drop at t)) ≡ ls → linesIn (drop at t) ≡ ls
-  fields-behind ls e = sym done.behind ∙ e
+  pub fields_behind : (ls : List Line) → behind_globals (lines_in (drop at t)) ≡ ls → lines_in (drop at t) ≡ ls
+  fields_behind ls e = sym done.behind ∙ e
 
-  pub fields-all : {base w p r : ℕ} {o bs o1 : List ℕ} (n : ℕ) → Owed base w o p bs o1 r (parted w r (filled n (globalsFirst (linesIn (drop at t))))) → Put base w o p bs o1 r
+  pub fields_all : {base w p r : ℕ} {o bs o1 : List ℕ} (n : ℕ) → Owed base w o p bs o1 r (parted w r (filled n (globals_first (lines_in (drop at t))))) → Put base w o p bs o1 r
   unfolding parted filled
-  fields-all n a = owed_none (rw done.fields at a)
+  fields_all n a = owed_none (rw done.fields at a)
 
-pub fields-room : {base w p r : ℕ} {o bs o1 cs : List ℕ} → Owed base w o p bs o1 r cs → p + length bs ≤ 2 ^ 39 → r ≤ 2 ^ 39
-fields-room a h = omega (arith, a.next)
+pub fields_room : {base w p r : ℕ} {o bs o1 cs : List ℕ} → Owed base w o p bs o1 r cs → p + length bs ≤ 2 ^ 39 → r ≤ 2 ^ 39
+fields_room a h = omega (arith, a.next)
 
-pub ruleset looping = (owed_all, field-low, field-high, field_next, field-on, field-sum, field-less, field-few, field-behind, field-written, field-more, fields-behind, fields-all, fields-room, put-length)
+pub ruleset looping = (owed_all, field_low, field_high, field_next, field-on, field-sum, field_less, field_few, field-behind, field-written, field-more, fields_behind, fields_all, fields_room, put-length)

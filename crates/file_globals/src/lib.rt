@@ -1,16 +1,16 @@
 // The G lines, from those of a sheet.
 ghost use Rattle.std.specs.Prelude.{◌≡◌, [], ◌∷◌, ◌+◌, ◌-◌, ◌^◌, ◌≤◌, ◌<◌, length};
 ghost use Rattle.columns.specs.Laid.{laid};
-ghost use Rattle.columns.specs.Format.{textColumns};
-ghost use Rattle.columns.specs.Letters.{letterG};
+ghost use Rattle.columns.specs.Format.{text_columns};
+ghost use Rattle.columns.specs.Letters.{letter_g};
 ghost use Rattle.values.specs.Value.{item_of};
-ghost use Rattle.records.specs.Flow.{lineCount};
-ghost use Rattle.records.specs.Global.{firstField, lastField};
+ghost use Rattle.records.specs.Flow.{line_count};
+ghost use Rattle.records.specs.Global.{first_field, last_field};
 ghost use Rattle.records.specs.Reading.{Writable};
 ghost use Rattle.records.specs.Written.{Put};
-ghost use Rattle.model.specs.Canonical.{filled, globalText};
-ghost use Rattle.sheets_rows.specs.Rows.{linesAt};
-ghost use Rattle.file_blocks.specs.Blocks.{fields_at, behindGlobals, global_bytes};
+ghost use Rattle.model.specs.Canonical.{filled, global_text};
+ghost use Rattle.sheets_rows.specs.Rows.{lines_at};
+ghost use Rattle.file_blocks.specs.Blocks.{fields_at, behind_globals, global_bytes};
 ghost use Rattle.file_blocks.specs.Writing.{parted, tailed, FieldAt};
 
 use columns::format::{LINE_BYTES, TEXT_COLUMNS};
@@ -72,10 +72,10 @@ fn put_field(
 ) -> usize
     requires base_bound { base ≤ 2 ^ 40 }
     requires p_bound { p ≤ 2 ^ 39 }
-    requires number_le_last_field { number ≤ lastField }
+    requires number_le_last_field { number ≤ last_field }
     requires writable { Writable (length src.now) v }
-    ensures { Put base textColumns out.old p
-        (parted textColumns p (filled n ((number, item_of src.now v) ∷ []))) out.new result }
+    ensures { Put base text_columns out.old p
+        (parted text_columns p (filled n ((number, item_of src.now v) ∷ []))) out.new result }
 {
     let a = records_flow::put_run(out, base, TEXT_COLUMNS, p, COMMA, missing(n, number));
     records_flow::put_piece(out, base, TEXT_COLUMNS, a, src, v, false)
@@ -85,10 +85,10 @@ fn put_field(
 fn put_fields(out: &mut [u8], base: usize, t: &[u8], at: usize, p: usize) -> Flowed
     requires at_in_bounds { at ≤ length t.now }
     requires base_bound { base ≤ 2 ^ 40 }
-    requires at_bound { p + length (parted textColumns p (filled firstField (fields_at t.now at))) ≤ 2 ^ 39 }
-    ensures put { Put base textColumns out.old p
-        (parted textColumns p (filled firstField (fields_at t.now at))) out.new result.end }
-    ensures next_value { linesAt t.now result.next ≡ behindGlobals (linesAt t.now at) }
+    requires at_bound { p + length (parted text_columns p (filled first_field (fields_at t.now at))) ≤ 2 ^ 39 }
+    ensures put { Put base text_columns out.old p
+        (parted text_columns p (filled first_field (fields_at t.now at))) out.new result.end }
+    ensures next_value { lines_at t.now result.next ≡ behind_globals (lines_at t.now at) }
     ensures at_le_next { (at ≤ result.next) × (result.next ≤ length t.now) }
 {
     let mut next = at;
@@ -117,7 +117,7 @@ fn put_fields(out: &mut [u8], base: usize, t: &[u8], at: usize, p: usize) -> Flo
 fn put_tails(out: &mut [u8], q: usize, lines: usize)
     requires q_bound { q ≤ 2 ^ 41 }
     requires lines_bound { lines ≤ 9999998 }
-    ensures { out.new ≡ tailed out.old q [] letterG 1 lines }
+    ensures { out.new ≡ tailed out.old q [] letter_g 1 lines }
 {
     let mut at = q;
     let mut i = 0;
@@ -132,11 +132,11 @@ fn put_tails(out: &mut [u8], q: usize, lines: usize)
 pub fn put_globals(out: &mut [u8], base: usize, t: &[u8], at: usize) -> Block
     requires at_in_bounds { at ≤ length t.now }
     requires base_bound { base ≤ 2 ^ 36 }
-    requires at_len_bound { length (globalText (fields_at t.now at)) ≤ 2 ^ 36 }
-    requires at_bound { 1 + lineCount textColumns (length (globalText (fields_at t.now at))) ≤ 9999999 }
+    requires at_len_bound { length (global_text (fields_at t.now at)) ≤ 2 ^ 36 }
+    requires at_bound { 1 + line_count text_columns (length (global_text (fields_at t.now at))) ≤ 9999999 }
     ensures out_after { out.new ≡ laid out.old base (global_bytes (fields_at t.now at)) }
-    ensures lines_value { result.lines ≡ lineCount textColumns (length (globalText (fields_at t.now at))) }
-    ensures next_value { linesAt t.now result.next ≡ behindGlobals (linesAt t.now at) }
+    ensures lines_value { result.lines ≡ line_count text_columns (length (global_text (fields_at t.now at))) }
+    ensures next_value { lines_at t.now result.next ≡ behind_globals (lines_at t.now at) }
     ensures at_le_next { (at ≤ result.next) × (result.next ≤ length t.now) }
 {
     let p = records_flow::put_all(out, base, TEXT_COLUMNS, 0, b"1H,,1H;,");

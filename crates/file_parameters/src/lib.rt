@@ -2,17 +2,17 @@
 ghost use Rattle.std.specs.Prelude.{◌≡◌, false, ◌++◌, ◌+◌, ◌^◌, ◌≤◌, ◌<◌, length};
 ghost use Rattle.columns.specs.Columns.{joined};
 ghost use Rattle.columns.specs.Laid.{laid, Wrote};
-ghost use Rattle.columns.specs.Format.{parameterColumns};
-ghost use Rattle.columns.specs.Letters.{letterP};
+ghost use Rattle.columns.specs.Format.{parameter_columns};
+ghost use Rattle.columns.specs.Letters.{letter_p};
 ghost use Rattle.values.specs.declared.Strict.TheVariants.{Is};
 ghost use Rattle.values.specs.Value.{item_of};
-ghost use Rattle.values.specs.Strict.{strictOf, meant};
-ghost use Rattle.records.specs.Flow.{piece, lineCount};
+ghost use Rattle.values.specs.Strict.{strict_of, meant};
+ghost use Rattle.records.specs.Flow.{piece, line_count};
 ghost use Rattle.records.specs.Written.{Put};
 ghost use Rattle.cards.specs.Written.{section};
-ghost use Rattle.sheets_rows.specs.Rows.{linesAt};
-ghost use Rattle.file_blocks.specs.Blocks.{behindValues, Unbroken, itemsAt, recordText, block_lines, BlockHasRoom, tailOf};
-ghost use Rattle.file_blocks.specs.Writing.{parted, ownerOf, tailed};
+ghost use Rattle.sheets_rows.specs.Rows.{lines_at};
+ghost use Rattle.file_blocks.specs.Blocks.{behind_values, Unbroken, items_at, record_text, block_lines, BlockHasRoom, tail_of};
+ghost use Rattle.file_blocks.specs.Writing.{parted, owner_of, tailed};
 
 use columns::format::{LINE_BYTES, NUMBER_COLUMNS, PARAMETER_COLUMNS};
 use columns::{DirectoryNumber, ParameterLine};
@@ -25,9 +25,9 @@ const COMMA: u8 = b',';
 fn put_spelled(out: &mut [u8], base: usize, p: usize, l: &[u8]) -> usize
     requires base_bound { base ≤ 2 ^ 40 }
     requires p_bound { p ≤ 2 ^ 40 }
-    requires l_value { strictOf l.now ≡ Is (meant l.now) }
-    ensures { Put base parameterColumns out.old p
-        (piece parameterColumns p (item_of l.now (meant l.now)) false) out.new result }
+    requires l_value { strict_of l.now ≡ Is (meant l.now) }
+    ensures { Put base parameter_columns out.old p
+        (piece parameter_columns p (item_of l.now (meant l.now)) false) out.new result }
 {
     let n = values_strict::front_of(l);
     let g = records_flow::gap_of(PARAMETER_COLUMNS, p, n + 1);
@@ -41,11 +41,11 @@ fn put_spelled(out: &mut [u8], base: usize, p: usize, l: &[u8]) -> usize
 fn put_values(out: &mut [u8], base: usize, t: &[u8], at: usize, p: usize) -> Flowed
     requires at_in_bounds { at ≤ length t.now }
     requires base_bound { base ≤ 2 ^ 40 }
-    requires at_bound { p + length (parted parameterColumns p (itemsAt t.now at)) ≤ 2 ^ 40 }
-    requires unbroken { Unbroken (linesAt t.now at) }
-    ensures put { Put base parameterColumns out.old p (parted parameterColumns p (itemsAt t.now at))
+    requires at_bound { p + length (parted parameter_columns p (items_at t.now at)) ≤ 2 ^ 40 }
+    requires unbroken { Unbroken (lines_at t.now at) }
+    ensures put { Put base parameter_columns out.old p (parted parameter_columns p (items_at t.now at))
         out.new result.end }
-    ensures next_value { linesAt t.now result.next ≡ behindValues (linesAt t.now at) }
+    ensures next_value { lines_at t.now result.next ≡ behind_values (lines_at t.now at) }
     ensures at_le_next { (at ≤ result.next) × (result.next ≤ length t.now) }
 {
     let mut next = at;
@@ -66,7 +66,7 @@ fn put_owned(out: &mut [u8], at: usize, number: DirectoryNumber, n: ParameterLin
     requires at_bound { at < 2 ^ 59 }
     requires number_bound { number.0 ≤ 9999999 }
     requires n_bound { n.0 ≤ 9999999 }
-    ensures wrote { Wrote out.old at (ownerOf number.0 ++ tailOf letterP n.0) out.new result }
+    ensures wrote { Wrote out.old at (owner_of number.0 ++ tail_of letter_p n.0) out.new result }
     ensures value { result ≡ at + 17 }
 {
     let a = columns_emit::put(out, at, b' ');
@@ -79,7 +79,7 @@ fn put_tails(out: &mut [u8], q: usize, number: DirectoryNumber, from: ParameterL
     requires q_bound { q ≤ 2 ^ 41 }
     requires number_bound { number.0 ≤ 9999999 }
     requires lines_bound { from.0 + lines ≤ 9999999 }
-    ensures { out.new ≡ tailed out.old q (ownerOf number.0) letterP from.0 lines }
+    ensures { out.new ≡ tailed out.old q (owner_of number.0) letter_p from.0 lines }
 {
     let mut at = q;
     let mut i = 0;
@@ -103,9 +103,9 @@ pub fn put_block(
     requires { BlockHasRoom t.now at base typ number.0 from.0 }
     ensures out_after { out.new
         ≡ laid out.old base
-        (joined (section letterP from.0 (block_lines number.0 typ (itemsAt t.now at)))) }
-    ensures lines_value { result.lines ≡ lineCount parameterColumns (length (recordText typ (itemsAt t.now at))) }
-    ensures next_value { linesAt t.now result.next ≡ behindValues (linesAt t.now at) }
+        (joined (section letter_p from.0 (block_lines number.0 typ (items_at t.now at)))) }
+    ensures lines_value { result.lines ≡ line_count parameter_columns (length (record_text typ (items_at t.now at))) }
+    ensures next_value { lines_at t.now result.next ≡ behind_values (lines_at t.now at) }
     ensures at_le_next { (at ≤ result.next) × (result.next ≤ length t.now) }
 {
     let v = Value::Whole {

@@ -1,14 +1,14 @@
 // How many lines the canonical file of a sheet has, line by line, for a walk over the sheet. Nothing is counted further than a file goes.
 ghost use Rattle.std.specs.Prelude.{◌≡◌, false, ◌+◌, ◌-◌, ◌^◌, ◌≤◌, ◌<◌};
-ghost use Rattle.columns.specs.Format.{textColumns, parameterColumns};
+ghost use Rattle.columns.specs.Format.{text_columns, parameter_columns};
 ghost use Rattle.values.specs.declared.Value.TheVariants.{Whole};
 ghost use Rattle.values.specs.declared.Strict.TheVariants.{Is};
 ghost use Rattle.values.specs.Value.{item_of};
-ghost use Rattle.values.specs.Strict.{strictOf};
-ghost use Rattle.records.specs.Flow.{lineCount};
-ghost use Rattle.records.specs.Written.{copied, pieceEnd};
-ghost use Rattle.file_canonical.specs.Counting.{skipped, withStart, withGlobal, withEntry, withValue};
-ghost use Rattle.file_canonical.specs.Counting.{tallySaid, countsIn, totalIn, within, behindValue, capped, Under, Few, Short};
+ghost use Rattle.values.specs.Strict.{strict_of};
+ghost use Rattle.records.specs.Flow.{line_count};
+ghost use Rattle.records.specs.Written.{copied, piece_end};
+ghost use Rattle.file_canonical.specs.Counting.{skipped, with_start, with_global, with_entry, with_value};
+ghost use Rattle.file_canonical.specs.Counting.{tally_said, counts_in, total_in, within, behind_value, capped, Under, Few, Short};
 
 use cards::Counts;
 use columns::format::{MOST_LINES, PARAMETER_COLUMNS, TEXT_COLUMNS};
@@ -33,7 +33,7 @@ fn skipped(field: u32, n: u32) -> usize
 // An S line.
 fn with_start(x: Tally) -> Tally
     requires { Under (2 ^ 36) x }
-    ensures value { result ≡ withStart x }
+    ensures value { result ≡ with_start x }
     ensures under { Under (2 ^ 38) result }
 {
     Tally {
@@ -50,7 +50,7 @@ fn with_start(x: Tally) -> Tally
 fn with_global(x: Tally, n: u32, v: Value) -> Tally
     requires under { Under (2 ^ 36) x }
     requires v_bound { copied v ≤ 999 }
-    ensures value { result ≡ withGlobal x n (pieceEnd textColumns (x.global + skipped x.field n) v) }
+    ensures value { result ≡ with_global x n (piece_end text_columns (x.global + skipped x.field n) v) }
     ensures under_2 { Under (2 ^ 38) result }
 {
     let k = skipped(x.field, n);
@@ -68,7 +68,7 @@ fn with_global(x: Tally, n: u32, v: Value) -> Tally
 // An entry line: the lines of the entry before are whole.
 fn with_entry(x: Tally, typ: u32) -> Tally
     requires { Under (2 ^ 36) x }
-    ensures value { result ≡ withEntry x (lineCount parameterColumns x.at) (pieceEnd parameterColumns 0 (Whole false typ)) }
+    ensures value { result ≡ with_entry x (line_count parameter_columns x.at) (piece_end parameter_columns 0 (Whole false typ)) }
     ensures under { Under (2 ^ 38) result }
 {
     let k = line_count(PARAMETER_COLUMNS, x.at);
@@ -91,7 +91,7 @@ fn with_entry(x: Tally, typ: u32) -> Tally
 fn with_value(x: Tally, v: Value) -> Tally
     requires under { Under (2 ^ 36) x }
     requires v_bound { copied v ≤ 999 }
-    ensures value { result ≡ withValue x (pieceEnd parameterColumns x.at v) }
+    ensures value { result ≡ with_value x (piece_end parameter_columns x.at v) }
     ensures under_2 { Under (2 ^ 38) result }
 {
     let e = piece_end(PARAMETER_COLUMNS, x.at, v);
@@ -109,7 +109,7 @@ fn with_value(x: Tally, v: Value) -> Tally
 pub fn tally_said(x: Tally, y: Said) -> Tally
     requires under { Under (2 ^ 36) x }
     requires short { Short y }
-    ensures value { result ≡ tallySaid x y }
+    ensures value { result ≡ tally_said x y }
     ensures under_2 { Under (2 ^ 38) result }
 {
     match y {
@@ -128,8 +128,8 @@ pub fn tally_said(x: Tally, y: Said) -> Tally
 // The position behind the value of a value line, which stands at p: what the line says is its canonical spelling, so its length tells it.
 pub fn behind_value(p: usize, l: &[u8], v: Value) -> usize
     requires p_bound { p ≤ 2 ^ 38 }
-    requires l_value { strictOf l.now ≡ Is v }
-    ensures value { result ≡ behindValue p (item_of l.now v) }
+    requires l_value { strict_of l.now ≡ Is v }
+    ensures value { result ≡ behind_value p (item_of l.now v) }
     ensures upper_bound { result ≤ 2 ^ 38 }
 {
     if MOST_COLUMNS < p {
@@ -140,7 +140,7 @@ pub fn behind_value(p: usize, l: &[u8], v: Value) -> usize
 
 fn total_of(x: Tally) -> usize
     requires { Under (2 ^ 38) x }
-    ensures { result ≡ totalIn x }
+    ensures { result ≡ total_in x }
 {
     let g = line_count(TEXT_COLUMNS, x.global);
     let p = line_count(PARAMETER_COLUMNS, x.at);
@@ -152,7 +152,7 @@ fn total_of(x: Tally) -> usize
 pub fn with_values(x: Tally, at: usize) -> Tally
     requires under { Under (2 ^ 38) x }
     requires at_bound { at ≤ 2 ^ 38 }
-    ensures value { result ≡ capped (withValue x at) }
+    ensures value { result ≡ capped (with_value x at) }
     ensures under_2 { Under (2 ^ 36) result }
 {
     let y = Tally {
@@ -180,7 +180,7 @@ pub fn with_values(x: Tally, at: usize) -> Tally
 fn counts_in(x: Tally) -> Counts
     requires under { Under (2 ^ 36) x }
     requires few { Few x }
-    ensures { result ≡ countsIn x }
+    ensures { result ≡ counts_in x }
 {
     let g = line_count(TEXT_COLUMNS, x.global);
     let p = line_count(PARAMETER_COLUMNS, x.at);

@@ -14,7 +14,7 @@ use Rattle.layouts.specs.declared.Stepped.{Stepped}
 use Rattle.layouts.specs.declared.Stepped.TheVariants.{Go, Bad}
 use Rattle.layouts.specs.Named.{named}
 use Rattle.layouts.specs.Machine.{takes, moved, rests, kind_at, step}
-use Rattle.layouts.specs.Walk.{stepped, feed, run, marksFrom}
+use Rattle.layouts.specs.Walk.{stepped, feed, run, marks_from}
 
 -- ---- where a string stands, and how long it is, says nothing
 
@@ -63,10 +63,10 @@ feed-stepped types t (Go s) v = ap (step s (seen (item_of t v))) (named-seen typ
 -- ---- an entity's values
 
 module _ (types : List ℕ) where
-  pub run-bad : (vs : List Item) → run types Bad vs ≡ Bad
+  pub run_bad : (vs : List Item) → run types Bad vs ≡ Bad
   unfolding run
-  run-bad [] = refl
-  run-bad (v ∷ vs) = run-bad vs
+  run_bad [] = refl
+  run_bad (v ∷ vs) = run_bad vs
 
   pub run-append : (g : Stepped) (vs ws : List Item) → run types g (vs ++ ws) ≡ run types (run types g vs) ws
   unfolding run
@@ -74,7 +74,7 @@ module _ (types : List ℕ) where
   run-append g (v ∷ vs) ws = run-append (feed types g v) vs ws
 
   -- a mark for each value
-  pub marks-from : (g : Stepped) (vs : List Item) → length (marksFrom types g vs) ≡ length vs
-  unfolding marksFrom
+  pub marks-from : (g : Stepped) (vs : List Item) → length (marks_from types g vs) ≡ length vs
+  unfolding marks_from
   marks-from g [] = refl
   marks-from g (v ∷ vs) = ap suc (marks-from (feed types g v) vs)

@@ -20,11 +20,11 @@ use Rattle.layouts.specs.declared.LayoutState.{LayoutState}
 use Rattle.layouts.specs.declared.Stepped.{Stepped}
 use Rattle.layouts.specs.declared.Stepped.TheVariants.{Go, Bad}
 use Rattle.layouts.specs.Layout.{paper}
-use Rattle.layouts.specs.Table.{table, placeAt}
-use Rattle.layouts.specs.Machine.{takes, times, stand, settle, onward, rests, kind_at, moved, step, after, finish, end, withK1, withK2, withBad, follow, enter, beyond, ifEmpty}
+use Rattle.layouts.specs.Table.{table, place_at}
+use Rattle.layouts.specs.Machine.{takes, times, stand, settle, onward, rests, kind_at, moved, step, after, finish, end, with_k1, with_k2, with_bad, follow, enter, beyond, if_empty}
 use Rattle.layouts.specs.Walk.{ended}
-use Rattle.layouts.proofs.Tables.{and_both, up_to, upTo-at, past}
-use Rattle.layouts.proofs.Steps.{not-rest, stays}
+use Rattle.layouts.proofs.Tables.{and_both, up_to, up_to_at, past}
+use Rattle.layouts.proofs.Steps.{not_rest, stays}
 
 -- ---- a default at a place that took one changes nothing
 
@@ -38,18 +38,18 @@ never t e = let z : ◌≡◌ {A = ℕ} 0 1 = cc in absurd (no z)
     no : ◌≡◌ {A = ℕ} 0 1 → ⊥
     no z = omega arith
 
-or-false : (b : Bool) → (b || false) ≡ b
-or-false true = refl
-or-false false = refl
+or_false : (b : Bool) → (b || false) ≡ b
+or_false true = refl
+or_false false = refl
 
-or-true : (b : Bool) → (b || true) ≡ true
-or-true true = refl
-or-true false = refl
+or_true : (b : Bool) → (b || true) ≡ true
+or_true true = refl
+or_true false = refl
 
-or-again : (b x : Bool) → ((b || x) || x) ≡ (b || x)
-or-again true x = refl
-or-again false true = refl
-or-again false false = refl
+or_again : (b x : Bool) → ((b || x) || x) ≡ (b || x)
+or_again true x = refl
+or_again false true = refl
+or_again false false = refl
 
 idle : (k : Kind) (s t : LayoutState) (i n : ℕ) → takes k s Default 0 ≡ Go t → takes k (stand t i n) Default 0 ≡ Go (stand t i n)
 unfolding takes
@@ -63,22 +63,22 @@ idle (I low high) s t i n e = go (eqb low 0) e
     go true e = refl
     go false e = never t e
 idle Flag s t i n e = never t e
-idle Count s t i n e = ap (λ (x : LayoutState). Go (withK1 (stand t i n) x.k1)) (ap (λ (g : Stepped). state g s) e)
-idle Outer s t i n e = ap (λ (x : LayoutState). Go (withK2 (stand t i n) x.k2)) (ap (λ (g : Stepped). state g s) e)
+idle Count s t i n e = ap (λ (x : LayoutState). Go (with_k1 (stand t i n) x.k1)) (ap (λ (g : Stepped). state g s) e)
+idle Outer s t i n e = ap (λ (x : LayoutState). Go (with_k2 (stand t i n) x.k2)) (ap (λ (g : Stepped). state g s) e)
 idle Upper1 s t i n e = never t e
 idle Upper2 s t i n e = never t e
 idle Degree1 s t i n e = never t e
 idle Degree2 s t i n e = never t e
-idle (P want) s t i n e = ap (λ (b : Bool). Go (withBad (stand t i n) b)) (or-false t.bad)
+idle (P want) s t i n e = ap (λ (b : Bool). Go (with_bad (stand t i n) b)) (or_false t.bad)
 idle (Q want) s t i n e =
     let q : (s.bad || true) ≡ t.bad = ap (λ (g : Stepped). (state g s).bad) e in
-    ap (λ (b : Bool). Go (withBad (stand t i n) b)) (or-true t.bad ∙ sym (or-true s.bad) ∙ q)
+    ap (λ (b : Bool). Go (with_bad (stand t i n) b)) (or_true t.bad ∙ sym (or_true s.bad) ∙ q)
 idle (Bound want) s t i n e =
     let x = not (not (eqb s.k2 1)) in
     let q : (s.bad || x) ≡ t.bad = ap (λ (g : Stepped). (state g s).bad) e in
     let k : s.k2 ≡ t.k2 = ap (λ (g : Stepped). (state g s).k2) e in
-    ap (λ (b : Bool). Go (withBad (stand t i n) b))
-    (ap₂ (λ (b : Bool) (m : ℕ). b || not (not (eqb m 1))) (sym q) (sym k) ∙ or-again s.bad x ∙ q)
+    ap (λ (b : Bool). Go (with_bad (stand t i n) b))
+    (ap₂ (λ (b : Bool) (m : ℕ). b || not (not (eqb m 1))) (sym q) (sym k) ∙ or_again s.bad x ∙ q)
 idle Rest s t i n e = refl
 
 -- ---- how far it is to the end of a row
@@ -115,76 +115,76 @@ drops : ℕ → Then → Bool
 drops i Next = ltb (rank (i + 1)) (rank i)
 
 fair : ℕ → Bool
-fair i = (rests (placeAt i).kind || drops i (placeAt i).next) && ((not (rests (placeAt i).kind) || lone (placeAt i).times) && leb (rank i) 14)
+fair i = (rests (place_at i).kind || drops i (place_at i).next) && ((not (rests (place_at i).kind) || lone (place_at i).times) && leb (rank i) 14)
 
 all_fair : up_to 116 fair ≡ true
-unfolding fair drops rank placeAt table paper
+unfolding fair drops rank place_at table paper
 all_fair = refl
 
-rank-length : length (ranks table) ≡ 116
+rank_length : length (ranks table) ≡ 116
 unfolding table paper
-rank-length = refl
+rank_length = refl
 
-rank-past : (i : ℕ) → 116 ≤ i → rank i ≡ 0
+rank_past : (i : ℕ) → 116 ≤ i → rank i ≡ 0
 unfolding rank
-rank-past i h = get_or-eq_default (ranks table) 0 (rw rank-length h)
+rank_past i h = get_or-eq_default (ranks table) 0 (rw rank_length h)
 
-if-not : (a b : Bool) → a ≡ false → (a || b) ≡ true → b ≡ true
-if-not true b e h = absurd (false≢true (sym e))
-if-not false b e h = h
+if_not : (a b : Bool) → a ≡ false → (a || b) ≡ true → b ≡ true
+if_not true b e h = absurd (false≢true (sym e))
+if_not false b e h = h
 
-if-so : (a b : Bool) → a ≡ true → (not a || b) ≡ true → b ≡ true
-if-so true b e h = h
-if-so false b e h = absurd (false≢true e)
+if_so : (a b : Bool) → a ≡ true → (not a || b) ≡ true → b ≡ true
+if_so true b e h = h
+if_so false b e h = absurd (false≢true e)
 
 module _ (i : ℕ) where
   abbrev stop : Bool
-  stop = rests (placeAt i).kind
+  stop = rests (place_at i).kind
 
-  is-fair : i < 116 → fair i ≡ true
-  is-fair h = upTo-at 116 fair i all_fair h
+  is_fair : i < 116 → fair i ≡ true
+  is_fair h = up_to_at 116 fair i all_fair h
 
   inside-table : stop ≡ false → i < 116
-  inside-table e = not-rest i e
+  inside-table e = not_rest i e
 
-  falls : stop ≡ false → drops i (placeAt i).next ≡ true
+  falls : stop ≡ false → drops i (place_at i).next ≡ true
   unfolding fair
-  falls e = if-not stop (drops i (placeAt i).next) e (and_both (stop || drops i (placeAt i).next) _ (is-fair (inside-table e))).0
+  falls e = if_not stop (drops i (place_at i).next) e (and_both (stop || drops i (place_at i).next) _ (is_fair (inside-table e))).0
 
   -- past the table all is rest
-  stop-lone : stop ≡ true → lone (placeAt i).times ≡ true
+  stop-lone : stop ≡ true → lone (place_at i).times ≡ true
   unfolding fair
   stop-lone e = go (ltb i 116) refl
     where
-      go : (b : Bool) → ltb i 116 ≡ b → lone (placeAt i).times ≡ true
-      go true h = if-so stop (lone (placeAt i).times) e (and_both (not stop || lone (placeAt i).times) (leb (rank i) 14) (and_both (stop || drops i (placeAt i).next) _ (is-fair (ltb-true i 116 h))).1).0
+      go : (b : Bool) → ltb i 116 ≡ b → lone (place_at i).times ≡ true
+      go true h = if_so stop (lone (place_at i).times) e (and_both (not stop || lone (place_at i).times) (leb (rank i) 14) (and_both (stop || drops i (place_at i).next) _ (is_fair (ltb-true i 116 h))).1).0
       go false h = ap (λ (p : LayoutPlace). lone p.times) (past i (ltb-false i 116 h))
 
-  rank-low : rank i ≤ 14
+  rank_low : rank i ≤ 14
   unfolding fair
-  rank-low = go (ltb i 116) refl
+  rank_low = go (ltb i 116) refl
     where
       go : (b : Bool) → ltb i 116 ≡ b → rank i ≤ 14
-      go true h = leb-true (rank i) 14 (and_both (not stop || lone (placeAt i).times) (leb (rank i) 14) (and_both (stop || drops i (placeAt i).next) _ (is-fair (ltb-true i 116 h))).1).1
-      go false h = let z = rank-past i (ltb-false i 116 h) in omega arith
+      go true h = leb-true (rank i) 14 (and_both (not stop || lone (place_at i).times) (leb (rank i) 14) (and_both (stop || drops i (place_at i).next) _ (is_fair (ltb-true i 116 h))).1).1
+      go false h = let z = rank_past i (ltb-false i 116 h) in omega arith
 
 follow-falls : (s : LayoutState) (x : Then) → drops s.at x ≡ true → rank (follow x s).at < rank s.at
 unfolding drops
 follow-falls s Next e = ltb-true (rank (s.at + 1)) (rank s.at) e
 
 beyond-falls : (s : LayoutState) → rests (kind_at s) ≡ false → rank (beyond s).at < rank s.at
-beyond-falls s e = follow-falls s (placeAt s.at).next (falls s.at e)
+beyond-falls s e = follow-falls s (place_at s.at).next (falls s.at e)
 
 settle-falls : (u : LayoutState) → rank (settle (enter u)).at ≤ rank u.at
 unfolding settle
-settle-falls u = go (eqb (times (placeAt u.at).times u) 0) refl
+settle-falls u = go (eqb (times (place_at u.at).times u) 0) refl
   where
-    pick : (r : Bool) → rests (kind_at u) ≡ r → times (placeAt u.at).times u ≡ 0 → rank (beyond (enter u)).at ≤ rank u.at
-    pick true e z = let o = lone-times (placeAt u.at).times u (stop-lone u.at e) in omega arith
+    pick : (r : Bool) → rests (kind_at u) ≡ r → times (place_at u.at).times u ≡ 0 → rank (beyond (enter u)).at ≤ rank u.at
+    pick true e z = let o = lone-times (place_at u.at).times u (stop-lone u.at e) in omega arith
     pick false e z = le_of_lt (beyond-falls (enter u) e)
 
-    go : (b : Bool) → eqb (times (placeAt u.at).times u) 0 ≡ b → rank (ifEmpty b (beyond (enter u)) (enter u)).at ≤ rank u.at
-    go true e = pick (rests (kind_at u)) refl (eqb-true (times (placeAt u.at).times u) 0 e)
+    go : (b : Bool) → eqb (times (place_at u.at).times u) 0 ≡ b → rank (if_empty b (beyond (enter u)) (enter u)).at ≤ rank u.at
+    go true e = pick (rests (kind_at u)) refl (eqb-true (times (place_at u.at).times u) 0 e)
     go false e = le_refl (rank u.at)
 
 -- ---- more turns change nothing
@@ -192,9 +192,9 @@ settle-falls u = go (eqb (times (placeAt u.at).times u) 0) refl
 next_low : (s t : LayoutState) (n : ℕ) → rests (kind_at s) ≡ false → takes (kind_at s) s Default 0 ≡ Go t → rank s.at < suc n → rank (settle (beyond t)).at < n
 next_low s t n r e h =
     let q = stays (kind_at s) s t Default 0 e in
-    let f : rests (kind_at t) ≡ false = ap (λ (i : ℕ). rests (placeAt i).kind) q ∙ r in
+    let f : rests (kind_at t) ≡ false = ap (λ (i : ℕ). rests (place_at i).kind) q ∙ r in
     let a = beyond-falls t f in
-    let b = settle-falls (follow (placeAt t.at).next t) in
+    let b = settle-falls (follow (place_at t.at).next t) in
     let c : rank t.at ≡ rank s.at = ap rank q in
     omega arith
 
@@ -215,7 +215,7 @@ unfolding end
 enough zero s = refl
 enough (suc n) s =
     let m : 16 + suc n ≡ suc (16 + n) = omega arith in
-    ap (λ (k : ℕ). finish k s) m ∙ sym (stable (16 + n) s (omega (arith, rank-low s.at))) ∙ enough n s
+    ap (λ (k : ℕ). finish k s) m ∙ sym (stable (16 + n) s (omega (arith, rank_low s.at))) ∙ enough n s
 
 -- ---- a default more
 
@@ -223,7 +223,7 @@ follow-stand : (x : Then) (t : LayoutState) (n : ℕ) → follow x (stand t t.at
 follow-stand Next t n = refl
 
 beyond-stand : (t : LayoutState) (n : ℕ) → beyond (stand t t.at n) ≡ beyond t
-beyond-stand t n = ap enter (follow-stand (placeAt t.at).next t n)
+beyond-stand t n = ap enter (follow-stand (place_at t.at).next t n)
 
 finish-at : (n : ℕ) (s : LayoutState) (b : Bool) (g : Stepped) → rests (kind_at s) ≡ b → takes (kind_at s) s Default 0 ≡ g
     → finish (suc n) s ≡ after b g (λ (t : LayoutState). finish n (settle (beyond t)))
@@ -235,7 +235,7 @@ unfolding step end onward
 trailing s = go (rests (kind_at s)) (takes (kind_at s) s Default 0) refl refl ∙ sym (finish-at 15 s (rests (kind_at s)) (takes (kind_at s) s Default 0) refl refl)
   where
     same_kind : (t : LayoutState) (n : ℕ) → t.at ≡ s.at → kind_at (stand t t.at n) ≡ kind_at s
-    same_kind t n e = ap (λ (i : ℕ). (placeAt i).kind) e
+    same_kind t n e = ap (λ (i : ℕ). (place_at i).kind) e
 
     idles : (t : LayoutState) (n : ℕ) (b : Bool) → rests (kind_at s) ≡ b → takes (kind_at s) s Default 0 ≡ Go t
         → finish 16 (stand t t.at n) ≡ after b (Go (stand t t.at n)) (λ (u : LayoutState). finish 15 (settle (beyond u)))
@@ -247,7 +247,7 @@ trailing s = go (rests (kind_at s)) (takes (kind_at s) s Default 0) refl refl �
     on : (t : LayoutState) (c : Bool) → ltb 1 t.left ≡ c → rests (kind_at s) ≡ false → takes (kind_at s) s Default 0 ≡ Go t
         → finish 16 (cond c (stand t t.at (t.left - 1)) (settle (beyond t))) ≡ finish 15 (settle (beyond t))
     on t true l r e = idles t (t.left - 1) false r e ∙ ap (λ (x : LayoutState). finish 15 (settle x)) (beyond-stand t (t.left - 1))
-    on t false l r e = sym (stable 15 (settle (beyond t)) (next_low s t 15 r e (omega (arith, rank-low s.at))))
+    on t false l r e = sym (stable 15 (settle (beyond t)) (next_low s t 15 r e (omega (arith, rank_low s.at))))
 
     go : (b : Bool) (g : Stepped) → rests (kind_at s) ≡ b → takes (kind_at s) s Default 0 ≡ g
         → ended (moved b g) ≡ after b g (λ (t : LayoutState). finish 15 (settle (beyond t)))

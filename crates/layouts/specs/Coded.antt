@@ -2,7 +2,7 @@
 use Rattle.std.specs.Prelude.{List, [], ◌∷◌, Bool, false, cond, ℕ, ◌-◌, eqb, ltb, get_or}
 use Prim.Native.Char.{Char, code}
 use Prim.Native.String.{String, [] as []ˢ, ◌∷◌ as ◌∷ˢ◌}
-use Rattle.columns.specs.Format.{mostInteger}
+use Rattle.columns.specs.Format.{most_integer}
 use Rattle.layouts.specs.declared.Kind.TheVariants.{R, Given, Weight, S, I, Flag, Count, Outer}
 use Rattle.layouts.specs.declared.Kind.TheVariants.{Upper1, Upper2, Degree1, Degree2, P, Q, Bound, Rest}
 use Rattle.layouts.specs.declared.Times.TheVariants.{Fixed, N, Knots1, Knots2, C, ThreeC}
@@ -30,7 +30,7 @@ shapes =
     ∷ is "s" (Fixed 1 of S)
     ∷ is "i" (Fixed 1 of I 0 3)
     ∷ is "1" (Fixed 1 of I 1 1)
-    ∷ is "d" (Fixed 1 of I 0 mostInteger)
+    ∷ is "d" (Fixed 1 of I 0 most_integer)
     ∷ is "N" (Fixed 1 of Count)
     ∷ is "o" (Fixed 1 of Outer)
     ∷ is "K" (Fixed 1 of Upper1)
@@ -55,13 +55,13 @@ shapes =
     ∷ []
 
 -- any other letter is the rest
-abbrev pub shapeIn : List Shape → ℕ → LayoutPlace
-shapeIn [] k = Fixed 1 of Rest
-shapeIn (x ∷ xs) k = cond (eqb k x.letter) x.place (shapeIn xs k)
+abbrev pub shape_in : List Shape → ℕ → LayoutPlace
+shape_in [] k = Fixed 1 of Rest
+shape_in (x ∷ xs) k = cond (eqb k x.letter) x.place (shape_in xs k)
 
 -- the place of a letter
 unfoldable pub shape_of : ℕ → LayoutPlace
-shape_of k = shapeIn shapes k
+shape_of k = shape_in shapes k
 
 abbrev bytes : String → List ℕ
 bytes []ˢ = []
@@ -72,8 +72,8 @@ unfoldable pub codes : List ℕ
 codes = bytes "7NqNq.NqNqNq.6NqNq.3pNqNq.tNqNq.KMfkwcg3NqNq.KLMOFklwcGNqNq.iQPiNqNq.QoNbuNqNq.dsNqNqNq.3sNqNq.NqNqNq.1sNqNq.I4NqNq."
 
 -- the letter at i; past the table that of the rest
-unfoldable pub letterAt : ℕ → ℕ
-letterAt i = get_or codes i (code ".")
+unfoldable pub letter_at : ℕ → ℕ
+letter_at i = get_or codes i (code ".")
 
 -- what two words tell of the place at i, by a bit for each place
 unfoldable pub told : ℕ → ℕ → ℕ → Bool

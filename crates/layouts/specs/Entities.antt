@@ -9,7 +9,7 @@ use Rattle.layouts.specs.declared.LayoutVerdict.{LayoutVerdict}
 use Rattle.layouts.specs.declared.LayoutVerdict.TheVariants.{Good, Layout, LayoutReference}
 pub use Rattle.layouts.specs.Entity.{Entity}
 use Rattle.layouts.specs.Known.{known}
-use Rattle.layouts.specs.Fits.{Ask, nothing, suits, refersWell, isReference, asked}
+use Rattle.layouts.specs.Fits.{Ask, nothing, suits, refers_well, is_reference, asked}
 
 -- ---- the verdict
 
@@ -24,7 +24,7 @@ everywhere test (a ∷ ps) (v ∷ vs) = test a (seen v) && everywhere test ps vs
 -- 14 is told before 15; types are those of all entries in directory order
 unfoldable pub verdict : List ℕ → Entity → LayoutVerdict
 verdict types e =
-    cond (everywhere suits (asked e) e.values) (cond (everywhere (refersWell types) (asked e) e.values) Good LayoutReference) Layout
+    cond (everywhere suits (asked e) e.values) (cond (everywhere (refers_well types) (asked e) e.values) Good LayoutReference) Layout
 
 -- the refusal that a verdict is, 14 or 15
 abbrev pub fault : LayoutVerdict → ℕ → Outcome (Unit {0})
@@ -33,16 +33,16 @@ fault Layout place = refused LayoutFault place
 fault LayoutReference place = refused LayoutReferenceFault place
 
 -- an entity outside the list has its values carried
-unfoldable pub entityCheck : ℕ → List ℕ → Entity → ℕ → Outcome (Unit {0})
-entityCheck list types e place = cond (known list e.typ e.form) (fault (verdict types e) place) (accepted tt)
+unfoldable pub entity_check : ℕ → List ℕ → Entity → ℕ → Outcome (Unit {0})
+entity_check list types e place = cond (known list e.typ e.form) (fault (verdict types e) place) (accepted tt)
 
 -- ---- marks: true for R, false for V
 
 -- R where the place asks for a reference; a value behind the last place is V
-unfoldable pub referencePlaces : List Ask → List Item → List Bool
-referencePlaces ps [] = []
-referencePlaces [] (v ∷ vs) = false ∷ referencePlaces [] vs
-referencePlaces (a ∷ ps) (v ∷ vs) = isReference a ∷ referencePlaces ps vs
+unfoldable pub reference_places : List Ask → List Item → List Bool
+reference_places ps [] = []
+reference_places [] (v ∷ vs) = false ∷ reference_places [] vs
+reference_places (a ∷ ps) (v ∷ vs) = is_reference a ∷ reference_places ps vs
 
 -- a value that is carried is V
 abbrev pub carried : Item → Bool
@@ -50,4 +50,4 @@ carried v = false
 
 -- of an entity's values, one each; outside the list they are carried, and none is read as a reference
 unfoldable pub marks : ℕ → Entity → List Bool
-marks list e = cond (known list e.typ e.form) (referencePlaces (asked e) e.values) (map carried e.values)
+marks list e = cond (known list e.typ e.form) (reference_places (asked e) e.values) (map carried e.values)

@@ -2,7 +2,7 @@
 use Rattle.std.specs.Prelude.{◌≡◌, refl, true, false, List, [], ◌∷◌, ◌++◌, map, ℕ, replicate}
 use Rattle.columns.specs.declared.Fault.TheVariants.{Layout as LayoutFault, LayoutReference as LayoutReferenceFault}
 use Rattle.columns.specs.Refusal.{Outcome, accepted, refused}
-use Rattle.columns.specs.Format.{mostList}
+use Rattle.columns.specs.Format.{most_list}
 use Rattle.values.specs.Value.{Item, default, whole, real, text}
 use Rattle.layouts.specs.declared.LayoutVerdict.{LayoutVerdict}
 use Rattle.layouts.specs.declared.LayoutVerdict.TheVariants.{Good, Layout, LayoutReference}
@@ -11,7 +11,7 @@ use Rattle.layouts.specs.Named.{named}
 use Rattle.layouts.specs.Layout.{paper, bit_of}
 use Rattle.layouts.specs.Known.{known}
 use Rattle.layouts.specs.Fits.{places_of, asked}
-use Rattle.layouts.specs.Entities.{Entity, everywhere, verdict, entityCheck, referencePlaces, marks}
+use Rattle.layouts.specs.Entities.{Entity, everywhere, verdict, entity_check, reference_places, marks}
 
 -- a file whose entries 1, 3, 5 are a point, a 308 and a 142
 abbrev types : List ℕ
@@ -103,7 +103,7 @@ tests =
 -- a list, an entity, and its refusal under the list, at line 9
 abbrev checks : List (ℕ × Entity × Outcome (Unit {0}))
 checks =
-    (mostList, entity 402 6 (s ∷ []), accepted tt)
+    (most_list, entity 402 6 (s ∷ []), accepted tt)
     ∷ (2048, entity 402 7 (s ∷ []), refused LayoutFault 9)
     ∷ (2047, entity 402 7 (s ∷ []), accepted tt)
     ∷ (256, entity 144 0 [], refused LayoutReferenceFault 9)
@@ -111,10 +111,10 @@ checks =
 
 -- all of them; 402 form 6 is carried under any list, 402 form 7 is read under list 2048; counts are V, references R
 pub examples : (map (λ (x : Entity × LayoutVerdict). verdict types x.0) tests ≡ map (λ (x : Entity × LayoutVerdict). x.1) tests)
-    × (map (λ (x : ℕ × Entity × Outcome (Unit {0})). entityCheck x.0 types x.1 9) checks
+    × (map (λ (x : ℕ × Entity × Outcome (Unit {0})). entity_check x.0 types x.1 9) checks
     ≡ map (λ (x : ℕ × Entity × Outcome (Unit {0})). x.2) checks)
-    × (marks mostList (entity 144 0 (i 1 ∷ i 0 ∷ i 1 ∷ i 0 ∷ i 5 ∷ i 1 ∷ i 1 ∷ []))
+    × (marks most_list (entity 144 0 (i 1 ∷ i 0 ∷ i 1 ∷ i 0 ∷ i 5 ∷ i 1 ∷ i 1 ∷ []))
     ≡ true ∷ false ∷ false ∷ true ∷ true ∷ false ∷ true ∷ [])
     × (marks 0 (entity 144 0 (i 1 ∷ i 0 ∷ [])) ≡ false ∷ false ∷ [])
-unfolding marks referencePlaces entityCheck known verdict everywhere asked places_of paper bit_of named class_at class_of
+unfolding marks reference_places entity_check known verdict everywhere asked places_of paper bit_of named class_at class_of
 examples = (refl, refl, refl, refl)

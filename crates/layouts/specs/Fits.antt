@@ -1,7 +1,7 @@
 -- The layouts as document 01 has them: the places of a row one by one, as many as its own counts say, what each asks of the value that
 -- stands there, and nothing but defaults behind. No step, no order.
 use Rattle.std.specs.Prelude.{◌≡◌, Bool, true, false, not, ◌&&◌, ◌||◌, List, [], ◌∷◌, ◌++◌, map, ℕ, ◌+◌, ◌*◌, eqb, get_or, drop, replicate}
-use Rattle.columns.specs.Format.{mostInteger}
+use Rattle.columns.specs.Format.{most_integer}
 use Rattle.layouts.specs.declared.Kind.{Kind}
 use Rattle.layouts.specs.declared.Kind.TheVariants.{R, Given, Weight, S, I, Flag, Count, Outer}
 use Rattle.layouts.specs.declared.Kind.TheVariants.{Upper1, Upper2, Degree1, Degree2, P, Q, Bound, Rest}
@@ -9,10 +9,10 @@ use Rattle.layouts.specs.declared.Times.{Times}
 use Rattle.layouts.specs.declared.Times.TheVariants.{Fixed, N, Knots1, Knots2, C, ThreeC}
 use Rattle.layouts.specs.declared.LayoutPlace.{LayoutPlace}
 use Rattle.values.specs.declared.Value.{Value}
-use Rattle.values.specs.Value.{Item, default, seen, isMissing}
+use Rattle.values.specs.Value.{Item, default, seen, is_missing}
 use Rattle.references.specs.References.{fits}
 use Rattle.layouts.specs.Named.{named}
-use Rattle.layouts.specs.Layout.{Row, mostUpper, paper, groups, bit_of}
+use Rattle.layouts.specs.Layout.{Row, most_upper, paper, groups, bit_of}
 use Rattle.layouts.specs.Tests.{numeric, above, text, within, size, integer}
 use Rattle.layouts.specs.Entity.{Entity}
 
@@ -22,23 +22,23 @@ pub data Ask : Type 0 where
   -- r: a real or an integer, a default is zero; one that must be given; one above zero that must be given
   aReal aGivenReal aWeight : Ask
   -- s: a string, or missing
-  aString : Ask
+  a_string : Ask
   -- i: an integer from low to high; where it need not be given, a default is 0
-  anInteger : (given : Bool) (low high : ℕ) → Ask
+  an_integer : (given : Bool) (low high : ℕ) → Ask
   -- p and q: a reference to an entry of a class; p is free to be 0 or missing
-  aReference : (free : Bool) (want : ℕ) → Ask
+  a_reference : (free : Bool) (want : ℕ) → Ask
   -- nothing but a default
   nothing : Ask
 
 -- a value of the kind and in the range that is asked: what fails here is 14
 abbrev pub suits : Ask → Value → Bool
-suits aReal v = numeric v || isMissing v
+suits aReal v = numeric v || is_missing v
 suits aGivenReal v = numeric v
 suits aWeight v = above v
-suits aString v = text v || isMissing v
-suits (anInteger given low high) v = within given low high v
-suits (aReference free want) v = integer v || isMissing v
-suits nothing v = isMissing v
+suits a_string v = text v || is_missing v
+suits (an_integer given low high) v = within given low high v
+suits (a_reference free want) v = integer v || is_missing v
+suits nothing v = is_missing v
 
 -- 0 or missing, of an integer or a default
 abbrev pub nought : Value → Bool
@@ -46,24 +46,24 @@ nought v = eqb (size v) 0
 
 -- a reference is 0 or missing where it may be, or names an entry of the class; what fails here is 15. Types are those of all entries in
 -- directory order
-abbrev pub refersWell : List ℕ → Ask → Value → Bool
-refersWell types (aReference free want) v = (free && nought v) || fits want (named types v)
-refersWell types aReal v = true
-refersWell types aGivenReal v = true
-refersWell types aWeight v = true
-refersWell types aString v = true
-refersWell types (anInteger given low high) v = true
-refersWell types nothing v = true
+abbrev pub refers_well : List ℕ → Ask → Value → Bool
+refers_well types (a_reference free want) v = (free && nought v) || fits want (named types v)
+refers_well types aReal v = true
+refers_well types aGivenReal v = true
+refers_well types aWeight v = true
+refers_well types a_string v = true
+refers_well types (an_integer given low high) v = true
+refers_well types nothing v = true
 
 -- a reference: R in the sheet
-abbrev pub isReference : Ask → Bool
-isReference (aReference free want) = true
-isReference aReal = false
-isReference aGivenReal = false
-isReference aWeight = false
-isReference aString = false
-isReference (anInteger given low high) = false
-isReference nothing = false
+abbrev pub is_reference : Ask → Bool
+is_reference (a_reference free want) = true
+is_reference aReal = false
+is_reference aGivenReal = false
+is_reference aWeight = false
+is_reference a_string = false
+is_reference (an_integer given low high) = false
+is_reference nothing = false
 
 -- ---- counts
 
@@ -125,18 +125,18 @@ abbrev pub ask : Kind → Counts → Ask
 ask R c = aReal
 ask Given c = aGivenReal
 ask Weight c = aWeight
-ask S c = aString
-ask (I low high) c = anInteger false low high
-ask Flag c = anInteger true 0 1
-ask Count c = anInteger false 0 mostInteger
-ask Outer c = anInteger false 0 1
-ask Upper1 c = anInteger true 1 mostUpper
-ask Upper2 c = anInteger true 1 mostUpper
-ask Degree1 c = anInteger true 1 c.k1
-ask Degree2 c = anInteger true 1 c.k2
-ask (P want) c = aReference true want
-ask (Q want) c = aReference false want
-ask (Bound want) c = aReference (not (eqb c.k2 1)) want
+ask S c = a_string
+ask (I low high) c = an_integer false low high
+ask Flag c = an_integer true 0 1
+ask Count c = an_integer false 0 most_integer
+ask Outer c = an_integer false 0 1
+ask Upper1 c = an_integer true 1 most_upper
+ask Upper2 c = an_integer true 1 most_upper
+ask Degree1 c = an_integer true 1 c.k1
+ask Degree2 c = an_integer true 1 c.k2
+ask (P want) c = a_reference true want
+ask (Q want) c = a_reference false want
+ask (Bound want) c = a_reference (not (eqb c.k2 1)) want
 ask Rest c = nothing
 
 -- ---- the places of an entity, one by one
@@ -169,24 +169,24 @@ unfoldable pub asked : Entity → List Ask
 asked e = spelled (places_of e.typ e.form) (spelled groups close) none e.values
 
 -- what is asked at i; behind the last place nothing may stand
-abbrev pub askAt : List Ask → ℕ → Ask
-askAt ps i = get_or ps i nothing
+abbrev pub ask_at : List Ask → ℕ → Ask
+ask_at ps i = get_or ps i nothing
 
 -- every place takes the value that stands there, in kind, count and range
 abbrev pub Fits : Entity → Type 0
-Fits e = (i : ℕ) → suits (askAt (asked e) i) (value_at e.values i) ≡ true
+Fits e = (i : ℕ) → suits (ask_at (asked e) i) (value_at e.values i) ≡ true
 
 -- some place does not, or a value too many stands behind: 14
 abbrev pub Fails : Entity → Type 0
-Fails e = (i : ℕ) × (suits (askAt (asked e) i) (value_at e.values i) ≡ false)
+Fails e = (i : ℕ) × (suits (ask_at (asked e) i) (value_at e.values i) ≡ false)
 
 -- every reference is good
 abbrev pub Refers : List ℕ → Entity → Type 0
-Refers types e = (i : ℕ) → refersWell types (askAt (asked e) i) (value_at e.values i) ≡ true
+Refers types e = (i : ℕ) → refers_well types (ask_at (asked e) i) (value_at e.values i) ≡ true
 
 -- some reference is not
 abbrev pub Misrefers : List ℕ → Entity → Type 0
-Misrefers types e = (i : ℕ) × (refersWell types (askAt (asked e) i) (value_at e.values i) ≡ false)
+Misrefers types e = (i : ℕ) × (refers_well types (ask_at (asked e) i) (value_at e.values i) ≡ false)
 
 -- an entity keeps to its layout: neither 14 nor 15
 pub record Keeps (types : List ℕ) (e : Entity) : Type 0 where

@@ -1,6 +1,6 @@
 -- The type list and the layouts of document 01, "Type list", as its table has them.
 use Rattle.std.specs.Prelude.{Bool, true, cond, ◌&&◌, List, [], ◌∷◌, ℕ, suc, eqb}
-use Rattle.columns.specs.Format.{mostInteger}
+use Rattle.columns.specs.Format.{most_integer}
 use Rattle.layouts.specs.declared.Kind.{Kind}
 use Rattle.layouts.specs.declared.Kind.TheVariants.{R, Given, Weight, S, I, Flag, Count, Outer}
 use Rattle.layouts.specs.declared.Kind.TheVariants.{Upper1, Upper2, Degree1, Degree2, P, Q, Bound}
@@ -8,7 +8,7 @@ use Rattle.layouts.specs.declared.Times.{Times}
 use Rattle.layouts.specs.declared.Times.TheVariants.{Fixed, N, Knots1, Knots2, C, ThreeC}
 use Rattle.layouts.specs.declared.Then.TheVariants.{Next}
 use Rattle.layouts.specs.declared.LayoutPlace.{LayoutPlace}
-use Rattle.references.specs.References.{noEntry, entry308, entry142}
+use Rattle.references.specs.References.{no_entry, entry308, entry142}
 
 infix 68 ◌of◌
 -- so many places of one kind
@@ -21,11 +21,11 @@ one k = Fixed 1 of k
 
 -- a reference that asks its target for no type; others name the class that they ask for
 abbrev pub any : ℕ
-any = noEntry
+any = no_entry
 
 -- the largest K of 126 and 128
-abbrev pub mostUpper : ℕ
-mostUpper = 10000
+abbrev pub most_upper : ℕ
+most_upper = 10000
 
 -- which forms of its type a row is for
 pub data Form : Type 0 where
@@ -65,7 +65,7 @@ paper =
     ∷ row 128 every surface
     ∷ row 142 every (one (I 0 3) ∷ one (Q any) ∷ Fixed 2 of P any ∷ one (I 0 3) ∷ [])
     ∷ row 144 every (one (Q any) ∷ one Outer ∷ one Count ∷ one (Bound entry142) ∷ N of Q entry142 ∷ [])
-    ∷ row 308 every (one (I 0 mostInteger) ∷ one S ∷ one Count ∷ N of Q any ∷ [])
+    ∷ row 308 every (one (I 0 most_integer) ∷ one S ∷ one Count ∷ N of Q any ∷ [])
     ∷ row 314 every (Fixed 3 of R ∷ one S ∷ [])
     ∷ row 402 (only 7) (one Count ∷ N of Q any ∷ [])
     ∷ row 406 (only 15) (one (I 1 1) ∷ one S ∷ [])

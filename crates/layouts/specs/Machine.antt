@@ -1,6 +1,6 @@
 -- The code's form: the layouts as one machine, where it stands, what one value does, what the end says.
 use Rattle.std.specs.Prelude.{Bool, true, false, cond, not, ◌&&◌, ◌||◌, ℕ, zero, suc, ◌+◌, ◌-◌, ◌*◌, eqb, ltb}
-use Rattle.columns.specs.Format.{mostInteger}
+use Rattle.columns.specs.Format.{most_integer}
 use Rattle.layouts.specs.declared.Kind.{Kind}
 use Rattle.layouts.specs.declared.Kind.TheVariants.{R, Given, Weight, S, I, Flag, Count, Outer}
 use Rattle.layouts.specs.declared.Kind.TheVariants.{Upper1, Upper2, Degree1, Degree2, P, Q, Bound, Rest}
@@ -10,16 +10,16 @@ use Rattle.layouts.specs.declared.Then.{Then}
 use Rattle.layouts.specs.declared.Then.TheVariants.{Next}
 use Rattle.values.specs.declared.Value.{Value}
 use Rattle.values.specs.declared.Value.TheVariants.{Default, Whole, Real, Text}
-use Rattle.values.specs.Value.{isMissing}
+use Rattle.values.specs.Value.{is_missing}
 use Rattle.layouts.specs.declared.LayoutState.{LayoutState}
 use Rattle.layouts.specs.declared.Stepped.{Stepped}
 use Rattle.layouts.specs.declared.Stepped.TheVariants.{Go, Bad}
 use Rattle.layouts.specs.declared.LayoutVerdict.{LayoutVerdict}
 use Rattle.layouts.specs.declared.LayoutVerdict.TheVariants.{Good, Layout, LayoutReference}
-use Rattle.references.specs.References.{noEntry, fits}
+use Rattle.references.specs.References.{no_entry, fits}
 pub use Rattle.layouts.specs.Tests.{numeric, above, text, within, size}
-use Rattle.layouts.specs.Layout.{mostUpper, bit_of}
-use Rattle.layouts.specs.Table.{placeAt, start_of}
+use Rattle.layouts.specs.Layout.{most_upper, bit_of}
+use Rattle.layouts.specs.Table.{place_at, start_of}
 
 -- ---- the state
 
@@ -28,24 +28,24 @@ abbrev pub fresh : LayoutState
 fresh = record { at = 0; left = 0; k1 = 0; k2 = 0; m1 = 0; m2 = 0; bad = false }
 
 -- N or K1 (the K of 126) is read
-abbrev pub withK1 : LayoutState → ℕ → LayoutState
-withK1 s n = record { at = s.at; left = s.left; k1 = n; k2 = s.k2; m1 = s.m1; m2 = s.m2; bad = s.bad }
+abbrev pub with_k1 : LayoutState → ℕ → LayoutState
+with_k1 s n = record { at = s.at; left = s.left; k1 = n; k2 = s.k2; m1 = s.m1; m2 = s.m2; bad = s.bad }
 
 -- K2, or the N1 of 144
-abbrev pub withK2 : LayoutState → ℕ → LayoutState
-withK2 s n = record { at = s.at; left = s.left; k1 = s.k1; k2 = n; m1 = s.m1; m2 = s.m2; bad = s.bad }
+abbrev pub with_k2 : LayoutState → ℕ → LayoutState
+with_k2 s n = record { at = s.at; left = s.left; k1 = s.k1; k2 = n; m1 = s.m1; m2 = s.m2; bad = s.bad }
 
 -- M1 (the M of 126)
-abbrev pub withM1 : LayoutState → ℕ → LayoutState
-withM1 s n = record { at = s.at; left = s.left; k1 = s.k1; k2 = s.k2; m1 = n; m2 = s.m2; bad = s.bad }
+abbrev pub with_m1 : LayoutState → ℕ → LayoutState
+with_m1 s n = record { at = s.at; left = s.left; k1 = s.k1; k2 = s.k2; m1 = n; m2 = s.m2; bad = s.bad }
 
 -- M2
-abbrev pub withM2 : LayoutState → ℕ → LayoutState
-withM2 s n = record { at = s.at; left = s.left; k1 = s.k1; k2 = s.k2; m1 = s.m1; m2 = n; bad = s.bad }
+abbrev pub with_m2 : LayoutState → ℕ → LayoutState
+with_m2 s n = record { at = s.at; left = s.left; k1 = s.k1; k2 = s.k2; m1 = s.m1; m2 = n; bad = s.bad }
 
 -- whether a reference was bad
-abbrev pub withBad : LayoutState → Bool → LayoutState
-withBad s b = record { at = s.at; left = s.left; k1 = s.k1; k2 = s.k2; m1 = s.m1; m2 = s.m2; bad = b }
+abbrev pub with_bad : LayoutState → Bool → LayoutState
+with_bad s b = record { at = s.at; left = s.left; k1 = s.k1; k2 = s.k2; m1 = s.m1; m2 = s.m2; bad = b }
 
 -- at place i with so many of it left
 abbrev pub stand : LayoutState → ℕ → ℕ → LayoutState
@@ -66,20 +66,20 @@ follow Next s = stand s (s.at + 1) 0
 
 -- at a place, with all of it left
 abbrev pub enter : LayoutState → LayoutState
-enter s = stand s s.at (times (placeAt s.at).times s)
+enter s = stand s s.at (times (place_at s.at).times s)
 
 -- at the place after
 abbrev pub beyond : LayoutState → LayoutState
-beyond s = enter (follow (placeAt s.at).next s)
+beyond s = enter (follow (place_at s.at).next s)
 
 -- one state or the other
-abbrev pub ifEmpty : Bool → LayoutState → LayoutState → LayoutState
-ifEmpty true t s = t
-ifEmpty false t s = s
+abbrev pub if_empty : Bool → LayoutState → LayoutState → LayoutState
+if_empty true t s = t
+if_empty false t s = s
 
 -- past a place of which there is none: no two such stand side by side (proofs/Empties.settled)
 unfoldable pub settle : LayoutState → LayoutState
-settle s = ifEmpty (eqb s.left 0) (beyond s) s
+settle s = if_empty (eqb s.left 0) (beyond s) s
 
 -- past the place that took a value
 unfoldable pub onward : LayoutState → LayoutState
@@ -93,29 +93,29 @@ need b s = cond b (Go s) Bad
 
 -- a reference, which may be 0 or missing where free: what is wrong with it is told at the end
 abbrev pub refer : Bool → ℕ → LayoutState → Value → ℕ → Stepped
-refer free want s Default class = Go (withBad s (s.bad || not free))
-refer free want s (Whole neg n) class = Go (withBad s (s.bad || not ((free && eqb n 0) || fits want class)))
+refer free want s Default class = Go (with_bad s (s.bad || not free))
+refer free want s (Whole neg n) class = Go (with_bad s (s.bad || not ((free && eqb n 0) || fits want class)))
 refer free want s (Real neg m eneg e double) class = Bad
 refer free want s (Text start count) class = Bad
 
 -- what the place of a kind makes of a value; class is that of the entry that it names
 unfoldable pub takes : Kind → LayoutState → Value → ℕ → Stepped
-takes R s v class = need (numeric v || isMissing v) s
+takes R s v class = need (numeric v || is_missing v) s
 takes Given s v class = need (numeric v) s
 takes Weight s v class = need (above v) s
-takes S s v class = need (text v || isMissing v) s
+takes S s v class = need (text v || is_missing v) s
 takes (I low high) s v class = need (within false low high v) s
 takes Flag s v class = need (within true 0 1 v) s
-takes Count s v class = need (within false 0 mostInteger v) (withK1 s (size v))
-takes Outer s v class = need (within false 0 1 v) (withK2 s (size v))
-takes Upper1 s v class = need (within true 1 mostUpper v) (withK1 s (size v))
-takes Upper2 s v class = need (within true 1 mostUpper v) (withK2 s (size v))
-takes Degree1 s v class = need (within true 1 s.k1 v) (withM1 s (size v))
-takes Degree2 s v class = need (within true 1 s.k2 v) (withM2 s (size v))
+takes Count s v class = need (within false 0 most_integer v) (with_k1 s (size v))
+takes Outer s v class = need (within false 0 1 v) (with_k2 s (size v))
+takes Upper1 s v class = need (within true 1 most_upper v) (with_k1 s (size v))
+takes Upper2 s v class = need (within true 1 most_upper v) (with_k2 s (size v))
+takes Degree1 s v class = need (within true 1 s.k1 v) (with_m1 s (size v))
+takes Degree2 s v class = need (within true 1 s.k2 v) (with_m2 s (size v))
 takes (P want) s v class = refer true want s v class
 takes (Q want) s v class = refer false want s v class
 takes (Bound want) s v class = refer (not (eqb s.k2 1)) want s v class
-takes Rest s v class = need (isMissing v) s
+takes Rest s v class = need (is_missing v) s
 
 -- nothing but defaults follows
 abbrev pub rests : Kind → Bool
@@ -176,7 +176,7 @@ reals Rest = false
 
 -- the kind of the place where it stands
 abbrev pub kind_at : LayoutState → Kind
-kind_at s = (placeAt s.at).kind
+kind_at s = (place_at s.at).kind
 
 -- behind the rest nothing moves
 abbrev pub moved : Bool → Stepped → Stepped
@@ -192,8 +192,8 @@ unfoldable pub step : LayoutState → Value → ℕ → Stepped
 step s v class = moved (rests (kind_at s)) (takes (kind_at s) s v class)
 
 -- a number stands at a place that takes it as it comes, and more of the place follow
-unfoldable pub runsOn : LayoutState → Value → Bool
-runsOn s v = ltb 1 s.left && (reals (kind_at s) && numeric v)
+unfoldable pub runs_on : LayoutState → Value → Bool
+runs_on s v = ltb 1 s.left && (reals (kind_at s) && numeric v)
 
 -- ---- the end: what is missing is a default
 
@@ -209,7 +209,7 @@ after rest (Go t) f = cond rest (closed t.bad) (f t)
 -- in so many places at most
 unfoldable pub finish : ℕ → LayoutState → LayoutVerdict
 finish zero s = Layout
-finish (suc n) s = after (rests (kind_at s)) (takes (kind_at s) s Default noEntry) (λ t. finish n (settle (beyond t)))
+finish (suc n) s = after (rests (kind_at s)) (takes (kind_at s) s Default no_entry) (λ t. finish n (settle (beyond t)))
 
 -- no row has more than 16 (proofs/Trailing.enough)
 unfoldable pub end : LayoutState → LayoutVerdict

@@ -1,11 +1,11 @@
 -- Worked examples: rows of the table spelled out for some values, as tables and one theorem.
 use Rattle.std.specs.Prelude.{◌≡◌, refl, true, false, List, [], ◌∷◌, ◌++◌, map, ℕ, replicate}
-use Rattle.columns.specs.Format.{mostInteger}
+use Rattle.columns.specs.Format.{most_integer}
 use Rattle.values.specs.Value.{Item, default, whole}
-use Rattle.references.specs.References.{noEntry, entry142}
+use Rattle.references.specs.References.{no_entry, entry142}
 use Rattle.layouts.specs.Layout.{paper, bit_of}
 use Rattle.layouts.specs.Entity.{Entity}
-use Rattle.layouts.specs.Fits.{Ask, aReal, aGivenReal, aWeight, anInteger, aReference, places_of, asked}
+use Rattle.layouts.specs.Fits.{Ask, aReal, aGivenReal, aWeight, an_integer, a_reference, places_of, asked}
 
 abbrev i : ℕ → Item
 i n = whole false n
@@ -14,10 +14,10 @@ abbrev entity : ℕ → List Item → Entity
 entity t vs = record { typ = t; form = 0; values = vs }
 
 abbrev count : Ask
-count = anInteger false 0 mostInteger
+count = an_integer false 0 most_integer
 
 abbrev q : Ask
-q = aReference false noEntry
+q = a_reference false no_entry
 
 -- 110 is 6r, and two counts of none
 -- 102 with N = 2, then a group of one and a group of none
@@ -29,15 +29,15 @@ rows =
     ∷ (entity 102 (i 2 ∷ i 1 ∷ i 3 ∷ i 1 ∷ i 5 ∷ []), count ∷ q ∷ q ∷ count ∷ q ∷ count ∷ [])
     ∷ (
       entity 126 (i 2 ∷ i 1 ∷ []),
-      anInteger true 1 10000 ∷ anInteger true 1 2 ∷ replicate 4 (anInteger true 0 1) ++ replicate 5 aGivenReal
+      an_integer true 1 10000 ∷ an_integer true 1 2 ∷ replicate 4 (an_integer true 0 1) ++ replicate 5 aGivenReal
           ++ replicate 3 aWeight ++ replicate 9 aGivenReal
           ++ replicate 2 aGivenReal ++ replicate 3 aReal ++ count ∷ count ∷ [],
     )
     ∷ (
       entity 144 (i 1 ∷ default ∷ i 1 ∷ []),
-      q ∷ anInteger false 0 1 ∷ count ∷ aReference true entry142 ∷ aReference false entry142 ∷ count ∷ count ∷ [],
+      q ∷ an_integer false 0 1 ∷ count ∷ a_reference true entry142 ∷ a_reference false entry142 ∷ count ∷ count ∷ [],
     )
-    ∷ (entity 144 (i 1 ∷ i 1 ∷ []), q ∷ anInteger false 0 1 ∷ count ∷ aReference false entry142 ∷ count ∷ count ∷ [])
+    ∷ (entity 144 (i 1 ∷ i 1 ∷ []), q ∷ an_integer false 0 1 ∷ count ∷ a_reference false entry142 ∷ count ∷ count ∷ [])
     ∷ []
 
 pub spelled-rows : map (λ (x : Entity × List Ask). asked x.0) rows ≡ map (λ (x : Entity × List Ask). x.1) rows

@@ -27,5 +27,5 @@ unfoldable pub start_of : ℕ → ℕ
 start_of bit = get_or (starts 0 paper) bit 0
 
 -- the place at i; past the table all is rest
-unfoldable pub placeAt : ℕ → LayoutPlace
-placeAt i = get_or table i (one Rest)
+unfoldable pub place_at : ℕ → LayoutPlace
+place_at i = get_or table i (one Rest)

@@ -1,5 +1,5 @@
 -- The code's form: an entity value by value, a step of the machine for each. What it says at the end is the verdict
--- (proofs/Walk.judged-verdict), and of an entity that fits it has the marks (marks-walked).
+-- (proofs/Walk.judged-verdict), and of an entity that fits it has the marks (marks_walked).
 use Rattle.std.specs.Prelude.{Bool, false, List, [], ◌∷◌, ℕ}
 use Rattle.values.specs.declared.Value.{Value}
 use Rattle.values.specs.Value.{Item, seen}
@@ -36,12 +36,12 @@ ended Bad = Layout
 ended (Go s) = end s
 
 -- the verdict from here on
-unfoldable pub verdictFrom : List ℕ → Stepped → List Item → LayoutVerdict
-verdictFrom types g vs = ended (run types g vs)
+unfoldable pub verdict_from : List ℕ → Stepped → List Item → LayoutVerdict
+verdict_from types g vs = ended (run types g vs)
 
 -- what is wrong with a reference is kept to the end, so 14 is told before 15
 unfoldable pub judged : List ℕ → Entity → LayoutVerdict
-judged types e = verdictFrom types (begun e) e.values
+judged types e = verdict_from types (begun e) e.values
 
 -- the mark of the next value; behind a value that was refused it says nothing
 abbrev pub mark : Stepped → Bool
@@ -49,6 +49,6 @@ mark Bad = false
 mark (Go s) = refers (kind_at s)
 
 -- those of the values from here on
-unfoldable pub marksFrom : List ℕ → Stepped → List Item → List Bool
-marksFrom types g [] = []
-marksFrom types g (v ∷ vs) = mark g ∷ marksFrom types (feed types g v) vs
+unfoldable pub marks_from : List ℕ → Stepped → List Item → List Bool
+marks_from types g [] = []
+marks_from types g (v ∷ vs) = mark g ∷ marks_from types (feed types g v) vs

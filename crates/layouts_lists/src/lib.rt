@@ -1,6 +1,6 @@
 // What a type list knows.
 ghost use Rattle.std.specs.Prelude.{◌≡◌, leb};
-ghost use Rattle.columns.specs.Format.{mostList};
+ghost use Rattle.columns.specs.Format.{most_list};
 ghost use Rattle.layouts.specs.Layout.{bit_of};
 ghost use Rattle.layouts.specs.Known.{known};
 
@@ -46,7 +46,7 @@ pub fn known(list: u64, typ: u32, form: u32) -> bool
 
 // A list is a number 0..16,383.
 pub fn is_list(list: u64) -> bool
-    ensures { result ≡ leb list mostList }
+    ensures { result ≡ leb list most_list }
 {
     list <= MOST_LIST
 }

@@ -1,9 +1,9 @@
 // From place to place: a start, a step for each value, a verdict at the end.
 
 ghost use Rattle.std.specs.Prelude.{◌≡◌, ◌+◌, ◌≤◌, ◌<◌};
-ghost use Rattle.layouts.specs.Table.{placeAt, start_of};
+ghost use Rattle.layouts.specs.Table.{place_at, start_of};
 ghost use Rattle.layouts.specs.Machine.{times, follow, enter, beyond, settle, onward, step, closed, end, start};
-ghost use Rattle.layouts.specs.Machine.{reals, refers, kind_at, stand, runsOn};
+ghost use Rattle.layouts.specs.Machine.{reals, refers, kind_at, stand, runs_on};
 ghost use Rattle.layouts.specs.Coded.{told};
 
 use layouts::{LayoutState, LayoutVerdict, Stepped, Then, Times};
@@ -153,14 +153,14 @@ fn told_by(low: u64, high: u64, at: usize) -> bool
 
 // Whether a place takes numbers as they come: R and Given.
 fn reals_at(at: usize) -> bool
-    ensures { result ≡ reals (placeAt at).kind }
+    ensures { result ≡ reals (place_at at).kind }
 {
     told_by(REALS_LOW, REALS_HIGH, at)
 }
 
 // Whether a number stands where more of its kind follow: most values do.
 pub fn runs_on(s: LayoutState, v: Value) -> bool
-    ensures { result ≡ runsOn s v }
+    ensures { result ≡ runs_on s v }
 {
     if s.left <= 1 {
         return false;

@@ -3,8 +3,8 @@ pub mod told;
 
 ghost use Rattle.std.specs.Prelude.{◌≡◌};
 ghost use Rattle.layouts.specs.Layout.{◌of◌};
-ghost use Rattle.layouts.specs.Table.{placeAt};
-ghost use Rattle.layouts.specs.Coded.{shape_of, letterAt};
+ghost use Rattle.layouts.specs.Table.{place_at};
+ghost use Rattle.layouts.specs.Coded.{shape_of, letter_at};
 ghost use Rattle.layouts.specs.Machine.{rests};
 
 use columns::format::MOST_INTEGER;
@@ -73,7 +73,7 @@ fn shape(k: u8) -> LayoutPlace
 // 7NqNq. NqNqNq. 6NqNq. 3pNqNq. tNqNq. KMfkwcg3NqNq. KLMOFklwcGNqNq. iQPiNqNq. QoNbuNqNq. dsNqNqNq. 3sNqNq. NqNqNq. 1sNqNq. I4NqNq.
 // Here it stands letter by letter, since so it is looked up at once.
 fn letter_at(at: usize) -> u8
-    ensures { result ≡ letterAt at }
+    ensures { result ≡ letter_at at }
 {
     match at {
         19 | 39 | 88 => b'3',
@@ -114,7 +114,7 @@ fn letter_at(at: usize) -> u8
 
 // The place at `at`; past the table all is rest.
 pub fn look(at: usize) -> LayoutPlace
-    ensures { result ≡ placeAt at }
+    ensures { result ≡ place_at at }
 {
     shape(letter_at(at))
 }

@@ -1,6 +1,6 @@
 // What a place makes of a value.
 ghost use Rattle.std.specs.Prelude.{◌≡◌, true, ◌||◌, ◌&&◌, ◌^◌, ◌<◌, eqb};
-ghost use Rattle.layouts.specs.Machine.{need, withK1, withK2, withM1, withM2, withBad, refer, takes};
+ghost use Rattle.layouts.specs.Machine.{need, with_k1, with_k2, with_m1, with_m2, with_bad, refer, takes};
 
 use columns::format::MOST_INTEGER;
 use layouts::{Kind, LayoutState, Stepped};
@@ -30,7 +30,7 @@ fn zero_in(free: bool, n: u32) -> bool
 
 // A bad reference is kept to the end.
 fn noted(s: LayoutState, bad: bool) -> Stepped
-    ensures { result ≡ Stepped.Go (withBad s (s.bad || bad)) }
+    ensures { result ≡ Stepped.Go (with_bad s (s.bad || bad)) }
 {
     let mut t = s;
     t.bad = either(s.bad, bad);
@@ -39,7 +39,7 @@ fn noted(s: LayoutState, bad: bool) -> Stepped
 
 // A number that is right is kept.
 fn keep_k1(b: bool, s: LayoutState, n: u32) -> Stepped
-    ensures { result ≡ need b (withK1 s n) }
+    ensures { result ≡ need b (with_k1 s n) }
 {
     let mut t = s;
     t.k1 = n;
@@ -48,7 +48,7 @@ fn keep_k1(b: bool, s: LayoutState, n: u32) -> Stepped
 
 fn keep_k2(b: bool, s: LayoutState, n: u32) -> Stepped
     requires { b ≡ true → n < 2 ^ 16 }
-    ensures { result ≡ need b (withK2 s n) }
+    ensures { result ≡ need b (with_k2 s n) }
 {
     if b {
         let mut t = s;
@@ -60,7 +60,7 @@ fn keep_k2(b: bool, s: LayoutState, n: u32) -> Stepped
 }
 
 fn keep_m1(b: bool, s: LayoutState, n: u32) -> Stepped
-    ensures { result ≡ need b (withM1 s n) }
+    ensures { result ≡ need b (with_m1 s n) }
 {
     let mut t = s;
     t.m1 = n;
@@ -68,7 +68,7 @@ fn keep_m1(b: bool, s: LayoutState, n: u32) -> Stepped
 }
 
 fn keep_m2(b: bool, s: LayoutState, n: u32) -> Stepped
-    ensures { result ≡ need b (withM2 s n) }
+    ensures { result ≡ need b (with_m2 s n) }
 {
     let mut t = s;
     t.m2 = n;

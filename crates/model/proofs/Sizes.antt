@@ -9,11 +9,11 @@ use Rattle.columns.specs.declared.SignedField.{SignedField}
 use Rattle.columns.specs.declared.SignedField.TheVariants.{Number, Bad}
 use Rattle.columns.proofs.Tests.{both_right}
 use Rattle.directory.specs.Lines.{positive, size_of}
-use Rattle.owners.specs.InFile.{sizeOr0}
+use Rattle.owners.specs.InFile.{size_or0}
 
 -- a positive field is its number, read either way
-pub size_same : (f : SignedField) → positive f ≡ true → size_of f ≡ sizeOr0 f
-unfolding sizeOr0
+pub size_same : (f : SignedField) → positive f ≡ true → size_of f ≡ size_or0 f
+unfolding size_or0
 size_same (Number x) h = by x.neg h
   where
     by : (b : Bool) → not b && leb 1 x.size ≡ true → x.size ≡ cond b 0 x.size
@@ -22,6 +22,6 @@ size_same (Number x) h = by x.neg h
 size_same Bad h = refl
 
 -- and not 0
-pub size-some : (f : SignedField) → positive f ≡ true → 1 ≤ size_of f
-size-some (Number x) h = leb-true 1 x.size (both_right (not x.neg) (leb 1 x.size) h)
-size-some Bad h = let z : ◌≡◌ {A = ℕ} 0 1 = cc in absurd (omega arith)
+pub size_some : (f : SignedField) → positive f ≡ true → 1 ≤ size_of f
+size_some (Number x) h = leb-true 1 x.size (both_right (not x.neg) (leb 1 x.size) h)
+size_some Bad h = let z : ◌≡◌ {A = ℕ} 0 1 = cc in absurd (omega arith)

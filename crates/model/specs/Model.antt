@@ -23,16 +23,16 @@ abbrev pub type_of : Fields → ℕ
 type_of x = x.entity.size
 
 -- as the layouts see it
-abbrev pub entityOf : Fields → List Item → Entity
-entityOf x vs = record { typ = type_of x; form = x.form.size; values = vs }
+abbrev pub entity_of : Fields → List Item → Entity
+entity_of x vs = record { typ = type_of x; form = x.form.size; values = vs }
 
 -- an entry's numbers
-abbrev pub fieldsIn : Carried → Fields
-fieldsIn e = e.fields
+abbrev pub fields_in : Carried → Fields
+fields_in e = e.fields
 
 -- the types of all entries: what a reference names is told by them
 abbrev pub types_of : List Carried → List ℕ
-types_of es = map type_of (map fieldsIn es)
+types_of es = map type_of (map fields_in es)
 
 -- ---- the sheet of a model under a list: E or U for each entry, R or V for each value
 
@@ -46,26 +46,26 @@ marked (b ∷ bs) (v ∷ vs) = (b, v) ∷ marked bs vs
 unfoldable pub row_of : ℕ → Carried → Row
 row_of list e =
     row (known list (type_of e.fields) e.fields.form.size) e.fields e.label
-    (marked (marks list (entityOf e.fields e.values)) e.values)
+    (marked (marks list (entity_of e.fields e.values)) e.values)
 
 -- what the sheet of a model carries
-unfoldable pub sheetOf : ℕ → Model → Sheet
-sheetOf list m = record { starts = m.starts; globals = m.globals; rows = map (row_of list) m.entries }
+unfoldable pub sheet_of : ℕ → Model → Sheet
+sheet_of list m = record { starts = m.starts; globals = m.globals; rows = map (row_of list) m.entries }
 
 -- ---- the model of a sheet: the marks are left out
 
 -- a value without its mark
-abbrev pub valueIn : Bool × Item → Item
-valueIn v = v.1
+abbrev pub value_in : Bool × Item → Item
+value_in v = v.1
 
 -- the mark of a value
-abbrev pub markIn : Bool × Item → Bool
-markIn v = v.0
+abbrev pub mark_in : Bool × Item → Bool
+mark_in v = v.0
 
 -- an entry without marks
 abbrev pub carried_of : Row → Carried
-carried_of r = record { fields = r.fields; label = r.label; values = map valueIn r.values }
+carried_of r = record { fields = r.fields; label = r.label; values = map value_in r.values }
 
 -- what a sheet carries but for the marks
-unfoldable pub modelOf : Sheet → Model
-modelOf s = record { starts = s.starts; globals = s.globals; entries = map carried_of s.rows }
+unfoldable pub model_of : Sheet → Model
+model_of s = record { starts = s.starts; globals = s.globals; entries = map carried_of s.rows }

@@ -1,64 +1,64 @@
 -- Reading a file: its refusals in the paper's order, its model, its sheet.
 use Rattle.std.specs.Prelude.{Bool, true, false, cond, not, ◌&&◌, List, [], ◌∷◌, map, ℕ, suc, ◌+◌, ◌-◌, ◌*◌, ◌/◌, length, get_or, drop, leb, eqb}
 use Rattle.columns.specs.declared.Fault.TheVariants.{ListOrLength, Spelling, Global, Directory, FirstValue}
-use Rattle.columns.specs.Refusal.{Outcome, accepted, refused, demand, eachAt, ◌then◌}
-use Rattle.columns.specs.First.{firstNot, up_from}
+use Rattle.columns.specs.Refusal.{Outcome, accepted, refused, demand, each_at, ◌then◌}
+use Rattle.columns.specs.First.{first_not, up_from}
 use Rattle.columns.specs.Columns.{columns, line_at, text_of}
-use Rattle.columns.specs.Trim.{trimEnd}
-use Rattle.columns.specs.Format.{lineBytes, textColumns, parameterColumns, mostList}
+use Rattle.columns.specs.Trim.{trim_end}
+use Rattle.columns.specs.Format.{line_bytes, text_columns, parameter_columns, most_list}
 use Rattle.columns.specs.Letters.{space}
 use Rattle.values.specs.Value.{Item, default, whole, real, text, seen, is_default}
 use Rattle.records.specs.declared.Opening.{Opening}
 use Rattle.records.specs.declared.Opening.TheVariants.{Opened, Wrong}
-use Rattle.records.specs.Record.{Values, values, wrong, blanks, valuesAt, start_at, trimmed}
-use Rattle.records.specs.Global.{openingOf, firstField, globalFits}
+use Rattle.records.specs.Record.{Values, values, wrong, blanks, values_at, start_at, trimmed}
+use Rattle.records.specs.Global.{opening_of, first_field, global_fits}
 use Rattle.cards.specs.declared.Counts.{Counts}
-use Rattle.cards.specs.Cards.{cardsOf, outcome, firstG, firstD, entries, entryLine, parameterLine}
+use Rattle.cards.specs.Cards.{cards_of, outcome, first_g, first_d, entries, entry_line, parameter_line}
 use Rattle.directory.specs.declared.Fields.{Fields}
 use Rattle.directory.specs.declared.EntryRead.{EntryRead}
 use Rattle.directory.specs.declared.EntryRead.TheVariants.{Spelt, Wrong as WrongEntry}
 use Rattle.directory.specs.Lines.{entry_at, label_at}
-use Rattle.directory.specs.Rules.{entryRules, referenceRule}
-use Rattle.owners.specs.InFile.{ownersIn, outcome as ownershipOutcome}
-use Rattle.layouts.specs.Entities.{entityCheck}
-use Rattle.sheets.specs.Sheet.{sheetText}
-use Rattle.model.specs.Model.{Carried, Model, type_of, entityOf, sheetOf}
+use Rattle.directory.specs.Rules.{entry_rules, reference_rule}
+use Rattle.owners.specs.InFile.{owners_in, outcome as ownershipOutcome}
+use Rattle.layouts.specs.Entities.{entity_check}
+use Rattle.sheets.specs.Sheet.{sheet_text}
+use Rattle.model.specs.Model.{Carried, Model, type_of, entity_of, sheet_of}
 
 -- ---- S: text of columns 1-72 without trailing blanks
 
 -- a blank
-abbrev pub isBlank : ℕ → Bool
-isBlank b = eqb b space
+abbrev pub is_blank : ℕ → Bool
+is_blank b = eqb b space
 
 -- of line k
-abbrev pub startText : List ℕ → ℕ → List ℕ
-startText f k = trimEnd isBlank (columns (line_at f k) 0 textColumns)
+abbrev pub start_text : List ℕ → ℕ → List ℕ
+start_text f k = trim_end is_blank (columns (line_at f k) 0 text_columns)
 
 -- of all S lines
-unfoldable pub startsIn : List ℕ → Counts → List (List ℕ)
-startsIn f c = map (startText f) (up_from 0 c.s)
+unfoldable pub starts_in : List ℕ → Counts → List (List ℕ)
+starts_in f c = map (start_text f) (up_from 0 c.s)
 
 -- ---- G: 6 and 7 in text order, then 8
 
 -- columns 1-72 of G lines joined
-abbrev pub globalText : List ℕ → Counts → List ℕ
-globalText f c = text_of f (lineBytes * firstG c) textColumns c.g
+abbrev pub global_text : List ℕ → Counts → List ℕ
+global_text f c = text_of f (line_bytes * first_g c) text_columns c.g
 
 -- the file line, from 1, of a position of this text
-abbrev pub globalLine : Counts → ℕ → ℕ
-globalLine c p = firstG c + p / textColumns + 1
+abbrev pub global_line : Counts → ℕ → ℕ
+global_line c p = first_g c + p / text_columns + 1
 
 -- the line where the value starts, or the last G line if the text ends early
-abbrev pub spellingLine : Counts → List ℕ → ℕ → ℕ → ℕ
-spellingLine c t start at = cond (eqb at (length t)) (firstD c) (globalLine c start)
+abbrev pub spelling_line : Counts → List ℕ → ℕ → ℕ → ℕ
+spelling_line c t start at = cond (eqb at (length t)) (first_d c) (global_line c start)
 
 -- later columns are blank: else the first line with stray text after the record
-unfoldable pub noStray : Counts → List ℕ → ℕ → Outcome (Unit {0})
-noStray c t end = let q = end + blanks (drop end t) in demand (eqb q (length t)) Spelling (globalLine c q)
+unfoldable pub no_stray : Counts → List ℕ → ℕ → Outcome (Unit {0})
+no_stray c t end = let q = end + blanks (drop end t) in demand (eqb q (length t)) Spelling (global_line c q)
 
 -- field by field in text order
-abbrev pub fieldFits : List Item → ℕ → Bool
-fieldFits vs k = globalFits (firstField + k) (seen (get_or vs k default))
+abbrev pub field_fits : List Item → ℕ → Bool
+field_fits vs k = global_fits (first_field + k) (seen (get_or vs k default))
 
 -- the fields that aren't default, numbered from n on
 unfoldable pub given : ℕ → List Item → List (ℕ × Item)
@@ -68,31 +68,31 @@ given n (v ∷ vs) = cond (is_default v) (given (suc n) vs) ((n, v) ∷ given (s
 -- what G says: the two delimiters and the fields
 pub record GlobalRead : Type 0 where
   pub parameter : ℕ
-  pub record-end : ℕ
+  pub record_end : ℕ
   pub fields : List (ℕ × Item)
 
 -- the delimiters and the fields
-abbrev pub globalRead : ℕ → ℕ → List (ℕ × Item) → GlobalRead
-globalRead p d gs = record { parameter = p; record-end = d; fields = gs }
+abbrev pub global_read : ℕ → ℕ → List (ℕ × Item) → GlobalRead
+global_read p d gs = record { parameter = p; record_end = d; fields = gs }
 
 -- 6 or 7; stray text; 8; the fields
-abbrev pub byValues : Counts → List ℕ → ℕ → ℕ → ℕ → Values → Outcome GlobalRead
-byValues c t p d from (wrong n start at) = refused n (spellingLine c t start at)
-byValues c t p d from (values vs end) =
-    let k = firstNot (fieldFits vs) 0 (length vs) in
-    noStray c t end
-    then λ _. demand (eqb k (length vs)) Global (globalLine c (start_at textColumns p d t from k))
-    then λ _. accepted (globalRead p d (given firstField vs))
+abbrev pub by_values : Counts → List ℕ → ℕ → ℕ → ℕ → Values → Outcome GlobalRead
+by_values c t p d from (wrong n start at) = refused n (spelling_line c t start at)
+by_values c t p d from (values vs end) =
+    let k = first_not (field_fits vs) 0 (length vs) in
+    no_stray c t end
+    then λ _. demand (eqb k (length vs)) Global (global_line c (start_at text_columns p d t from k))
+    then λ _. accepted (global_read p d (given first_field vs))
 
 -- a wrong opening has the first G line; an opening that ends the record leaves no fields
-abbrev pub byOpening : Counts → List ℕ → Opening → Outcome GlobalRead
-byOpening c t Wrong = refused Spelling (firstG c + 1)
-byOpening c t (Opened p d next true) = noStray c t next then λ _. accepted (globalRead p d [])
-byOpening c t (Opened p d next false) = byValues c t p d next (valuesAt textColumns p d t next)
+abbrev pub by_opening : Counts → List ℕ → Opening → Outcome GlobalRead
+by_opening c t Wrong = refused Spelling (first_g c + 1)
+by_opening c t (Opened p d next true) = no_stray c t next then λ _. accepted (global_read p d [])
+by_opening c t (Opened p d next false) = by_values c t p d next (values_at text_columns p d t next)
 
 -- what G says, or its first refusal
-unfoldable pub globalIn : List ℕ → Counts → Outcome GlobalRead
-globalIn f c = byOpening c (globalText f c) (openingOf (globalText f c))
+unfoldable pub global_in : List ℕ → Counts → Outcome GlobalRead
+global_in f c = by_opening c (global_text f c) (opening_of (global_text f c))
 
 -- ---- D: each entry 9, 13; all 10. The place of an entry is its first D line
 
@@ -104,44 +104,44 @@ pub record Listed : Type 0 where
   pub lines : ℕ
 
 -- 9 for a field that is misspelt, then 9 and 13
-abbrev pub byEntry : List ℕ → ℕ → EntryRead → Outcome Listed
-byEntry label place WrongEntry = refused Directory place
-byEntry label place (Spelt x from count) =
-    entryRules x place then λ _. accepted (record { fields = x; label = label; pointer = from.0; lines = count })
+abbrev pub by_entry : List ℕ → ℕ → EntryRead → Outcome Listed
+by_entry label place WrongEntry = refused Directory place
+by_entry label place (Spelt x from count) =
+    entry_rules x place then λ _. accepted (record { fields = x; label = label; pointer = from.0; lines = count })
 
 -- the entry whose first D line has this place
-unfoldable pub entryIn : List ℕ → ℕ → ℕ → Outcome Listed
-entryIn f place k = byEntry (label_at f k) place (entry_at f k)
+unfoldable pub entry_in : List ℕ → ℕ → ℕ → Outcome Listed
+entry_in f place k = by_entry (label_at f k) place (entry_at f k)
 
 -- two D lines an entry
 abbrev pub two : {A : Type 0} → A → ℕ
 two x = 2
 
 -- the place of the first entry
-abbrev pub firstEntry : Counts → ℕ
-firstEntry c = firstD c + 1
+abbrev pub first_entry : Counts → ℕ
+first_entry c = first_d c + 1
 
 -- each entry 9, 13
-unfoldable pub entriesIn : List ℕ → Counts → Outcome (List Listed)
-entriesIn f c = eachAt two (entryIn f) (firstEntry c) (map (entryLine c) (up_from 0 (entries c)))
+unfoldable pub entries_in : List ℕ → Counts → Outcome (List Listed)
+entries_in f c = each_at two (entry_in f) (first_entry c) (map (entry_line c) (up_from 0 (entries c)))
 
 -- the type of an entry
-abbrev pub listedType : Listed → ℕ
-listedType e = type_of e.fields
+abbrev pub listed_type : Listed → ℕ
+listed_type e = type_of e.fields
 
 -- 10 of one entry
-abbrev pub referencesOf : List ℕ → ℕ → Listed → Outcome (Unit {0})
-referencesOf types place e = referenceRule types e.fields place
+abbrev pub references_of : List ℕ → ℕ → Listed → Outcome (Unit {0})
+references_of types place e = reference_rule types e.fields place
 
 -- all 10
-unfoldable pub referencesIn : Counts → List Listed → Outcome (List (Unit {0}))
-referencesIn c es = eachAt two (referencesOf (map listedType es)) (firstEntry c) es
+unfoldable pub references_in : Counts → List Listed → Outcome (List (Unit {0}))
+references_in c es = each_at two (references_of (map listed_type es)) (first_entry c) es
 
 -- ---- the last pass: each entry in turn 6 and 7 in text order, 12, 14, 15
 
 -- columns 1-64 of an entity's P lines joined
-abbrev pub parametersOf : List ℕ → Counts → Listed → List ℕ
-parametersOf f c e = text_of f (lineBytes * parameterLine c e.pointer) parameterColumns e.lines
+abbrev pub parameters_of : List ℕ → Counts → Listed → List ℕ
+parameters_of f c e = text_of f (line_bytes * parameter_line c e.pointer) parameter_columns e.lines
 
 -- the integer type
 abbrev pub is_type : ℕ → Item → Bool
@@ -155,28 +155,28 @@ abbrev pub carried : Listed → List Item → Carried
 carried e vs = record { fields = e.fields; label = e.label; values = vs }
 
 -- its first value is the type; of the others trailing defaults are dropped
-abbrev pub byParameters : ℕ → List ℕ → ℕ → Listed → Values → Outcome Carried
-byParameters list types place e (wrong n start at) = refused n place
-byParameters list types place e (values vs end) =
+abbrev pub by_parameters : ℕ → List ℕ → ℕ → Listed → Values → Outcome Carried
+by_parameters list types place e (wrong n start at) = refused n place
+by_parameters list types place e (values vs end) =
     let rest = trimmed (drop 1 vs) in
     demand (is_type (type_of e.fields) (get_or vs 0 default)) FirstValue place
-    then λ _. entityCheck list types (entityOf e.fields rest) place
+    then λ _. entity_check list types (entity_of e.fields rest) place
     then λ _. accepted (carried e rest)
 
 -- one entity of the last pass
-unfoldable pub entityIn : ℕ → List ℕ → Counts → GlobalRead → List ℕ → ℕ → Listed → Outcome Carried
-entityIn list f c g types place e =
-    byParameters list types place e (valuesAt parameterColumns g.parameter g.record-end (parametersOf f c e) 0)
+unfoldable pub entity_in : ℕ → List ℕ → Counts → GlobalRead → List ℕ → ℕ → Listed → Outcome Carried
+entity_in list f c g types place e =
+    by_parameters list types place e (values_at parameter_columns g.parameter g.record_end (parameters_of f c e) 0)
 
 -- each entry in turn
-unfoldable pub lastPass : ℕ → List ℕ → Counts → GlobalRead → List Listed → Outcome (List Carried)
-lastPass list f c g es = eachAt two (entityIn list f c g (map listedType es)) (firstEntry c) es
+unfoldable pub last_pass : ℕ → List ℕ → Counts → GlobalRead → List Listed → Outcome (List Carried)
+last_pass list f c g es = each_at two (entity_in list f c g (map listed_type es)) (first_entry c) es
 
 -- ---- the file: 1; each line 2, 3, 4; 5; G 6 and 7, then 8; each entry 9, 13; all 10; 11; the last pass
 
 -- the model of a file
-abbrev pub modelWith : List ℕ → Counts → GlobalRead → List Carried → Model
-modelWith f c g es = record { starts = startsIn f c; globals = g.fields; entries = es }
+abbrev pub model_with : List ℕ → Counts → GlobalRead → List Carried → Model
+model_with f c g es = record { starts = starts_in f c; globals = g.fields; entries = es }
 
 -- all that is asked before the last pass, where the list has no say
 pub record Before : Type 0 where
@@ -187,21 +187,21 @@ pub record Before : Type 0 where
 -- 1 (the length) to 5, 6 to 8 of G, 9, 13, 10, 11
 unfoldable pub before : List ℕ → Outcome Before
 before f =
-    outcome (cardsOf f)
-    then λ c. globalIn f c
-    then λ g. entriesIn f c
-    then λ es. referencesIn c es
-    then λ _. ownershipOutcome c (ownersIn f c)
+    outcome (cards_of f)
+    then λ c. global_in f c
+    then λ g. entries_in f c
+    then λ es. references_in c es
+    then λ _. ownershipOutcome c (owners_in f c)
     then λ _. accepted (record { counts = c; global = g; listed = es })
 
 -- the model of a file, or its first refusal
-unfoldable pub readModel : ℕ → List ℕ → Outcome Model
-readModel list f =
-    demand (leb list mostList) ListOrLength 0
+unfoldable pub read_model : ℕ → List ℕ → Outcome Model
+read_model list f =
+    demand (leb list most_list) ListOrLength 0
     then λ _. before f
-    then λ b. lastPass list f b.counts b.global b.listed
-    then λ es. accepted (modelWith f b.counts b.global es)
+    then λ b. last_pass list f b.counts b.global b.listed
+    then λ es. accepted (model_with f b.counts b.global es)
 
 -- the sheet of a file, or its first refusal
 unfoldable pub reads : ℕ → List ℕ → Outcome (List ℕ)
-reads list f = readModel list f then λ m. accepted (sheetText (sheetOf list m))
+reads list f = read_model list f then λ m. accepted (sheet_text (sheet_of list m))

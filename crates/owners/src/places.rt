@@ -2,11 +2,11 @@
 ghost use Rattle.std.specs.Prelude.{◌≡◌, ◌+◌, ◌*◌, ◌<◌, ◌≤◌, length};
 ghost use Rattle.columns.specs.Columns.{line_at};
 ghost use Rattle.columns.specs.Fixed.{signed_of};
-ghost use Rattle.columns.specs.Format.{lineBytes};
+ghost use Rattle.columns.specs.Format.{line_bytes};
 ghost use Rattle.cards.specs.Cards.{entries};
 ghost use Rattle.cards.specs.Rules.{Holds};
 ghost use Rattle.directory.specs.Reading.{slot_at};
-ghost use Rattle.owners.specs.InFile.{numberOr0, sizeOr0, name_of, ownerIn, fromIn, countIn};
+ghost use Rattle.owners.specs.InFile.{number_or0, size_or0, name_of, owner_in, from_in, count_in};
 
 use cards::Counts;
 use columns::format::{FIELD_COLUMNS, LINE_BYTES, PARAMETER_COLUMNS, TEXT_COLUMNS};
@@ -17,7 +17,7 @@ use directory::lines;
 const NAME: usize = PARAMETER_COLUMNS + 1;
 
 fn number_or_0(f: Field) -> u32
-    ensures { result ≡ numberOr0 f }
+    ensures { result ≡ number_or0 f }
 {
     match f {
         Field::Number(n) => n,
@@ -26,7 +26,7 @@ fn number_or_0(f: Field) -> u32
 }
 
 fn size_or_0(f: SignedField) -> u32
-    ensures { result ≡ sizeOr0 f }
+    ensures { result ≡ size_or0 f }
 {
     let SignedField::Number(x) = f else {
         return 0;
@@ -39,9 +39,9 @@ fn size_or_0(f: SignedField) -> u32
 
 // The number in slot j of the entry whose first D line is line k.
 fn size_at(file: &[u8], k: usize, j: usize) -> u32
-    requires k_in_bounds { lineBytes * (k + 2) ≤ length file.now }
+    requires k_in_bounds { line_bytes * (k + 2) ≤ length file.now }
     requires j_bound { j < 18 }
-    ensures { result ≡ sizeOr0 (signed_of (slot_at file.now k j)) }
+    ensures { result ≡ size_or0 (signed_of (slot_at file.now k j)) }
 {
     let at = lines::start_of(k, j);
     let f = columns_fixed::read_signed(file, at, at + FIELD_COLUMNS);
@@ -50,7 +50,7 @@ fn size_at(file: &[u8], k: usize, j: usize) -> u32
 
 // The directory number that a P line names, or 0.
 fn name_at(file: &[u8], line: usize) -> DirectoryNumber
-    requires { lineBytes * line + lineBytes ≤ length file.now }
+    requires { line_bytes * line + line_bytes ≤ length file.now }
     ensures { result.0 ≡ name_of (line_at file.now line) }
 {
     let at = LINE_BYTES * line;
@@ -66,7 +66,7 @@ pub fn owner_at(file: &[u8], c: Counts, k: ParameterLine) -> DirectoryNumber
     requires holds { Holds file.now c }
     requires le_k { 1 ≤ k.0 }
     requires k_le_p { k.0 ≤ c.p }
-    ensures { result.0 ≡ ownerIn file.now c k.0 }
+    ensures { result.0 ≡ owner_in file.now c k.0 }
 {
     let line = cards::parameter_line(c, k);
     name_at(file, line)
@@ -76,7 +76,7 @@ pub fn owner_at(file: &[u8], c: Counts, k: ParameterLine) -> DirectoryNumber
 pub fn from_at(file: &[u8], c: Counts, i: usize) -> ParameterLine
     requires holds { Holds file.now c }
     requires i_bound { i < entries c }
-    ensures { result.0 ≡ fromIn file.now c i }
+    ensures { result.0 ≡ from_in file.now c i }
 {
     let line = cards::entry_line(c, i);
     ParameterLine(size_at(file, line, lines::POINTER))
@@ -86,7 +86,7 @@ pub fn from_at(file: &[u8], c: Counts, i: usize) -> ParameterLine
 pub fn count_at(file: &[u8], c: Counts, i: usize) -> u32
     requires holds { Holds file.now c }
     requires i_bound { i < entries c }
-    ensures { result ≡ countIn file.now c i }
+    ensures { result ≡ count_in file.now c i }
 {
     let line = cards::entry_line(c, i);
     size_at(file, line, lines::COUNT)

@@ -1,11 +1,11 @@
 // Which P line is whose, asked of a file: checks over names, pointers and line counts, each linear in the lines.
 ghost use Rattle.std.specs.Prelude.{◌≡◌, ◌+◌, ◌<◌, ◌≤◌};
-ghost use Rattle.columns.specs.First.{firstNot};
+ghost use Rattle.columns.specs.First.{first_not};
 ghost use Rattle.cards.specs.Cards.{entries};
 ghost use Rattle.cards.specs.Rules.{Holds};
-ghost use Rattle.cards.specs.Shared.{fileLine};
-ghost use Rattle.owners.specs.Owners.{nameIs};
-ghost use Rattle.owners.specs.InFile.{ownerIn, entryIn, lineIn, ownersIn, line_of, Small};
+ghost use Rattle.cards.specs.Shared.{file_line};
+ghost use Rattle.owners.specs.Owners.{name_is};
+ghost use Rattle.owners.specs.InFile.{owner_in, entry_in, line_in, owners_in, line_of, Small};
 
 use cards::Counts;
 use columns::{DirectoryNumber, FileLine, ParameterLine, wide};
@@ -22,7 +22,7 @@ fn run_end(
     requires holds { Holds file.now c }
     requires le_from { 1 ≤ from.0 }
     requires count_bound { from.0 + count ≤ c.p + 1 }
-    ensures { result.0 ≡ firstNot (nameIs (ownerIn file.now c) m.0) from.0 count }
+    ensures { result.0 ≡ first_not (name_is (owner_in file.now c) m.0) from.0 count }
 {
     let end = from.0 + count;
     let mut k = from.0;
@@ -41,7 +41,7 @@ fn run_end(
 fn entry_owns(file: &[u8], c: Counts, i: usize) -> bool
     requires holds { Holds file.now c }
     requires i_bound { i < entries c }
-    ensures { result ≡ entryIn file.now c i }
+    ensures { result ≡ entry_in file.now c i }
 {
     let from = places::from_at(file, c, i);
     let count = places::count_at(file, c, i);
@@ -62,7 +62,7 @@ fn line_owned(file: &[u8], c: Counts, k: ParameterLine) -> bool
     requires holds { Holds file.now c }
     requires le_k { 1 ≤ k.0 }
     requires k_le_p { k.0 ≤ c.p }
-    ensures { result ≡ lineIn file.now c k.0 }
+    ensures { result ≡ line_in file.now c k.0 }
 {
     let owner = places::owner_at(file, c, k);
     let m = wide(owner.0);
@@ -86,7 +86,7 @@ fn line_owned(file: &[u8], c: Counts, k: ParameterLine) -> bool
 
 fn first_entry(file: &[u8], c: Counts) -> usize
     requires { Holds file.now c }
-    ensures { result ≡ firstNot (entryIn file.now c) 0 (entries c) }
+    ensures { result ≡ first_not (entry_in file.now c) 0 (entries c) }
 {
     let n = wide(c.d) / 2;
     let mut i = 0;
@@ -101,7 +101,7 @@ fn first_entry(file: &[u8], c: Counts) -> usize
 
 fn first_line(file: &[u8], c: Counts) -> ParameterLine
     requires { Holds file.now c }
-    ensures { result.0 ≡ firstNot (lineIn file.now c) 1 c.p }
+    ensures { result.0 ≡ first_not (line_in file.now c) 1 c.p }
 {
     let end = c.p + 1;
     let mut k = 1;
@@ -117,7 +117,7 @@ fn first_line(file: &[u8], c: Counts) -> ParameterLine
 // Whether every P line of a file with these counts has its entry.
 pub fn owners(file: &[u8], c: Counts) -> Owned
     requires { Holds file.now c }
-    ensures value { result ≡ ownersIn file.now c }
+    ensures value { result ≡ owners_in file.now c }
     ensures small { Small result }
 {
     let n = wide(c.d) / 2;
@@ -135,7 +135,7 @@ pub fn owners(file: &[u8], c: Counts) -> Owned
 // The file line of what was found: the entry's first D line, or the P line itself.
 pub fn line_of(c: Counts, found: Owned) -> FileLine
     requires { Small found }
-    ensures { result ≡ fileLine (line_of c found) }
+    ensures { result ≡ file_line (line_of c found) }
 {
     match found {
         Owned::Everyone => FileLine(0),

@@ -12,8 +12,8 @@ use Rattle.layouts.specs.Layout.{paper, bit_of}
 use Rattle.layouts.specs.Known.{known}
 use Rattle.model.specs.Model.{Carried}
 use Rattle.pieces.specs.declared.Member.TheVariants.{Piece, Nested, Stuck}
-use Rattle.pieces.specs.Subfigures.{membersFrom, entry_of, table_of, knowsBoth}
-use Rattle.pieces.specs.Visits.{visit, depthIn, membersIn, memberOf, kind_of, insideOf, visitsAmong, visitsTo, visitsOf, piece_of}
+use Rattle.pieces.specs.Subfigures.{members_from, entry_of, table_of, knows_both}
+use Rattle.pieces.specs.Visits.{visit, depth_in, members_in, member_of, kind_of, inside_of, visits_among, visits_to, visits_of, piece_of}
 use Rattle.pieces.specs.Pieces.{Tally, tally, counted, asked}
 
 -- an entry of a type with these values
@@ -41,7 +41,7 @@ ask list e = asked list (table_of room) e (record { s = 1; g = 3; d = 14; p = 7;
 pub asks : (ask 8704 1 ∷ ask 8704 5 ∷ ask 8704 9 ∷ ask 8704 3 ∷ ask 8704 2 ∷ ask 8704 99 ∷ ask 8192 1 ∷ ask 512 1 ∷ [])
     ≡ (accepted (tally 5 7) ∷ accepted (tally 2 2) ∷ refused DepthStays 5 ∷ refused NoInstance 0 ∷ refused NoInstance 0 ∷ refused NoInstance 0
     ∷ refused NoInstance 0 ∷ refused NoInstance 0 ∷ [])
-unfolding asked counted table_of entry_of membersFrom knowsBoth known bit_of paper depthIn membersIn memberOf kind_of insideOf visitsAmong visitsTo visitsOf piece_of
+unfolding asked counted table_of entry_of members_from knows_both known bit_of paper depth_in members_in member_of kind_of inside_of visits_among visits_to visits_of piece_of
 asks = refl
 
 -- the last visit that is made; one more, at the instance being counted; the limit comes before the depth

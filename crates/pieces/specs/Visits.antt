@@ -25,11 +25,11 @@ named_by t (definition depth ms) = other
 named_by t other = other
 
 -- its depth number and its members, by the instance
-unfoldable pub depthIn : Table → ℕ → ℕ
-depthIn t e = depth_of (named_by t (t e))
+unfoldable pub depth_in : Table → ℕ → ℕ
+depth_in t e = depth_of (named_by t (t e))
 
-unfoldable pub membersIn : Table → ℕ → List ℕ
-membersIn t e = members_of (named_by t (t e))
+unfoldable pub members_in : Table → ℕ → List ℕ
+members_in t e = members_of (named_by t (t e))
 
 -- ---- a visit
 
@@ -40,8 +40,8 @@ kind_of falls (definition depth ms) = Piece
 kind_of falls other = Piece
 
 -- the member m of a definition of this depth
-unfoldable pub memberOf : Table → ℕ → ℕ → Member
-memberOf t depth m = kind_of (ltb (depthIn t m) depth) (t m)
+unfoldable pub member_of : Table → ℕ → ℕ → Member
+member_of t depth m = kind_of (ltb (depth_in t m) depth) (t m)
 
 -- the instance being counted, its member, and what the member is
 pub data Visit : Type 0 where
@@ -50,26 +50,26 @@ pub data Visit : Type 0 where
 -- ---- all visits
 
 -- only a nested instance has visits inside
-unfoldable pub insideOf : Member → List Visit → List Visit
-insideOf Piece xs = []
-insideOf Nested xs = xs
-insideOf Stuck xs = []
+unfoldable pub inside_of : Member → List Visit → List Visit
+inside_of Piece xs = []
+inside_of Nested xs = xs
+inside_of Stuck xs = []
 
 -- those of some members of the instance e, where `inside` are those of each instance
-unfoldable pub visitsAmong : Table → (ℕ → List Visit) → ℕ → List ℕ → List Visit
-visitsAmong t inside e [] = []
-visitsAmong t inside e (m ∷ ms) =
-    visit e m (memberOf t (depthIn t e) m) ∷ (insideOf (memberOf t (depthIn t e) m) (inside m) ++ visitsAmong t inside e ms)
+unfoldable pub visits_among : Table → (ℕ → List Visit) → ℕ → List ℕ → List Visit
+visits_among t inside e [] = []
+visits_among t inside e (m ∷ ms) =
+    visit e m (member_of t (depth_in t e) m) ∷ (inside_of (member_of t (depth_in t e) m) (inside m) ++ visits_among t inside e ms)
 
 -- n levels of them
-unfoldable pub visitsTo : Table → ℕ → ℕ → List Visit
-visitsTo t zero e = []
-visitsTo t (suc n) e = visitsAmong t (visitsTo t n) e (membersIn t e)
+unfoldable pub visits_to : Table → ℕ → ℕ → List Visit
+visits_to t zero e = []
+visits_to t (suc n) e = visits_among t (visits_to t n) e (members_in t e)
 
--- all: the depth falls from level to level, so there are no more levels than it says, and one. `visits-again` in proofs/Depth.antt:
--- visitsOf t e ≡ visitsAmong t (visitsOf t) e (membersIn t e)
-unfoldable pub visitsOf : Table → ℕ → List Visit
-visitsOf t e = visitsTo t (suc (depthIn t e)) e
+-- all: the depth falls from level to level, so there are no more levels than it says, and one. `visits_again` in proofs/Depth.antt:
+-- visits_of t e ≡ visits_among t (visits_of t) e (members_in t e)
+unfoldable pub visits_of : Table → ℕ → List Visit
+visits_of t e = visits_to t (suc (depth_in t e)) e
 
 -- ---- how many of them are pieces, and how many are stuck
 
@@ -78,15 +78,15 @@ piece_of Piece = 1
 piece_of Nested = 0
 piece_of Stuck = 0
 
-unfoldable pub stuckOf : Member → ℕ
-stuckOf Piece = 0
-stuckOf Nested = 0
-stuckOf Stuck = 1
+unfoldable pub stuck_of : Member → ℕ
+stuck_of Piece = 0
+stuck_of Nested = 0
+stuck_of Stuck = 1
 
-unfoldable pub piecesIn : List Visit → ℕ
-piecesIn [] = 0
-piecesIn (visit e m k ∷ xs) = piece_of k + piecesIn xs
+unfoldable pub pieces_in : List Visit → ℕ
+pieces_in [] = 0
+pieces_in (visit e m k ∷ xs) = piece_of k + pieces_in xs
 
-unfoldable pub stuckIn : List Visit → ℕ
-stuckIn [] = 0
-stuckIn (visit e m k ∷ xs) = stuckOf k + stuckIn xs
+unfoldable pub stuck_in : List Visit → ℕ
+stuck_in [] = 0
+stuck_in (visit e m k ∷ xs) = stuck_of k + stuck_in xs

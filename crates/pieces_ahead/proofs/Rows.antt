@@ -11,16 +11,16 @@ use lib.Dec.{leb}
 use borrow.Author.Tests.{lt-ltb, le-ltb, le-leb, lt-leb, leb-true, leb-false}
 use Rattle.columns.specs.Columns.{columns, blank}
 use Rattle.columns.specs.First.{up_from}
-use Rattle.columns.specs.Format.{lineBytes, parameterColumns}
+use Rattle.columns.specs.Format.{line_bytes, parameter_columns}
 use Rattle.columns.proofs.Tests.{cond_cases}
-use Rattle.pieces_ahead.specs.Places.{Places, is_empty, contentFrom, aheadAt, places_of, Mapped}
+use Rattle.pieces_ahead.specs.Places.{Places, is_empty, content_from, ahead_at, places_of, Mapped}
 
 -- ---- a list of the numbers one after another, each turned into another
 
 module _ (g h : ℕ → ℕ) where
-  pub same-all : (l : List ℕ) → ((y : ℕ) → g y ≡ h y) → map g l ≡ map h l
-  same-all [] e = refl
-  same-all (x ∷ l) e = ap₂ (λ (y : ℕ) (ys : List ℕ). y ∷ ys) (e x) (same-all l e)
+  pub same_all : (l : List ℕ) → ((y : ℕ) → g y ≡ h y) → map g l ≡ map h l
+  same_all [] e = refl
+  same_all (x ∷ l) e = ap₂ (λ (y : ℕ) (ys : List ℕ). y ∷ ys) (e x) (same_all l e)
 
   -- one of them set
   pub set-one : (n s x v : ℕ) → x < n → h (s + x) ≡ v → ((y : ℕ) → (y ≡ s + x → ⊥) → g y ≡ h y) → set (map g (up_from s n)) x v ≡ map h (up_from s n)
@@ -41,19 +41,19 @@ unfolding up_from
 none_yet h zero s e = refl
 none_yet h (suc n) s e = ap₂ (λ (y : ℕ) (ys : List ℕ). y ∷ ys) (sym (e s)) (none_yet h n (s + 1) e)
 
-pub getD-all : (h : ℕ → ℕ) (n s j : ℕ) → j < n → get_or (map h (up_from s n)) j 0 ≡ h (s + j)
+pub get_d_all : (h : ℕ → ℕ) (n s j : ℕ) → j < n → get_or (map h (up_from s n)) j 0 ≡ h (s + j)
 unfolding up_from
-getD-all h zero s j l = absurd (omega arith)
-getD-all h (suc n) s zero l = ap h (sym (add-zero s))
-getD-all h (suc n) s (suc j) l =
+get_d_all h zero s j l = absurd (omega arith)
+get_d_all h (suc n) s zero l = ap h (sym (add-zero s))
+get_d_all h (suc n) s (suc j) l =
     let a : s + 1 + j ≡ s + suc j = omega arith in
-    getD-all h n (s + 1) j (omega arith) ∙ ap h a
+    get_d_all h n (s + 1) j (omega arith) ∙ ap h a
 
 -- ---- the next line with content
 
-pub empty-is : {x : Bool} (f : List ℕ) (k : ℕ) → x ≡ blank (columns f (lineBytes * k) (lineBytes * k + parameterColumns)) → x ≡ is_empty f k
+pub empty_is : {x : Bool} (f : List ℕ) (k : ℕ) → x ≡ blank (columns f (line_bytes * k) (line_bytes * k + parameter_columns)) → x ≡ is_empty f k
 unfolding is_empty
-empty-is f k e = e
+empty_is f k e = e
 
 pub is-here : {x : Bool} (f : List ℕ) (k next : ℕ) → x ≡ is_empty f k → x ≡ false → k ≡ cond (is_empty f k) next k
 is-here f k next e t = rw (← e, t)
@@ -62,72 +62,72 @@ pub is_later : {x : Bool} (f : List ℕ) (k next : ℕ) → x ≡ is_empty f k �
 is_later f k next e t = rw (← e, t)
 
 module _ (f : List ℕ) where
-  pub content-step : (k n : ℕ) → contentFrom f k (suc n) ≡ cond (is_empty f k) (contentFrom f (k + 1) n) k
-  unfolding contentFrom
-  content-step k n = refl
+  pub content_step : (k n : ℕ) → content_from f k (suc n) ≡ cond (is_empty f k) (content_from f (k + 1) n) k
+  unfolding content_from
+  content_step k n = refl
 
-  pub content-le : (n k : ℕ) → contentFrom f k n ≤ k + n
-  unfolding contentFrom
-  content-le zero k = omega arith
-  content-le (suc n) k =
-      let h : contentFrom f (k + 1) n ≤ k + suc n = let z = content-le n (k + 1) in omega arith in
-      cond_cases (λ (x : ℕ). x ≤ k + suc n) (is_empty f k) (contentFrom f (k + 1) n) k (λ _. h) (λ _. omega arith)
+  pub content_le : (n k : ℕ) → content_from f k n ≤ k + n
+  unfolding content_from
+  content_le zero k = omega arith
+  content_le (suc n) k =
+      let h : content_from f (k + 1) n ≤ k + suc n = let z = content_le n (k + 1) in omega arith in
+      cond_cases (λ (x : ℕ). x ≤ k + suc n) (is_empty f k) (content_from f (k + 1) n) k (λ _. h) (λ _. omega arith)
 
 -- one line back
-pub content-back : (f : List ℕ) (parameters i behind next r : ℕ) → next ≡ contentFrom f i (behind - i) → parameters < i → i ≤ behind
-    → r ≡ cond (is_empty f (i - 1)) next (i - 1) → r ≡ contentFrom f (i - 1) (behind - (i - 1))
-content-back f parameters i behind next r en lt le er =
+pub content_back : (f : List ℕ) (parameters i behind next r : ℕ) → next ≡ content_from f i (behind - i) → parameters < i → i ≤ behind
+    → r ≡ cond (is_empty f (i - 1)) next (i - 1) → r ≡ content_from f (i - 1) (behind - (i - 1))
+content_back f parameters i behind next r en lt le er =
     let a : behind - (i - 1) ≡ suc (behind - i) = omega arith in
     let b : i - 1 + 1 ≡ i = omega arith in
-    er ∙ (rw (a, content-step f (i - 1) (behind - i), b, en))
+    er ∙ (rw (a, content_step f (i - 1) (behind - i), b, en))
 
-pub content-fits : (f : List ℕ) (parameters i behind next r : ℕ) → next ≡ contentFrom f i (behind - i) → parameters < i → i ≤ behind
+pub content_fits : (f : List ℕ) (parameters i behind next r : ℕ) → next ≡ content_from f i (behind - i) → parameters < i → i ≤ behind
     → r ≡ cond (is_empty f (i - 1)) next (i - 1) → behind ≤ 200000 → r < 2 ^ 32
-content-fits f parameters i behind next r en lt le er h =
-    let e = content-back f parameters i behind next r en lt le er in
-    let b = content-le f (behind - (i - 1)) (i - 1) in
+content_fits f parameters i behind next r en lt le er h =
+    let e = content_back f parameters i behind next r en lt le er in
+    let b = content_le f (behind - (i - 1)) (i - 1) in
     omega (arith, rw (← e) at b)
 
 -- ---- the row while it is filled
 
 -- for the lines from i on: 0 for a line before them
-unfoldable pub partlyAt : List ℕ → ℕ → ℕ → ℕ → ℕ → ℕ
-partlyAt f parameters behind i b = cond (leb i (parameters + 64 * b)) (aheadAt f parameters behind b) 0
+unfoldable pub partly_at : List ℕ → ℕ → ℕ → ℕ → ℕ → ℕ
+partly_at f parameters behind i b = cond (leb i (parameters + 64 * b)) (ahead_at f parameters behind b) 0
 
-unfoldable pub rowFrom : List ℕ → ℕ → ℕ → ℕ → ℕ → ℕ → ℕ → Places
-rowFrom f first parameters behind c d i =
-    first ∷ (parameters ∷ (c ∷ (d ∷ (behind ∷ map (partlyAt f parameters behind i) (up_from 0 3125)))))
+unfoldable pub row_from : List ℕ → ℕ → ℕ → ℕ → ℕ → ℕ → ℕ → Places
+row_from f first parameters behind c d i =
+    first ∷ (parameters ∷ (c ∷ (d ∷ (behind ∷ map (partly_at f parameters behind i) (up_from 0 3125)))))
 
 module _ (f : List ℕ) (parameters behind : ℕ) where
-  pub at_told : (i b : ℕ) → i ≤ parameters + 64 * b → partlyAt f parameters behind i b ≡ aheadAt f parameters behind b
-  unfolding partlyAt
+  pub at_told : (i b : ℕ) → i ≤ parameters + 64 * b → partly_at f parameters behind i b ≡ ahead_at f parameters behind b
+  unfolding partly_at
   at_told i b h = rw (le-leb i (parameters + 64 * b) h)
 
-  pub at_before : (i b : ℕ) → parameters + 64 * b < i → partlyAt f parameters behind i b ≡ 0
-  unfolding partlyAt
+  pub at_before : (i b : ℕ) → parameters + 64 * b < i → partly_at f parameters behind i b ≡ 0
+  unfolding partly_at
   at_before i b h = rw (lt-leb i (parameters + 64 * b) h)
 
-  pub at-past : (b : ℕ) → behind ≤ parameters + 64 * b → aheadAt f parameters behind b ≡ 0
-  unfolding aheadAt
+  pub at-past : (b : ℕ) → behind ≤ parameters + 64 * b → ahead_at f parameters behind b ≡ 0
+  unfolding ahead_at
   at-past b h = rw (le-ltb (parameters + 64 * b) behind h)
 
-  pub at-content : (b : ℕ) → parameters + 64 * b < behind → aheadAt f parameters behind b ≡ contentFrom f (parameters + 64 * b) (behind - (parameters + 64 * b))
-  unfolding aheadAt
-  at-content b h = rw (lt-ltb (parameters + 64 * b) behind h)
+  pub at_content : (b : ℕ) → parameters + 64 * b < behind → ahead_at f parameters behind b ≡ content_from f (parameters + 64 * b) (behind - (parameters + 64 * b))
+  unfolding ahead_at
+  at_content b h = rw (lt-ltb (parameters + 64 * b) behind h)
 
   -- from the line behind P on there is none
-  pub at_first : (b : ℕ) → partlyAt f parameters behind behind b ≡ 0
+  pub at_first : (b : ℕ) → partly_at f parameters behind behind b ≡ 0
   at_first b = pick (leb behind (parameters + 64 * b)) refl
     where
-      pick : (t : Bool) → leb behind (parameters + 64 * b) ≡ t → partlyAt f parameters behind behind b ≡ 0
+      pick : (t : Bool) → leb behind (parameters + 64 * b) ≡ t → partly_at f parameters behind behind b ≡ 0
       pick true e = let h = leb-true behind (parameters + 64 * b) e in at_told behind b h ∙ at-past b h
       pick false e = at_before behind b (leb-false behind (parameters + 64 * b) e)
 
   -- one line back, at any place but that line's
-  pub at_other : (i b : ℕ) → (i - 1 ≡ parameters + 64 * b → ⊥) → partlyAt f parameters behind i b ≡ partlyAt f parameters behind (i - 1) b
+  pub at_other : (i b : ℕ) → (i - 1 ≡ parameters + 64 * b → ⊥) → partly_at f parameters behind i b ≡ partly_at f parameters behind (i - 1) b
   at_other i b h = pick (leb i (parameters + 64 * b)) refl
     where
-      pick : (t : Bool) → leb i (parameters + 64 * b) ≡ t → partlyAt f parameters behind i b ≡ partlyAt f parameters behind (i - 1) b
+      pick : (t : Bool) → leb i (parameters + 64 * b) ≡ t → partly_at f parameters behind i b ≡ partly_at f parameters behind (i - 1) b
       pick true e = let k = leb-true i (parameters + 64 * b) e in at_told i b k ∙ sym (at_told (i - 1) b (omega arith))
       pick false e =
           let k = leb-false i (parameters + 64 * b) e in
@@ -135,48 +135,48 @@ module _ (f : List ℕ) (parameters behind : ℕ) where
           at_before i b k ∙ sym (at_before (i - 1) b z)
 
 module _ (f : List ℕ) (first parameters behind c d : ℕ) where
-  pub row-start : set (set (set (set (set (replicate 3130 0) 0 first) 1 parameters) 2 c) 3 d) 4 behind ≡ rowFrom f first parameters behind c d behind
-  unfolding rowFrom
+  pub row-start : set (set (set (set (set (replicate 3130 0) 0 first) 1 parameters) 2 c) 3 d) 4 behind ≡ row_from f first parameters behind c d behind
+  unfolding row_from
   row-start =
-      ap (λ (l : List ℕ). first ∷ (parameters ∷ (c ∷ (d ∷ (behind ∷ l))))) (none_yet (partlyAt f parameters behind behind) 3125 0 (at_first f parameters behind))
+      ap (λ (l : List ℕ). first ∷ (parameters ∷ (c ∷ (d ∷ (behind ∷ l))))) (none_yet (partly_at f parameters behind behind) 3125 0 (at_first f parameters behind))
 
-  pub row_kept : (at : List ℕ) (i : ℕ) → at ≡ rowFrom f first parameters behind c d i → parameters < i → ((i - 1 - parameters) % 64 ≡ 0 → ⊥)
-      → at ≡ rowFrom f first parameters behind c d (i - 1)
-  unfolding rowFrom
+  pub row_kept : (at : List ℕ) (i : ℕ) → at ≡ row_from f first parameters behind c d i → parameters < i → ((i - 1 - parameters) % 64 ≡ 0 → ⊥)
+      → at ≡ row_from f first parameters behind c d (i - 1)
+  unfolding row_from
   row_kept at i e l h =
       e ∙ ap (λ (l : List ℕ). first ∷ (parameters ∷ (c ∷ (d ∷ (behind ∷ l)))))
-      (same-all (partlyAt f parameters behind i) (partlyAt f parameters behind (i - 1)) (up_from 0 3125)
+      (same_all (partly_at f parameters behind i) (partly_at f parameters behind (i - 1)) (up_from 0 3125)
       (λ b. at_other f parameters behind i b (λ q. h (omega arith))))
 
-  pub row-set : (at : List ℕ) (i next r : ℕ) → at ≡ rowFrom f first parameters behind c d i → next ≡ contentFrom f i (behind - i) → parameters < i → i ≤ behind
+  pub row-set : (at : List ℕ) (i next r : ℕ) → at ≡ row_from f first parameters behind c d i → next ≡ content_from f i (behind - i) → parameters < i → i ≤ behind
       → r ≡ cond (is_empty f (i - 1)) next (i - 1) → behind ≤ 200000 → (i - 1 - parameters) % 64 ≡ 0
-      → set at (5 + (i - 1 - parameters) / 64) r ≡ rowFrom f first parameters behind c d (i - 1)
-  unfolding rowFrom
+      → set at (5 + (i - 1 - parameters) / 64) r ≡ row_from f first parameters behind c d (i - 1)
+  unfolding row_from
   row-set at i next r e en l le er most h =
       let k : ℕ = (i - 1 - parameters) / 64 in
       let a : parameters + 64 * (0 + k) ≡ i - 1 = omega arith in
       let z : 5 + k ≡ suc (suc (suc (suc (suc k)))) = omega arith in
-      let v : partlyAt f parameters behind (i - 1) (0 + k) ≡ r =
-      at_told f parameters behind (i - 1) (0 + k) (omega arith) ∙ at-content f parameters behind (0 + k) (omega arith)
-      ∙ ap (λ (x : ℕ). contentFrom f x (behind - x)) a ∙ sym (content-back f parameters i behind next r en l le er) in
+      let v : partly_at f parameters behind (i - 1) (0 + k) ≡ r =
+      at_told f parameters behind (i - 1) (0 + k) (omega arith) ∙ at_content f parameters behind (0 + k) (omega arith)
+      ∙ ap (λ (x : ℕ). content_from f x (behind - x)) a ∙ sym (content_back f parameters i behind next r en l le er) in
       rw (e, z)
       (ap (λ (l : List ℕ). first ∷ (parameters ∷ (c ∷ (d ∷ (behind ∷ l)))))
-      (set-one (partlyAt f parameters behind i) (partlyAt f parameters behind (i - 1)) 3125 0 k r (omega arith) v
+      (set-one (partly_at f parameters behind i) (partly_at f parameters behind (i - 1)) 3125 0 k r (omega arith) v
       (λ b q. at_other f parameters behind i b (λ y. q (omega arith)))))
 
-  pub row-all : (at : List ℕ) (i : ℕ) → at ≡ rowFrom f first parameters behind c d i → parameters ≤ i → i ≤ parameters → at ≡ places_of f first parameters behind c d
-  unfolding rowFrom
-  row-all at i e l h =
+  pub row_all : (at : List ℕ) (i : ℕ) → at ≡ row_from f first parameters behind c d i → parameters ≤ i → i ≤ parameters → at ≡ places_of f first parameters behind c d
+  unfolding row_from
+  row_all at i e l h =
       e ∙ ap (λ (l : List ℕ). first ∷ (parameters ∷ (c ∷ (d ∷ (behind ∷ l)))))
-      (same-all (partlyAt f parameters behind i) (aheadAt f parameters behind) (up_from 0 3125) (λ b. at_told f parameters behind i b (omega arith)))
+      (same_all (partly_at f parameters behind i) (ahead_at f parameters behind) (up_from 0 3125) (λ b. at_told f parameters behind i b (omega arith)))
 
-pub content-none : (f : List ℕ) (behind : ℕ) → behind ≡ contentFrom f behind (behind - behind)
-unfolding contentFrom
-content-none f behind =
+pub content_none : (f : List ℕ) (behind : ℕ) → behind ≡ content_from f behind (behind - behind)
+unfolding content_from
+content_none f behind =
     let z : behind - behind ≡ 0 = omega arith in
     rw z
 
-pub ruleset fills = (empty-is, is-here, is_later, content-back, content-fits, content-none, row-start, row_kept, row-set, row-all)
+pub ruleset fills = (empty_is, is-here, is_later, content_back, content_fits, content_none, row-start, row_kept, row-set, row_all)
 
 -- ---- what a reader counts on
 
@@ -192,5 +192,5 @@ mapped f first parameters behind c d size inside fp pb most c0 c1 d0 d1 =
       ahead = λ b h.
           let z : 5 + b ≡ suc (suc (suc (suc (suc b)))) = omega arith in
           let y : 0 + b ≡ b = omega arith in
-          rw z (getD-all (aheadAt f parameters behind) 3125 0 b (omega arith) ∙ rw y (at-content f parameters behind b h));
+          rw z (get_d_all (ahead_at f parameters behind) 3125 0 b (omega arith) ∙ rw y (at_content f parameters behind b h));
     }

@@ -9,15 +9,15 @@ ghost use mathlib.Core.Bool.{false};
 ghost use Prim.Native.Nat.{◌+◌, ◌-◌, ◌*◌, ◌≤◌};
 ghost use lib.ListN.{drop};
 ghost use Rattle.columns.specs.Columns.{text_of};
-ghost use Rattle.columns.specs.Format.{lineBytes, parameterColumns};
+ghost use Rattle.columns.specs.Format.{line_bytes, parameter_columns};
 ghost use Rattle.values.specs.Number.{token};
 ghost use Rattle.values.specs.Reading.{Within};
 ghost use Rattle.values.specs.declared.Head.{Head};
 ghost use Rattle.values.specs.declared.Number.{Number};
 ghost use Rattle.records.specs.Record.{blanks, next_at, headed, value_at};
 ghost use Rattle.records.specs.Reading.{Stands, place, Sane};
-ghost use Rattle.pieces_ahead.specs.Places.{parameterOf, closingOf, Lies, Mapped};
-ghost use Rattle.pieces_ahead.specs.Shorts.{defaultOf, Begins, Inside};
+ghost use Rattle.pieces_ahead.specs.Places.{parameter_of, closing_of, Lies, Mapped};
+ghost use Rattle.pieces_ahead.specs.Shorts.{default_of, Begins, Inside};
 
 use columns::Fault;
 use columns::format::{LINE_BYTES, PARAMETER_COLUMNS};
@@ -36,10 +36,10 @@ const STRIDE: usize = 4096;
 fn jump(file: &[u8], at: &[u32; PLACES], line: usize, lines: usize, q: usize) -> usize
     requires mapped { Mapped file.now at.now }
     requires lies { Lies at.now line lines }
-    requires q_bound { q ≤ lines * parameterColumns }
-    ensures lines_value { q + blanks (drop q (text_of file.now (lineBytes * line) parameterColumns lines))
-        ≡ result + blanks (drop result (text_of file.now (lineBytes * line) parameterColumns lines)) }
-    ensures lower_bound { (q ≤ result) × (result ≤ lines * parameterColumns) }
+    requires q_bound { q ≤ lines * parameter_columns }
+    ensures lines_value { q + blanks (drop q (text_of file.now (line_bytes * line) parameter_columns lines))
+        ≡ result + blanks (drop result (text_of file.now (line_bytes * line) parameter_columns lines)) }
+    ensures lower_bound { (q ≤ result) × (result ≤ lines * parameter_columns) }
 {
     let end = lines * PARAMETER_COLUMNS;
     if end <= q {
@@ -61,9 +61,9 @@ fn jump(file: &[u8], at: &[u32; PLACES], line: usize, lines: usize, q: usize) ->
 fn behind_blanks(file: &[u8], at: &[u32; PLACES], line: usize, lines: usize, p: usize) -> usize
     requires mapped { Mapped file.now at.now }
     requires lies { Lies at.now line lines }
-    requires p_bound { p ≤ lines * parameterColumns }
-    ensures value { result ≡ p + blanks (drop p (text_of file.now (lineBytes * line) parameterColumns lines)) }
-    ensures lower_bound { (p ≤ result) × (result ≤ lines * parameterColumns) }
+    requires p_bound { p ≤ lines * parameter_columns }
+    ensures value { result ≡ p + blanks (drop p (text_of file.now (line_bytes * line) parameter_columns lines)) }
+    ensures lower_bound { (p ≤ result) × (result ≤ lines * parameter_columns) }
 {
     let base = LINE_BYTES * line;
     let mut q = p;
@@ -81,7 +81,7 @@ fn behind_blanks(file: &[u8], at: &[u32; PLACES], line: usize, lines: usize, p: 
 // Nothing before a delimiter is a default.
 fn default_of(n: Next) -> Got
     requires { place n ≤ 16000000 }
-    ensures { result ≡ defaultOf n }
+    ensures { result ≡ default_of n }
 {
     match n {
         Next::Delimiter { at, last } => Got::Found {
@@ -102,9 +102,9 @@ fn default_of(n: Next) -> Got
 fn next_at(file: &[u8], at: &[u32; PLACES], line: usize, lines: usize, p: usize) -> Next
     requires mapped { Mapped file.now at.now }
     requires lies { Lies at.now line lines }
-    requires p_bound { p ≤ lines * parameterColumns }
-    ensures { (result ≡ next_at (parameterOf at.now) (closingOf at.now)
-        (text_of file.now (lineBytes * line) parameterColumns lines) p) × (place result ≤ lines * parameterColumns) }
+    requires p_bound { p ≤ lines * parameter_columns }
+    ensures { (result ≡ next_at (parameter_of at.now) (closing_of at.now)
+        (text_of file.now (line_bytes * line) parameter_columns lines) p) × (place result ≤ lines * parameter_columns) }
 {
     let base = LINE_BYTES * line;
     let c = parameter(at);
@@ -130,9 +130,9 @@ fn whole_at(
 ) -> Got
     requires mapped { Mapped file.now at.now }
     requires lies { Lies at.now line lines }
-    requires len_bound { s + len ≤ lines * parameterColumns }
-    ensures { result ≡ headed (parameterOf at.now) (closingOf at.now)
-        (text_of file.now (lineBytes * line) parameterColumns lines) s (Head.Plain (token (Number.Whole false size) len)) }
+    requires len_bound { s + len ≤ lines * parameter_columns }
+    ensures { result ≡ headed (parameter_of at.now) (closing_of at.now)
+        (text_of file.now (line_bytes * line) parameter_columns lines) s (Head.Plain (token (Number.Whole false size) len)) }
 {
     let n = next_at(file, at, line, lines, s + len);
     found_of(Value::Whole { neg: false, size }, s, n)
@@ -150,10 +150,10 @@ fn count_at(
 ) -> Got
     requires mapped { Mapped file.now at.now }
     requires lies { Lies at.now line lines }
-    requires s_bound { s ≤ lines * parameterColumns }
-    requires within { Within (lines * parameterColumns - s) (Head.Count count len) }
-    ensures { result ≡ headed (parameterOf at.now) (closingOf at.now)
-        (text_of file.now (lineBytes * line) parameterColumns lines) s (Head.Count count len) }
+    requires s_bound { s ≤ lines * parameter_columns }
+    requires within { Within (lines * parameter_columns - s) (Head.Count count len) }
+    ensures { result ≡ headed (parameter_of at.now) (closing_of at.now)
+        (text_of file.now (line_bytes * line) parameter_columns lines) s (Head.Count count len) }
 {
     let from = s + len;
     let end = from + count;
@@ -170,10 +170,10 @@ fn count_at(
 
 // What the value at s begins with: its head stands on one line, and the rest of a line is a part of the file.
 fn short_at(file: &[u8], line: usize, lines: usize, s: usize) -> Short
-    requires stands { Stands file.now (lineBytes * line) parameterColumns lines }
-    requires s_bound { s ≤ lines * parameterColumns }
-    ensures begins { Begins (text_of file.now (lineBytes * line) parameterColumns lines) s result }
-    ensures inside { Inside (lines * parameterColumns - s) result }
+    requires stands { Stands file.now (line_bytes * line) parameter_columns lines }
+    requires s_bound { s ≤ lines * parameter_columns }
+    ensures begins { Begins (text_of file.now (line_bytes * line) parameter_columns lines) s result }
+    ensures inside { Inside (lines * parameter_columns - s) result }
 {
     if lines * PARAMETER_COLUMNS <= s {
         return Short::Other;
@@ -187,10 +187,10 @@ fn short_at(file: &[u8], line: usize, lines: usize, s: usize) -> Short
 pub fn value_at(file: &[u8], at: &[u32; PLACES], line: usize, lines: usize, p: usize) -> Got
     requires mapped { Mapped file.now at.now }
     requires lies { Lies at.now line lines }
-    requires p_bound { p ≤ lines * parameterColumns }
-    ensures value { result ≡ value_at parameterColumns (parameterOf at.now) (closingOf at.now)
-        (text_of file.now (lineBytes * line) parameterColumns lines) p }
-    ensures sane { Sane p (lines * parameterColumns) result }
+    requires p_bound { p ≤ lines * parameter_columns }
+    ensures value { result ≡ value_at parameter_columns (parameter_of at.now) (closing_of at.now)
+        (text_of file.now (line_bytes * line) parameter_columns lines) p }
+    ensures sane { Sane p (lines * parameter_columns) result }
 {
     let n = next_at(file, at, line, lines, p);
     let Next::Other { at: s } = n else {

@@ -3,8 +3,8 @@ ghost use mathlib.Core.Path.{◌≡◌};
 ghost use mathlib.Core.Bool.{cond};
 ghost use Prim.Native.Nat.{◌+◌, ◌*◌, ◌≤◌, ◌<◌};
 ghost use lib.ListN.{length};
-ghost use Rattle.columns.specs.Format.{lineBytes, mostLines};
-ghost use Rattle.pieces_ahead.specs.Places.{first_of, parametersOf, parameterOf, closingOf, ahead_of, is_empty, places_of};
+ghost use Rattle.columns.specs.Format.{line_bytes, most_lines};
+ghost use Rattle.pieces_ahead.specs.Places.{first_of, parameters_of, parameter_of, closing_of, ahead_of, is_empty, places_of};
 
 use columns::format::{LINE_BYTES, PARAMETER_COLUMNS};
 use columns::look::is_blank;
@@ -37,23 +37,23 @@ pub fn first(at: &[u32; PLACES]) -> usize
 
 // The index of the first P line.
 pub fn parameters(at: &[u32; PLACES]) -> usize
-    ensures { result ≡ parametersOf at.now }
+    ensures { result ≡ parameters_of at.now }
 {
     wide(at[PARAMETERS])
 }
 
 // What parts values.
 pub fn parameter(at: &[u32; PLACES]) -> u8
-    requires { parameterOf at.now < 256 }
-    ensures { result ≡ parameterOf at.now }
+    requires { parameter_of at.now < 256 }
+    ensures { result ≡ parameter_of at.now }
 {
     at[PARAMETER] as u8
 }
 
 // What closes a record.
 pub fn closing(at: &[u32; PLACES]) -> u8
-    requires { closingOf at.now < 256 }
-    ensures { result ≡ closingOf at.now }
+    requires { closing_of at.now < 256 }
+    ensures { result ≡ closing_of at.now }
 {
     at[CLOSING] as u8
 }
@@ -68,7 +68,7 @@ pub fn ahead(at: &[u32; PLACES], b: usize) -> usize
 
 // Whether line k has no content in the columns of P lines that hold values.
 fn is_empty(file: &[u8], k: usize) -> bool
-    requires { lineBytes * k + lineBytes ≤ length file.now }
+    requires { line_bytes * k + line_bytes ≤ length file.now }
     ensures { result ≡ is_empty file.now k }
 {
     let at = LINE_BYTES * k;
@@ -77,7 +77,7 @@ fn is_empty(file: &[u8], k: usize) -> bool
 
 // The first line with content from line k on, `next` being that from the line behind it on.
 fn content_from(file: &[u8], k: usize, next: usize) -> usize
-    requires { lineBytes * k + lineBytes ≤ length file.now }
+    requires { line_bytes * k + line_bytes ≤ length file.now }
     ensures { result ≡ cond (is_empty file.now k) next k }
 {
     if is_empty(file, k) { next } else { k }
@@ -92,8 +92,8 @@ pub fn places_of(
     parameter: u8,
     closing: u8,
 ) -> [u32; PLACES]
-    requires first_le_parameters { (first ≤ parameters) × (parameters ≤ behind) × (behind ≤ mostLines) }
-    requires behind_in_bounds { lineBytes * behind ≤ length file.now }
+    requires first_le_parameters { (first ≤ parameters) × (parameters ≤ behind) × (behind ≤ most_lines) }
+    requires behind_in_bounds { line_bytes * behind ≤ length file.now }
     ensures { result ≡ places_of file.now first parameters behind parameter closing }
 {
     let mut at = [0u32; PLACES];

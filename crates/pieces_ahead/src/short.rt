@@ -5,11 +5,11 @@ ghost use mathlib.Core.Bool.{◌&&◌};
 ghost use Prim.Native.Nat.{◌≤◌};
 ghost use lib.ListN.{length};
 ghost use lib.Dec.{leb, eqb};
-ghost use Rattle.columns.specs.Format.{mostInteger};
-ghost use Rattle.columns.specs.Letters.{letterH};
-ghost use Rattle.values.specs.Number.{signLen};
+ghost use Rattle.columns.specs.Format.{most_integer};
+ghost use Rattle.columns.specs.Letters.{letter_h};
+ghost use Rattle.values.specs.Number.{sign_len};
 ghost use Rattle.pieces_ahead.specs.declared.short.Spelt.TheVariants.{Digits};
-ghost use Rattle.pieces_ahead.specs.Shorts.{Counts, goesOn, short_of, Says, Inside};
+ghost use Rattle.pieces_ahead.specs.Shorts.{Counts, goes_on, short_of, Says, Inside};
 
 use columns::format::MOST_INTEGER_WIDE;
 use columns::look::byte_at;
@@ -31,7 +31,7 @@ enum Spelt {
 
 // So many digits that spell v.
 fn spelt_of(v: u64, count: usize) -> Spelt
-    requires { v ≤ mostInteger }
+    requires { v ≤ most_integer }
     ensures { result ≡ Digits v count }
 {
     Spelt::Digits {
@@ -66,7 +66,7 @@ fn digits_at(l: &[u8], i: usize) -> Spelt
 
 // The columns of a sign.
 fn sign_len(c: u8) -> usize
-    ensures { result ≡ signLen c }
+    ensures { result ≡ sign_len c }
 {
     if c == b'+' {
         return 1;
@@ -79,7 +79,7 @@ fn sign_len(c: u8) -> usize
 
 // Whether what stands behind digits makes a real of them.
 fn goes_on(x: u8) -> bool
-    ensures { result ≡ goesOn x }
+    ensures { result ≡ goes_on x }
 {
     if x == b'.' {
         return true;
@@ -92,7 +92,7 @@ fn goes_on(x: u8) -> bool
 
 // Whether digits with x behind them are the count of a string.
 fn is_count(sign: usize, value: u32, count: usize, x: u8) -> bool
-    ensures { result ≡ (eqb sign 0 && (eqb x letterH && (leb count 3 && leb 1 value))) }
+    ensures { result ≡ (eqb sign 0 && (eqb x letter_h && (leb count 3 && leb 1 value))) }
 {
     if sign != 0 {
         return false;

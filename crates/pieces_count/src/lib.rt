@@ -3,10 +3,10 @@
 ghost use mathlib.Core.Path.{◌≡◌};
 ghost use Prim.Native.Nat.{◌≤◌};
 ghost use Rattle.pieces.specs.Subfigures.{Entry};
-ghost use Rattle.pieces.specs.Visits.{visitsOf};
-ghost use Rattle.pieces.specs.Pieces.{mostVisits, counted};
-ghost use Rattle.pieces_read.specs.InFile.{typeNamed, table_at, Walkable};
-ghost use Rattle.pieces_count.specs.Walks.{countedOf};
+ghost use Rattle.pieces.specs.Visits.{visits_of};
+ghost use Rattle.pieces.specs.Pieces.{most_visits, counted};
+ghost use Rattle.pieces_read.specs.InFile.{type_named, table_at, Walkable};
+ghost use Rattle.pieces_count.specs.Walks.{counted_of};
 
 use columns::{DirectoryNumber, Fault};
 use pieces::Member;
@@ -27,8 +27,8 @@ pub enum Counted {
 #[cycle(definition_instance)]
 pub fn instance(file: &[u8], at: &[u32; PLACES], e: u32, pieces: u32, visits: u32) -> Counted
     requires walkable { Walkable file.now at.now }
-    requires e_value { (typeNamed file.now at.now e ≡ 408) × (pieces ≤ visits) × (visits ≤ mostVisits) }
-    ensures { result ≡ countedOf (counted pieces visits (visitsOf (table_at file.now at.now) e)) }
+    requires e_value { (type_named file.now at.now e ≡ 408) × (pieces ≤ visits) × (visits ≤ most_visits) }
+    ensures { result ≡ counted_of (counted pieces visits (visits_of (table_at file.now at.now) e)) }
 {
     let k = first_number(file, at, e);
     definition(file, at, e, k, pieces, visits)
@@ -38,8 +38,8 @@ pub fn instance(file: &[u8], at: &[u32; PLACES], e: u32, pieces: u32, visits: u3
 #[cycle(definition_instance)]
 fn definition(file: &[u8], at: &[u32; PLACES], e: u32, k: u32, pieces: u32, visits: u32) -> Counted
     requires walkable { Walkable file.now at.now }
-    requires e_value { (table_at file.now at.now e ≡ Entry.instance k) × (pieces ≤ visits) × (visits ≤ mostVisits) }
-    ensures { result ≡ countedOf (counted pieces visits (visitsOf (table_at file.now at.now) e)) }
+    requires e_value { (table_at file.now at.now e ≡ Entry.instance k) × (pieces ≤ visits) × (visits ≤ most_visits) }
+    ensures { result ≡ counted_of (counted pieces visits (visits_of (table_at file.now at.now) e)) }
 {
     let depth = first_number(file, at, k);
     let start = members_of(file, at, k);

@@ -3,7 +3,7 @@ use mathlib.Core.Path.{◌≡◌}
 use mathlib.Core.Bool.{true, false}
 use mathlib.Core.List.{List}
 use Prim.Native.Nat.{ℕ, zero, suc, ◌/◌, ◌%◌, ◌^◌}
-use Rattle.columns.specs.Format.{parameterColumns}
+use Rattle.columns.specs.Format.{parameter_columns}
 use Rattle.layouts.specs.Tests.{size}
 use Rattle.records.specs.declared.Got.{Got}
 use Rattle.records.specs.declared.Got.TheVariants.{Found, Refused}
@@ -25,9 +25,9 @@ onward again (Found v s next false) = again next
 onward again (Refused fault s at) = reached 0 at
 
 -- value k from position p of the text t on, counted from 0
-unfoldable pub reachedFrom : ℕ → ℕ → List ℕ → ℕ → ℕ → Reached
-reachedFrom c d t p zero = numbered (value_at parameterColumns c d t p)
-reachedFrom c d t p (suc k) = onward (λ q. reachedFrom c d t q k) (value_at parameterColumns c d t p)
+unfoldable pub reached_from : ℕ → ℕ → List ℕ → ℕ → ℕ → Reached
+reached_from c d t p zero = numbered (value_at parameter_columns c d t p)
+reached_from c d t p (suc k) = onward (λ q. reached_from c d t q k) (value_at parameter_columns c d t p)
 
 -- both in one number of 64 bits, the position above the number
 abbrev pub Packs : ℕ → Reached → Type 0

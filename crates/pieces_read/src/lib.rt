@@ -5,14 +5,14 @@
 ghost use mathlib.Core.Path.{◌≡◌};
 ghost use Prim.Native.Nat.{◌+◌, ◌-◌, ◌*◌, ◌/◌, ◌%◌, ◌^◌, ◌≤◌, ◌<◌};
 ghost use Rattle.columns.specs.Columns.{text_of};
-ghost use Rattle.columns.specs.Format.{lineBytes, parameterColumns, mostInteger};
+ghost use Rattle.columns.specs.Format.{line_bytes, parameter_columns, most_integer};
 ghost use Rattle.layouts.specs.Tests.{size};
 ghost use Rattle.records.specs.Record.{value_at};
 ghost use Rattle.pieces.specs.Subfigures.{number_at};
-ghost use Rattle.pieces.specs.Visits.{memberOf};
-ghost use Rattle.pieces_read.specs.Reached.{numbered, reachedFrom, Packs};
-ghost use Rattle.pieces_ahead.specs.Places.{first_of, parameterOf, closingOf, Lies, Mapped};
-ghost use Rattle.pieces_read.specs.InFile.{Names, line_of, fromOf, recordOf, end_of, typeNamed, values_of, table_at, Walkable};
+ghost use Rattle.pieces.specs.Visits.{member_of};
+ghost use Rattle.pieces_read.specs.Reached.{numbered, reached_from, Packs};
+ghost use Rattle.pieces_ahead.specs.Places.{first_of, parameter_of, closing_of, Lies, Mapped};
+ghost use Rattle.pieces_read.specs.InFile.{Names, line_of, from_of, record_of, end_of, type_named, values_of, table_at, Walkable};
 
 use columns::wide;
 use pieces::Member;
@@ -60,10 +60,10 @@ fn size_of(v: Value) -> u32
 fn reach(file: &[u8], at: &[u32; PLACES], line: usize, lines: usize, p: usize, k: usize) -> Reached
     requires mapped { Mapped file.now at.now }
     requires lies { Lies at.now line lines }
-    requires p_bound { p ≤ lines * parameterColumns }
-    ensures value { result ≡ reachedFrom (parameterOf at.now) (closingOf at.now)
-        (text_of file.now (lineBytes * line) parameterColumns lines) p k }
-    ensures next_bound { result.next ≤ lines * parameterColumns }
+    requires p_bound { p ≤ lines * parameter_columns }
+    ensures value { result ≡ reached_from (parameter_of at.now) (closing_of at.now)
+        (text_of file.now (line_bytes * line) parameter_columns lines) p k }
+    ensures next_bound { result.next ≤ lines * parameter_columns }
 {
     let mut q = p;
     let mut left = k;
@@ -109,7 +109,7 @@ fn line_of(at: &[u32; PLACES], n: u32) -> usize
 fn from_of(file: &[u8], at: &[u32; PLACES], n: u32) -> usize
     requires walkable { Walkable file.now at.now }
     requires names { Names at.now n }
-    ensures { result ≡ fromOf file.now at.now n }
+    ensures { result ≡ from_of file.now at.now n }
 {
     let line = line_of(at, n);
     let pointer = directory_read::pointer_at(file, line);
@@ -121,8 +121,8 @@ fn reach_in(file: &[u8], at: &[u32; PLACES], n: u32, p: usize, k: usize) -> u64
     requires walkable { Walkable file.now at.now }
     requires names { Names at.now n }
     requires p_bound { p ≤ end_of file.now at.now n }
-    ensures packs { Packs result (reachedFrom (parameterOf at.now) (closingOf at.now)
-        (recordOf file.now at.now n) p k) }
+    ensures packs { Packs result (reached_from (parameter_of at.now) (closing_of at.now)
+        (record_of file.now at.now n) p k) }
     ensures result_bound { result / 2 ^ 32 ≤ end_of file.now at.now n }
 {
     let from = from_of(file, at, n);
@@ -135,7 +135,7 @@ fn reach_in(file: &[u8], at: &[u32; PLACES], n: u32, p: usize, k: usize) -> u64
 // The type of the entry that a directory number names; 0 where it names none.
 pub fn type_of(file: &[u8], at: &[u32; PLACES], n: u32) -> u32
     requires { Walkable file.now at.now }
-    ensures { result ≡ typeNamed file.now at.now n }
+    ensures { result ≡ type_named file.now at.now n }
 {
     if n % 2 != 1 {
         return 0;
@@ -162,8 +162,8 @@ pub fn first_number(file: &[u8], at: &[u32; PLACES], n: u32) -> u32
 pub fn members_of(file: &[u8], at: &[u32; PLACES], k: u32) -> u64
     requires walkable { Walkable file.now at.now }
     requires names { Names at.now k }
-    ensures packs { Packs result (reachedFrom (parameterOf at.now) (closingOf at.now)
-        (recordOf file.now at.now k) 0 3) }
+    ensures packs { Packs result (reached_from (parameter_of at.now) (closing_of at.now)
+        (record_of file.now at.now k) 0 3) }
     ensures result_bound { result / 2 ^ 32 ≤ end_of file.now at.now k }
 {
     reach_in(file, at, k, 0, 3)
@@ -174,8 +174,8 @@ pub fn member_from(file: &[u8], at: &[u32; PLACES], k: u32, p: usize) -> u64
     requires walkable { Walkable file.now at.now }
     requires names { Names at.now k }
     requires p_bound { p ≤ end_of file.now at.now k }
-    ensures packs { Packs result (numbered (value_at parameterColumns (parameterOf at.now) (closingOf at.now)
-        (recordOf file.now at.now k) p)) }
+    ensures packs { Packs result (numbered (value_at parameter_columns (parameter_of at.now) (closing_of at.now)
+        (record_of file.now at.now k) p)) }
     ensures result_bound { result / 2 ^ 32 ≤ end_of file.now at.now k }
 {
     reach_in(file, at, k, p, 0)
@@ -184,7 +184,7 @@ pub fn member_from(file: &[u8], at: &[u32; PLACES], k: u32, p: usize) -> u64
 // What the member m is to a definition of this depth.
 pub fn member_of(file: &[u8], at: &[u32; PLACES], m: u32, depth: u32) -> Member
     requires { Walkable file.now at.now }
-    ensures { result ≡ memberOf (table_at file.now at.now) depth m }
+    ensures { result ≡ member_of (table_at file.now at.now) depth m }
 {
     let typ = type_of(file, at, m);
     if typ != 408 {

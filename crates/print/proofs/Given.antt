@@ -9,103 +9,103 @@ use lib.ListN.{length}
 use lib.Seq.{take_all}
 use Rattle.columns.specs.declared.Fault.{Fault}
 use Rattle.columns.specs.Laid.{Wrote, Owes}
-use Rattle.columns.proofs.Writes.{owes-all, owes-less, owes-none, owes_same, wrote_none, wrote-length}
+use Rattle.columns.proofs.Writes.{owes_all, owes_less, owes_none, owes_same, wrote_none, wrote_length}
 use Rattle.values.specs.declared.Value.{Value}
-use Rattle.values.specs.Value.{Item, item_of, is_default, isMissing}
+use Rattle.values.specs.Value.{Item, item_of, is_default, is_missing}
 use Rattle.records.specs.declared.Check.{Check}
 use Rattle.records.specs.declared.Check.TheVariants.{Done, Wrong}
-use Rattle.records.specs.Record.{Values, values, wrong, value_at, valuesAt, behind}
+use Rattle.records.specs.Record.{Values, values, wrong, value_at, values_at, behind}
 use Rattle.records.specs.Reading.{Stands, checked, SaneCheck}
-use Rattle.records.specs.Items.{gotItem, itemsFrom}
-use Rattle.records.specs.Global.{firstField}
+use Rattle.records.specs.Items.{got_item, items_from}
+use Rattle.records.specs.Global.{first_field}
 use Rattle.records.proofs.Texts.{small}
-use Rattle.records.proofs.Items.{items-are}
-use Rattle.sheets.specs.Sheet.{Line, global, line_of, globalLines, text_of as sheetBytes}
+use Rattle.records.proofs.Items.{items_are}
+use Rattle.sheets.specs.Sheet.{Line, global, line_of, global_lines, text_of as sheetBytes}
 use Rattle.values.proofs.OneSpelling.{missing}
 use Rattle.model.specs.Read.{given}
 use Rattle.read_entities.specs.declared.Taken.{Taken}
 use Rattle.read_entities.specs.Taking.{taken_of}
 use Rattle.read_entities.proofs.Feeding.{taken_item, taken_next}
-use Rattle.read_entities.proofs.Passes.{Accepted, done-values}
-use Rattle.print.specs.Bytes.{valuesIn, givenBytes, global_bytes}
+use Rattle.read_entities.proofs.Passes.{Accepted, done_values}
+use Rattle.print.specs.Bytes.{values_in, given_bytes, global_bytes}
 
-pub global-lines : (gs : List (ℕ × Item)) (rest : List Line) → sheetBytes (globalLines gs rest) ≡ global_bytes gs ++ sheetBytes rest
-unfolding sheetBytes globalLines global_bytes
-global-lines [] rest = refl
-global-lines (g ∷ gs) rest =
-    ap (λ (l : List ℕ). line_of (global g.0 g.1) ++ (10 ∷ l)) (global-lines gs rest)
+pub global_lines_lem : (gs : List (ℕ × Item)) (rest : List Line) → sheetBytes (global_lines gs rest) ≡ global_bytes gs ++ sheetBytes rest
+unfolding sheetBytes global_lines global_bytes
+global_lines_lem [] rest = refl
+global_lines_lem (g ∷ gs) rest =
+    ap (λ (l : List ℕ). line_of (global g.0 g.1) ++ (10 ∷ l)) (global_lines_lem gs rest)
     ∙ sym (append_assoc (line_of (global g.0 g.1)) (10 ∷ []) (global_bytes gs ++ sheetBytes rest))
     ∙ sym (append_assoc (line_of (global g.0 g.1) ++ (10 ∷ [])) (global_bytes gs) (sheetBytes rest))
 
 -- ---- one field
 
-module _ (n : ℕ) (t : List ℕ) (v : Value) {b : Bool} (e : b ≡ isMissing v) where
-  pub given-none : {o : List ℕ} {at : ℕ} → b ≡ true → Wrote o at (givenBytes n (item_of t v)) o at
-  unfolding givenBytes
+module _ (n : ℕ) (t : List ℕ) (v : Value) {b : Bool} (e : b ≡ is_missing v) where
+  pub given-none : {o : List ℕ} {at : ℕ} → b ≡ true → Wrote o at (given_bytes n (item_of t v)) o at
+  unfolding given_bytes
   given-none h = rw (missing t v, ← e, h) wrote_none
 
-  pub given-some : {o o' : List ℕ} {at r : ℕ} → b ≡ false → Wrote o at (line_of (global n (item_of t v)) ++ (10 ∷ [])) o' r → Wrote o at (givenBytes n (item_of t v)) o' r
-  unfolding givenBytes
-  given-some h p = rw (missing t v, ← e, h) p
+  pub given_some : {o o' : List ℕ} {at r : ℕ} → b ≡ false → Wrote o at (line_of (global n (item_of t v)) ++ (10 ∷ [])) o' r → Wrote o at (given_bytes n (item_of t v)) o' r
+  unfolding given_bytes
+  given_some h p = rw (missing t v, ← e, h) p
 
-pub ruleset given-lines = (given-none, given-some)
+pub ruleset given-lines = (given-none, given_some)
 
 -- ---- how many there are
 
-none_in : (vals : Values) (f : Fault) (s at : ℕ) → checked vals ≡ Wrong f s at → [] ≡ valuesIn vals
+none_in : (vals : Values) (f : Fault) (s at : ℕ) → checked vals ≡ Wrong f s at → [] ≡ values_in vals
 none_in (values vs end) f s at h = let z : ◌≡◌ {A = ℕ} 0 1 = cc in absurd (omega arith)
 none_in (wrong g a b) f s at h = refl
 
-module _ (w c d : ℕ) (t : List ℕ) (from : ℕ) {k : Check} (ek : k ≡ checked (valuesAt w c d t from)) where
-  pub count_none : {f : Fault} {s at : ℕ} → k ≡ Wrong f s at → itemsFrom w c d t from 0 ≡ valuesIn (valuesAt w c d t from)
-  unfolding itemsFrom
-  count_none {f} {s} {at} e = none_in (valuesAt w c d t from) f s at (sym ek ∙ e)
+module _ (w c d : ℕ) (t : List ℕ) (from : ℕ) {k : Check} (ek : k ≡ checked (values_at w c d t from)) where
+  pub count_none : {f : Fault} {s at : ℕ} → k ≡ Wrong f s at → items_from w c d t from 0 ≡ values_in (values_at w c d t from)
+  unfolding items_from
+  count_none {f} {s} {at} e = none_in (values_at w c d t from) f s at (sym ek ∙ e)
 
-  pub count-all : {n keep end : ℕ} → k ≡ Done n keep end → itemsFrom w c d t from n ≡ valuesIn (valuesAt w c d t from)
-  count-all {n} {keep} {end} e =
-      let a : Accepted (valuesAt w c d t from) n keep end = done-values (valuesAt w c d t from) n keep end (sym ek ∙ e) in
+  pub count_all : {n keep end : ℕ} → k ≡ Done n keep end → items_from w c d t from n ≡ values_in (values_at w c d t from)
+  count_all {n} {keep} {end} e =
+      let a : Accepted (values_at w c d t from) n keep end = done_values (values_at w c d t from) n keep end (sym ek ∙ e) in
       let q : n ≡ length a.vs = a.count in
-      sym (items-are w c d t from a.vs end n a.is (omega arith)) ∙ take_all n a.vs (omega arith) ∙ ap valuesIn (sym a.is)
+      sym (items_are w c d t from a.vs end n a.is (omega arith)) ∙ take_all n a.vs (omega arith) ∙ ap values_in (sym a.is)
 
-pub count-few : (p m : ℕ) {k : Check} {n keep end : ℕ} → SaneCheck p m k → k ≡ Done n keep end → n ≤ m
-count-few p m {k} {n} {keep} {end} sane e =
+pub count_few : (p m : ℕ) {k : Check} {n keep end : ℕ} → SaneCheck p m k → k ≡ Done n keep end → n ≤ m
+count_few p m {k} {n} {keep} {end} sane e =
     let s : SaneCheck p m (Done n keep end) = rw e at sane in
     omega arith
 
-pub ruleset counting = (count_none, count-all, count-few)
+pub ruleset counting = (count_none, count_all, count_few)
 
 -- ---- all fields
 
-given-more : (n : ℕ) (v : Item) (vs : List Item) → global_bytes (given n (v ∷ vs)) ≡ givenBytes n v ++ global_bytes (given (n + 1) vs)
-unfolding global_bytes given givenBytes
+given-more : (n : ℕ) (v : Item) (vs : List Item) → global_bytes (given n (v ∷ vs)) ≡ given_bytes n v ++ global_bytes (given (n + 1) vs)
+unfolding global_bytes given given_bytes
 given-more n v vs = rw add-one (by (is_default v))
   where
     by : (b : Bool) → global_bytes (cond b (given (suc n) vs) ((n, v) ∷ given (suc n) vs)) ≡ cond b [] (line_of (global n v) ++ (10 ∷ [])) ++ global_bytes (given (suc n) vs)
     by true = refl
     by false = refl
 
-pub globals-all : (o : List ℕ) (at w c d : ℕ) (t : List ℕ) (from count : ℕ) → itemsFrom w c d t from count ≡ valuesIn (valuesAt w c d t from)
-    → Owes o at (global_bytes (given firstField (valuesIn (valuesAt w c d t from)))) o at (global_bytes (given 3 (itemsFrom w c d t from count)))
-globals-all o at w c d t from count e = owes_same (owes-all o at (global_bytes (given firstField (valuesIn (valuesAt w c d t from))))) (ap (λ (l : List Item). global_bytes (given 3 l)) (sym e))
+pub globals_all : (o : List ℕ) (at w c d : ℕ) (t : List ℕ) (from count : ℕ) → items_from w c d t from count ≡ values_in (values_at w c d t from)
+    → Owes o at (global_bytes (given first_field (values_in (values_at w c d t from)))) o at (global_bytes (given 3 (items_from w c d t from count)))
+globals_all o at w c d t from count e = owes_same (owes_all o at (global_bytes (given first_field (values_in (values_at w c d t from))))) (ap (λ (l : List Item). global_bytes (given 3 l)) (sym e))
 
-module _ (w c d : ℕ) (t : List ℕ) {o bs o₁ : List ℕ} {at r₁ : ℕ} (n q left : ℕ) (p : Owes o at bs o₁ r₁ (global_bytes (given n (itemsFrom w c d t q left)))) where
-  pub globals-more : {o₂ : List ℕ} {r₂ : ℕ} {x : Taken} → x ≡ taken_of (value_at w c d t q) → 0 < left → Wrote o₁ r₁ (givenBytes n (item_of t x.value)) o₂ r₂
-      → Owes o at bs o₂ r₂ (global_bytes (given (n + 1) (itemsFrom w c d t x.next (left - 1))))
-  unfolding itemsFrom
+module _ (w c d : ℕ) (t : List ℕ) {o bs o₁ : List ℕ} {at r₁ : ℕ} (n q left : ℕ) (p : Owes o at bs o₁ r₁ (global_bytes (given n (items_from w c d t q left)))) where
+  pub globals-more : {o₂ : List ℕ} {r₂ : ℕ} {x : Taken} → x ≡ taken_of (value_at w c d t q) → 0 < left → Wrote o₁ r₁ (given_bytes n (item_of t x.value)) o₂ r₂
+      → Owes o at bs o₂ r₂ (global_bytes (given (n + 1) (items_from w c d t x.next (left - 1))))
+  unfolding items_from
   globals-more {x = x} ex h y =
-      let ei : item_of t x.value ≡ gotItem t (value_at w c d t q) = ap (λ (y : Taken). item_of t y.value) ex ∙ taken_item t (value_at w c d t q) in
+      let ei : item_of t x.value ≡ got_item t (value_at w c d t q) = ap (λ (y : Taken). item_of t y.value) ex ∙ taken_item t (value_at w c d t q) in
       let en : x.next ≡ behind (value_at w c d t q) = ap (λ (y : Taken). y.next) ex ∙ taken_next (value_at w c d t q) in
       let ek : left ≡ suc (left - 1) = omega arith in
-      let el : itemsFrom w c d t q left ≡ item_of t x.value ∷ itemsFrom w c d t x.next (left - 1)
-      = ap (itemsFrom w c d t q) ek ∙ ap (λ (i : Item). i ∷ itemsFrom w c d t (behind (value_at w c d t q)) (left - 1)) (sym ei)
-      ∙ ap (λ (j : ℕ). item_of t x.value ∷ itemsFrom w c d t j (left - 1)) (sym en) in
-      owes-less (owes_same p (ap (λ (l : List Item). global_bytes (given n l)) el ∙ given-more n (item_of t x.value) (itemsFrom w c d t x.next (left - 1)))) y
+      let el : items_from w c d t q left ≡ item_of t x.value ∷ items_from w c d t x.next (left - 1)
+      = ap (items_from w c d t q) ek ∙ ap (λ (i : Item). i ∷ items_from w c d t (behind (value_at w c d t q)) (left - 1)) (sym ei)
+      ∙ ap (λ (j : ℕ). item_of t x.value ∷ items_from w c d t j (left - 1)) (sym en) in
+      owes_less (owes_same p (ap (λ (l : List Item). global_bytes (given n l)) el ∙ given-more n (item_of t x.value) (items_from w c d t x.next (left - 1)))) y
 
   pub globals-end : left ≤ 0 → Wrote o at bs o₁ r₁
-  unfolding itemsFrom given global_bytes
+  unfolding items_from given global_bytes
   globals-end h =
       let e : left ≡ 0 = omega arith in
-      owes-none (rw e at p)
+      owes_none (rw e at p)
 
 module _ (file : List ℕ) (base lines : ℕ) (st : Stands file base 72 lines) where
   pub globals-room : (at left r : ℕ) → r + 1100 * left ≤ at + 79200 * lines → at < 2 ^ 58 → r < 2 ^ 59
@@ -114,4 +114,4 @@ module _ (file : List ℕ) (base lines : ℕ) (st : Stands file base 72 lines) w
   pub globals-number : (n left : ℕ) → n + left ≤ 3 + lines * 72 → 0 < left → n + 1 < 2 ^ 32
   globals-number n left h k = omega (arith, small file base 72 lines st)
 
-pub ruleset globals = (globals-all, globals-more, globals-end, globals-room, globals-number, wrote-length)
+pub ruleset globals = (globals_all, globals-more, globals-end, globals-room, globals-number, wrote_length)

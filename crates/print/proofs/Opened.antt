@@ -6,22 +6,22 @@ use Prim.Native.Nat.{ℕ}
 use native.Mathlib.Omega.{arith}
 use Rattle.columns.specs.Refusal.{accepted}
 use Rattle.cards.specs.declared.Counts.{Counts}
-use Rattle.records.specs.Record.{values, valuesAt}
-use Rattle.records.specs.Global.{firstField, openingOf}
-use Rattle.model.specs.Read.{GlobalRead, globalText, given, globalIn}
-use Rattle.model.proofs.ReadApart.{GlobalApart, alone, more, global-apart}
+use Rattle.records.specs.Record.{values, values_at}
+use Rattle.records.specs.Global.{first_field, opening_of}
+use Rattle.model.specs.Read.{GlobalRead, global_text, given, global_in}
+use Rattle.model.proofs.ReadApart.{GlobalApart, alone, more, global_apart}
 use Rattle.records.specs.declared.Opening.TheVariants.{Opened, Wrong}
-use Rattle.print.specs.Bytes.{global_bytes, valuesIn}
-use Rattle.print.specs.Whole.{fieldBytes}
+use Rattle.print.specs.Bytes.{global_bytes, values_in}
+use Rattle.print.specs.Whole.{field_bytes}
 
 -- the delimiters are those of the opening, the fields those behind it
-pub opened-read : (f : List ℕ) (k : Counts) (p d from : ℕ) (ended : Bool) (g : GlobalRead) → openingOf (globalText f k) ≡ Opened p d from ended → globalIn f k ≡ accepted g
-    → (g.parameter ≡ p) × (g.record-end ≡ d) × (fieldBytes p d (globalText f k) from ended ≡ global_bytes g.fields)
-unfolding fieldBytes global_bytes
-opened-read f k p d from ended g eo h = by (global-apart f k g h)
+pub opened-read : (f : List ℕ) (k : Counts) (p d from : ℕ) (ended : Bool) (g : GlobalRead) → opening_of (global_text f k) ≡ Opened p d from ended → global_in f k ≡ accepted g
+    → (g.parameter ≡ p) × (g.record_end ≡ d) × (field_bytes p d (global_text f k) from ended ≡ global_bytes g.fields)
+unfolding field_bytes global_bytes
+opened-read f k p d from ended g eo h = by (global_apart f k g h)
   where
-    by : GlobalApart k (globalText f k) g → (g.parameter ≡ p) × (g.record-end ≡ d)
-        × (cond ended [] (global_bytes (given firstField (valuesIn (valuesAt 72 p d (globalText f k) from)))) ≡ global_bytes g.fields)
+    by : GlobalApart k (global_text f k) g → (g.parameter ≡ p) × (g.record_end ≡ d)
+        × (cond ended [] (global_bytes (given first_field (values_in (values_at 72 p d (global_text f k) from)))) ≡ global_bytes g.fields)
     by (alone p' d' next e s eg) =
         let ep : p' ≡ p = cc in
         let ed : d' ≡ d = cc in
@@ -32,13 +32,13 @@ opened-read f k p d from ended g eo h = by (global-apart f k g h)
         let ed : d' ≡ d = cc in
         let ef : next ≡ from = cc in
         let en : false ≡ ended = cc in
-        let v : valuesAt 72 p d (globalText f k) from ≡ values vs end = rw (ep, ed, ef) at ev in
+        let v : values_at 72 p d (global_text f k) from ≡ values vs end = rw (ep, ed, ef) at ev in
         rw (eg, ← en, v) (ep, ed, refl)
 
 -- a wrong opening is refused
-pub opening-right : (f : List ℕ) (k : Counts) (g : GlobalRead) → globalIn f k ≡ accepted g → openingOf (globalText f k) ≡ Wrong → ⊥
-opening-right f k g h w = by (global-apart f k g h)
+pub opening_right : (f : List ℕ) (k : Counts) (g : GlobalRead) → global_in f k ≡ accepted g → opening_of (global_text f k) ≡ Wrong → ⊥
+opening_right f k g h w = by (global_apart f k g h)
   where
-    by : GlobalApart k (globalText f k) g → ⊥
+    by : GlobalApart k (global_text f k) g → ⊥
     by (alone p d next e s eg) = let z : ◌≡◌ {A = ℕ} 0 1 = cc in omega arith
     by (more p d next vs end e ev s fit eg) = let z : ◌≡◌ {A = ℕ} 0 1 = cc in omega arith

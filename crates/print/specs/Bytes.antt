@@ -8,12 +8,12 @@ use Rattle.layouts.specs.Known.{known}
 use Rattle.model.specs.Model.{type_of}
 use Rattle.sheets.specs.Plain.{sized}
 use Rattle.sheets.specs.Sheet.{start, global, entry, value, line_of}
-use Rattle.read_entities.specs.Marks.{marksBegun, markedFrom}
+use Rattle.read_entities.specs.Marks.{marks_begun, marked_from}
 
 -- the start texts
-unfoldable pub startBytes : List (List ℕ) → List ℕ
-startBytes [] = []
-startBytes (t ∷ ts) = (line_of (start t) ++ (newline ∷ [])) ++ startBytes ts
+unfoldable pub start_bytes : List (List ℕ) → List ℕ
+start_bytes [] = []
+start_bytes (t ∷ ts) = (line_of (start t) ++ (newline ∷ [])) ++ start_bytes ts
 
 -- the Global fields with their numbers
 unfoldable pub global_bytes : List (ℕ × Item) → List ℕ
@@ -21,21 +21,21 @@ global_bytes [] = []
 global_bytes (g ∷ gs) = (line_of (global g.0 g.1) ++ (newline ∷ [])) ++ global_bytes gs
 
 -- an entity's values, each with whether it is marked R
-unfoldable pub valueBytes : List (Bool × Item) → List ℕ
-valueBytes [] = []
-valueBytes (v ∷ vs) = (line_of (value v.0 v.1) ++ (newline ∷ [])) ++ valueBytes vs
+unfoldable pub value_bytes : List (Bool × Item) → List ℕ
+value_bytes [] = []
+value_bytes (v ∷ vs) = (line_of (value v.0 v.1) ++ (newline ∷ [])) ++ value_bytes vs
 
 -- an entry with its directory number and its label, and its values, marked under the type list as the walk over them says
-unfoldable pub entityBytes : ℕ → List ℕ → ℕ → Fields → List ℕ → List Item → List ℕ
-entityBytes list types number x label vs =
+unfoldable pub entity_bytes : ℕ → List ℕ → ℕ → Fields → List ℕ → List Item → List ℕ
+entity_bytes list types number x label vs =
     (line_of (entry (known list (type_of x) x.form.size) (sized false number) x label) ++ (newline ∷ []))
-    ++ valueBytes (markedFrom types (marksBegun list (type_of x) x.form.size) vs)
+    ++ value_bytes (marked_from types (marks_begun list (type_of x) x.form.size) vs)
 
 -- field n alone: a default has no line
-unfoldable pub givenBytes : ℕ → Item → List ℕ
-givenBytes n v = cond (is_default v) [] (line_of (global n v) ++ (newline ∷ []))
+unfoldable pub given_bytes : ℕ → Item → List ℕ
+given_bytes n v = cond (is_default v) [] (line_of (global n v) ++ (newline ∷ []))
 
 -- the values of a record; a refused one has none
-abbrev pub valuesIn : Values → List Item
-valuesIn (values vs end) = vs
-valuesIn (wrong fault from at) = []
+abbrev pub values_in : Values → List Item
+values_in (values vs end) = vs
+values_in (wrong fault from at) = []

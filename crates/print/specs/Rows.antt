@@ -3,45 +3,45 @@
 -- entry.
 use Rattle.std.specs.Prelude.{cond, List, [], ◌++◌, ℕ, zero, suc, ◌+◌, ◌-◌, ◌*◌, ◌≤◌, ◌<◌, length, leb}
 use Rattle.columns.specs.Columns.{text_of}
-use Rattle.columns.specs.Format.{lineBytes, parameterColumns, mostLines, mostBytes}
-use Rattle.records.specs.Record.{valuesAt}
+use Rattle.columns.specs.Format.{line_bytes, parameter_columns, most_lines, most_bytes}
+use Rattle.records.specs.Record.{values_at}
 use Rattle.directory.specs.declared.Fields.{Fields}
 use Rattle.directory.specs.declared.EntryRead.{EntryRead}
 use Rattle.directory.specs.declared.EntryRead.TheVariants.{Spelt, Wrong}
 use Rattle.directory.specs.Lines.{entry_at, label_at}
 use Rattle.directory.specs.Naming.{types_at}
-use Rattle.read_entities.specs.Marks.{carriedIn}
-use Rattle.print.specs.Bytes.{entityBytes}
+use Rattle.read_entities.specs.Marks.{carried_in}
+use Rattle.print.specs.Bytes.{entity_bytes}
 use Rattle.print.specs.Taking.{Unrefused}
 
 -- with these numbers, its record in count P lines from the one numbered pointer on
-unfoldable pub speltBytes : ℕ → List ℕ → ℕ → ℕ → ℕ → ℕ → ℕ → ℕ → Fields → ℕ → ℕ → List ℕ
-speltBytes list f first n parameters c d i x pointer count =
-    cond (leb (lineBytes * (parameters + (pointer - 1)) + count * lineBytes) (length f))
-    (entityBytes list (types_at f first n) (2 * i + 1) x (label_at f (first + 2 * i))
-    (carriedIn (valuesAt parameterColumns c d (text_of f (lineBytes * (parameters + (pointer - 1))) parameterColumns count) 0)))
+unfoldable pub spelt_bytes : ℕ → List ℕ → ℕ → ℕ → ℕ → ℕ → ℕ → ℕ → Fields → ℕ → ℕ → List ℕ
+spelt_bytes list f first n parameters c d i x pointer count =
+    cond (leb (line_bytes * (parameters + (pointer - 1)) + count * line_bytes) (length f))
+    (entity_bytes list (types_at f first n) (2 * i + 1) x (label_at f (first + 2 * i))
+    (carried_in (values_at parameter_columns c d (text_of f (line_bytes * (parameters + (pointer - 1))) parameter_columns count) 0)))
     []
 
-abbrev pub readBytes : ℕ → List ℕ → ℕ → ℕ → ℕ → ℕ → ℕ → ℕ → EntryRead → List ℕ
-readBytes list f first n parameters c d i Wrong = []
-readBytes list f first n parameters c d i (Spelt x pointer count) = speltBytes list f first n parameters c d i x pointer.0 count
+abbrev pub read_bytes : ℕ → List ℕ → ℕ → ℕ → ℕ → ℕ → ℕ → ℕ → EntryRead → List ℕ
+read_bytes list f first n parameters c d i Wrong = []
+read_bytes list f first n parameters c d i (Spelt x pointer count) = spelt_bytes list f first n parameters c d i x pointer.0 count
 
-unfoldable pub rowBytes : ℕ → List ℕ → ℕ → ℕ → ℕ → ℕ → ℕ → ℕ → List ℕ
-rowBytes list f first n parameters c d i = readBytes list f first n parameters c d i (entry_at f (first + 2 * i))
+unfoldable pub row_bytes : ℕ → List ℕ → ℕ → ℕ → ℕ → ℕ → ℕ → ℕ → List ℕ
+row_bytes list f first n parameters c d i = read_bytes list f first n parameters c d i (entry_at f (first + 2 * i))
 
 -- so many from entry i on
-unfoldable pub rowsBytes : ℕ → List ℕ → ℕ → ℕ → ℕ → ℕ → ℕ → ℕ → ℕ → List ℕ
-rowsBytes list f first n parameters c d i zero = []
-rowsBytes list f first n parameters c d i (suc left) =
-    rowBytes list f first n parameters c d i ++ rowsBytes list f first n parameters c d (i + 1) left
+unfoldable pub rows_bytes : ℕ → List ℕ → ℕ → ℕ → ℕ → ℕ → ℕ → ℕ → ℕ → List ℕ
+rows_bytes list f first n parameters c d i zero = []
+rows_bytes list f first n parameters c d i (suc left) =
+    row_bytes list f first n parameters c d i ++ rows_bytes list f first n parameters c d (i + 1) left
 
 -- ---- records that are not refused
 
 -- in count P lines from the one numbered pointer on, if they stand in the file
 unfoldable pub SpeltReads : List ℕ → ℕ → ℕ → ℕ → ℕ → ℕ → Type 0
 SpeltReads f parameters c d pointer count =
-    lineBytes * (parameters + (pointer - 1)) + count * lineBytes ≤ length f
-    → Unrefused (valuesAt parameterColumns c d (text_of f (lineBytes * (parameters + (pointer - 1))) parameterColumns count) 0)
+    line_bytes * (parameters + (pointer - 1)) + count * line_bytes ≤ length f
+    → Unrefused (values_at parameter_columns c d (text_of f (line_bytes * (parameters + (pointer - 1))) parameter_columns count) 0)
 
 -- a misspelt entry has none
 abbrev pub EntryReads : List ℕ → ℕ → ℕ → ℕ → EntryRead → Type 0
@@ -59,8 +59,8 @@ pub record RowsRead (f : List ℕ) (first n parameters c d : ℕ) : Type 0 where
 -- what printing them needs of a file: it is no longer than a file may be, has all D lines, and P line 1 is no further behind;
 -- c and d are delimiters
 pub record Printable (f : List ℕ) (first n parameters c d : ℕ) : Type 0 where
-  pub file-short : length f ≤ mostBytes
+  pub file_short : length f ≤ most_bytes
   pub parameter : 0 < c
   pub closing : 0 < d
-  pub directory-there : lineBytes * (first + 2 * n) ≤ length f
-  pub parameters-near : parameters ≤ mostLines
+  pub directory_there : line_bytes * (first + 2 * n) ≤ length f
+  pub parameters_near : parameters ≤ most_lines

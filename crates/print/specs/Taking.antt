@@ -2,22 +2,22 @@
 use Rattle.std.specs.Prelude.{◌≡◌, true, List, [], ◌∷◌, ℕ, ◌+◌, ◌*◌, ◌^◌, ◌≤◌, ◌<◌, length}
 use Rattle.columns.specs.Columns.{text_of}
 use Rattle.columns.specs.Laid.{Wrote}
-use Rattle.columns.specs.Format.{lineBytes, parameterColumns}
+use Rattle.columns.specs.Format.{line_bytes, parameter_columns}
 use Rattle.values.specs.declared.Value.{Value}
 use Rattle.values.specs.declared.Value.TheVariants.{Default}
 use Rattle.values.specs.Value.{Item, item_of}
 use Rattle.records.specs.declared.Got.{Got}
 use Rattle.records.specs.declared.Got.TheVariants.{Found, Refused}
-use Rattle.records.specs.Record.{Values, values, valuesAt}
+use Rattle.records.specs.Record.{Values, values, values_at}
 use Rattle.records.specs.Reading.{Stands, Writable}
 use Rattle.directory.specs.Naming.{types_at}
 use Rattle.layouts.specs.declared.Stepped.{Stepped}
 use Rattle.layouts.specs.Walk.{run}
-use Rattle.read_entities.specs.Marks.{markedFrom}
+use Rattle.read_entities.specs.Marks.{marked_from}
 use Rattle.read_entities.specs.Walking.{owing}
 use Rattle.print.specs.declared.Met.{Met}
 use Rattle.print.specs.declared.Behind.{Behind}
-use Rattle.print.specs.Bytes.{valueBytes}
+use Rattle.print.specs.Bytes.{value_bytes}
 
 -- a record that reads without a refusal
 pub record Unrefused (vals : Values) : Type 0 where
@@ -26,32 +26,32 @@ pub record Unrefused (vals : Values) : Type 0 where
   pub is : vals ≡ values items end
 
 -- a value that is met; a refused one would end the record
-abbrev pub metOf : Got → Met
-metOf (Found v s next last) = record { value = v; next = next; last = last }
-metOf (Refused fault s at) = record { value = Default; next = at; last = true }
+abbrev pub met_of : Got → Met
+met_of (Found v s next last) = record { value = v; next = next; last = last }
+met_of (Refused fault s at) = record { value = Default; next = at; last = true }
 
 -- an entity's record stands in the file and is not refused, and n entries from line first on, for what it names
 pub record ValuesStand (f : List ℕ) (base lines c d first n : ℕ) : Type 0 where
-  pub stands : Stands f base parameterColumns lines
+  pub stands : Stands f base parameter_columns lines
   pub parameter : 0 < c
   pub closing : 0 < d
-  pub directory-there : lineBytes * (first + 2 * n) ≤ length f
-  pub unrefused : Unrefused (valuesAt parameterColumns c d (text_of f base parameterColumns lines) 0)
+  pub directory_there : line_bytes * (first + 2 * n) ≤ length f
+  pub unrefused : Unrefused (values_at parameter_columns c d (text_of f base parameter_columns lines) 0)
 
 -- ---- a value that is given, so many defaults owed before it
 
 -- it stands in its record, the record and the entries in the file, and there is room for the lines
 pub record GivenStands (f : List ℕ) (base lines first n owed : ℕ) (v : Value) (at : ℕ) : Type 0 where
-  pub stands : Stands f base parameterColumns lines
-  pub writable : Writable (lines * parameterColumns) v
-  pub directory-there : lineBytes * (first + 2 * n) ≤ length f
+  pub stands : Stands f base parameter_columns lines
+  pub writable : Writable (lines * parameter_columns) v
+  pub directory_there : line_bytes * (first + 2 * n) ≤ length f
   pub room : at + 1100 * owed < 2 ^ 59
 
 -- the lines of the defaults and its own are laid, and the marks stand behind it
 pub record GivenPut (f : List ℕ) (base lines first n : ℕ) (g : Stepped) (owed : ℕ) (v : Value) (o : List ℕ) (at : ℕ)
     (o' : List ℕ) (r : Behind) : Type 0 where
   pub laid :
-      Wrote o at (valueBytes (markedFrom (types_at f first n) g (owing owed (item_of (text_of f base parameterColumns lines) v ∷ [])))) o'
+      Wrote o at (value_bytes (marked_from (types_at f first n) g (owing owed (item_of (text_of f base parameter_columns lines) v ∷ [])))) o'
       r.next
-  pub marks : r.marks ≡ run (types_at f first n) g (owing owed (item_of (text_of f base parameterColumns lines) v ∷ []))
+  pub marks : r.marks ≡ run (types_at f first n) g (owing owed (item_of (text_of f base parameter_columns lines) v ∷ []))
   pub near : r.next ≤ at + 1100 * owed + 1100

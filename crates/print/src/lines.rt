@@ -2,7 +2,7 @@
 ghost use Rattle.std.specs.Prelude.{◌≡◌, [], ◌∷◌, ◌++◌, ◌+◌, ◌*◌, ◌^◌, ◌≤◌, ◌<◌};
 ghost use Rattle.columns.specs.Columns.{text_of};
 ghost use Rattle.columns.specs.Laid.{Wrote};
-ghost use Rattle.columns.specs.Format.{textColumns, parameterColumns};
+ghost use Rattle.columns.specs.Format.{text_columns, parameter_columns};
 ghost use Rattle.columns.specs.Letters.{newline};
 ghost use Rattle.values.specs.Value.{real, item_of};
 ghost use Rattle.values.specs.Writing.{chars};
@@ -48,11 +48,11 @@ pub fn put_value_line(
     reference: bool,
     v: Value,
 ) -> usize
-    requires stands { Stands file.now base parameterColumns lines }
-    requires writable { Writable (lines * parameterColumns) v }
+    requires stands { Stands file.now base parameter_columns lines }
+    requires writable { Writable (lines * parameter_columns) v }
     requires at_bound { at < 2 ^ 59 }
     ensures wrote { Wrote out.old at
-        (line_of (Line.value reference (item_of (text_of file.now base parameterColumns lines) v)) ++ (newline ∷ []))
+        (line_of (Line.value reference (item_of (text_of file.now base parameter_columns lines) v)) ++ (newline ∷ []))
         out.new result }
     ensures upper_bound { result ≤ at + 1100 }
 {
@@ -93,11 +93,11 @@ pub fn put_mostly_real(
     reference: bool,
     v: Value,
 ) -> usize
-    requires stands { Stands file.now base parameterColumns lines }
-    requires writable { Writable (lines * parameterColumns) v }
+    requires stands { Stands file.now base parameter_columns lines }
+    requires writable { Writable (lines * parameter_columns) v }
     requires at_bound { at < 2 ^ 59 }
     ensures wrote { Wrote out.old at
-        (line_of (Line.value reference (item_of (text_of file.now base parameterColumns lines) v)) ++ (newline ∷ []))
+        (line_of (Line.value reference (item_of (text_of file.now base parameter_columns lines) v)) ++ (newline ∷ []))
         out.new result }
     ensures upper_bound { result ≤ at + 1100 }
 {
@@ -123,11 +123,11 @@ pub fn put_global_line(
     n: u32,
     v: Value,
 ) -> usize
-    requires stands { Stands file.now base textColumns lines }
-    requires writable { Writable (lines * textColumns) v }
+    requires stands { Stands file.now base text_columns lines }
+    requires writable { Writable (lines * text_columns) v }
     requires at_bound { at < 2 ^ 59 }
     ensures wrote { Wrote out.old at
-        (line_of (Line.global n (item_of (text_of file.now base textColumns lines) v)) ++ (newline ∷ []))
+        (line_of (Line.global n (item_of (text_of file.now base text_columns lines) v)) ++ (newline ∷ []))
         out.new result }
     ensures upper_bound { result ≤ at + 1100 }
 {

@@ -1,11 +1,11 @@
 // The values of a record, one after the other, within their limits.
 ghost use Rattle.std.specs.Prelude.{◌≡◌, ◌*◌, ◌≤◌, ◌<◌};
 ghost use Rattle.columns.specs.Columns.{text_of};
-ghost use Rattle.columns.specs.Format.{parameterColumns};
-ghost use Rattle.records.specs.Record.{value_at, valuesAt};
+ghost use Rattle.columns.specs.Format.{parameter_columns};
+ghost use Rattle.records.specs.Record.{value_at, values_at};
 ghost use Rattle.records.specs.Reading.{Stands, Writable};
 ghost use Rattle.read_entities.specs.Taking.{taken_of};
-ghost use Rattle.print.specs.Taking.{Unrefused, metOf};
+ghost use Rattle.print.specs.Taking.{Unrefused, met_of};
 
 use crate::Met;
 use columns::format::PARAMETER_COLUMNS;
@@ -42,7 +42,7 @@ pub fn value_from(file: &[u8], base: usize, w: usize, lines: usize, c: u8, d: u8
 
 // A value that is met. A refused one would end the record.
 fn met_of(g: Got) -> Met
-    ensures { result ≡ metOf g }
+    ensures { result ≡ met_of g }
 {
     match g {
         Got::Found {
@@ -61,13 +61,13 @@ fn met_of(g: Got) -> Met
 
 // The value from position q of an entity's record on, which is not refused.
 pub fn met_at(file: &[u8], base: usize, lines: usize, c: u8, d: u8, q: usize) -> Met
-    requires stands { Stands file.now base parameterColumns lines }
-    requires q_bound { q ≤ lines * parameterColumns }
+    requires stands { Stands file.now base parameter_columns lines }
+    requires q_bound { q ≤ lines * parameter_columns }
     requires c_nonzero { 0 < c }
     requires d_nonzero { 0 < d }
-    requires unrefused { Unrefused (valuesAt parameterColumns c d (text_of file.now base parameterColumns lines) q) }
-    ensures value { result ≡ metOf (value_at parameterColumns c d (text_of file.now base parameterColumns lines) q) }
-    ensures q_lt_next { (q < result.next) × (result.next ≤ lines * parameterColumns) × Writable (lines * parameterColumns) result.value }
+    requires unrefused { Unrefused (values_at parameter_columns c d (text_of file.now base parameter_columns lines) q) }
+    ensures value { result ≡ met_of (value_at parameter_columns c d (text_of file.now base parameter_columns lines) q) }
+    ensures q_lt_next { (q < result.next) × (result.next ≤ lines * parameter_columns) × Writable (lines * parameter_columns) result.value }
 {
     let g = value_at(file, base, PARAMETER_COLUMNS, lines, c, d, q);
     met_of(g)

@@ -2,14 +2,14 @@
 ghost use Rattle.std.specs.Prelude.{◌≡◌, ◌+◌, ◌*◌, ◌^◌, ◌≤◌, ◌<◌};
 ghost use Rattle.columns.specs.Columns.{text_of};
 ghost use Rattle.columns.specs.Laid.{Wrote};
-ghost use Rattle.columns.specs.Format.{textColumns};
+ghost use Rattle.columns.specs.Format.{text_columns};
 ghost use Rattle.values.specs.Value.{item_of};
-ghost use Rattle.records.specs.Record.{valuesAt};
+ghost use Rattle.records.specs.Record.{values_at};
 ghost use Rattle.records.specs.Reading.{Stands, Writable};
-ghost use Rattle.records.specs.Items.{itemsFrom};
-ghost use Rattle.records.specs.Global.{firstField};
+ghost use Rattle.records.specs.Items.{items_from};
+ghost use Rattle.records.specs.Global.{first_field};
 ghost use Rattle.model.specs.Read.{given};
-ghost use Rattle.print.specs.Bytes.{valuesIn, givenBytes, global_bytes};
+ghost use Rattle.print.specs.Bytes.{values_in, given_bytes, global_bytes};
 
 use columns::format::TEXT_COLUMNS;
 use print::lines::put_global_line;
@@ -30,10 +30,10 @@ fn put_given(
     n: u32,
     v: Value,
 ) -> usize
-    requires stands { Stands file.now base textColumns lines }
-    requires writable { Writable (lines * textColumns) v }
+    requires stands { Stands file.now base text_columns lines }
+    requires writable { Writable (lines * text_columns) v }
     requires at_bound { at < 2 ^ 59 }
-    ensures wrote { Wrote out.old at (givenBytes n (item_of (text_of file.now base textColumns lines) v))
+    ensures wrote { Wrote out.old at (given_bytes n (item_of (text_of file.now base text_columns lines) v))
         out.new result }
     ensures upper_bound { result ≤ at + 1100 }
 {
@@ -45,13 +45,13 @@ fn put_given(
 
 // How many values the record has from position from on; none if it is refused.
 fn count_from(file: &[u8], base: usize, lines: usize, c: u8, d: u8, from: usize) -> usize
-    requires stands { Stands file.now base textColumns lines }
-    requires from_bound { from ≤ lines * textColumns }
+    requires stands { Stands file.now base text_columns lines }
+    requires from_bound { from ≤ lines * text_columns }
     requires c_nonzero { 0 < c }
     requires d_nonzero { 0 < d }
-    ensures result_value { itemsFrom textColumns c d (text_of file.now base textColumns lines) from result
-        ≡ valuesIn (valuesAt textColumns c d (text_of file.now base textColumns lines) from) }
-    ensures upper_bound { result ≤ lines * textColumns }
+    ensures result_value { items_from text_columns c d (text_of file.now base text_columns lines) from result
+        ≡ values_in (values_at text_columns c d (text_of file.now base text_columns lines) from) }
+    ensures upper_bound { result ≤ lines * text_columns }
 {
     match check_from(file, base, TEXT_COLUMNS, lines, c, d, from) {
         Check::Wrong { .. } => 0,
@@ -70,13 +70,13 @@ pub fn put_globals(
     d: u8,
     from: usize,
 ) -> usize
-    requires stands { Stands file.now base textColumns lines }
-    requires from_bound { from ≤ lines * textColumns }
+    requires stands { Stands file.now base text_columns lines }
+    requires from_bound { from ≤ lines * text_columns }
     requires c_nonzero { 0 < c }
     requires d_nonzero { 0 < d }
     requires at_bound { at < 2 ^ 58 }
     ensures wrote { Wrote out.old at
-        (global_bytes (given firstField (valuesIn (valuesAt textColumns c d (text_of file.now base textColumns lines) from))))
+        (global_bytes (given first_field (values_in (values_at text_columns c d (text_of file.now base text_columns lines) from))))
         out.new result }
     ensures upper_bound { result ≤ at + 79200 * lines }
 {

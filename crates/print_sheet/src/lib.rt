@@ -4,10 +4,10 @@ pub mod rows;
 ghost use Rattle.std.specs.Prelude.{◌+◌, ◌*◌, ◌^◌, ◌≤◌, ◌<◌, length};
 ghost use Rattle.columns.specs.Columns.{text_of};
 ghost use Rattle.columns.specs.Laid.{Wrote};
-ghost use Rattle.columns.specs.Format.{textColumns};
+ghost use Rattle.columns.specs.Format.{text_columns};
 ghost use Rattle.records.specs.Reading.{Stands};
 ghost use Rattle.print.specs.Rows.{RowsRead, Printable};
-ghost use Rattle.print.specs.Whole.{fieldBytes, wholeBytes};
+ghost use Rattle.print.specs.Whole.{field_bytes, whole_bytes};
 
 use crate::rows::put_rows;
 use columns::format::LINE_BYTES;
@@ -26,12 +26,12 @@ fn put_fields(
     from: usize,
     last: bool,
 ) -> usize
-    requires stands { Stands file.now base textColumns lines }
-    requires from_bound { from ≤ lines * textColumns }
+    requires stands { Stands file.now base text_columns lines }
+    requires from_bound { from ≤ lines * text_columns }
     requires c_nonzero { 0 < c }
     requires d_nonzero { 0 < d }
     requires at_bound { at < 2 ^ 58 }
-    ensures wrote { Wrote out.old at (fieldBytes c d (text_of file.now base textColumns lines) from last)
+    ensures wrote { Wrote out.old at (field_bytes c d (text_of file.now base text_columns lines) from last)
         out.new result }
     ensures upper_bound { result ≤ at + 79200 * lines }
 {
@@ -58,10 +58,10 @@ pub fn put_sheet(
     last: bool,
 ) -> usize
     requires printable { Printable file.now (s + g) n parameters c d }
-    requires from_bound { from ≤ g * textColumns }
+    requires from_bound { from ≤ g * text_columns }
     requires at_bound { at < 2 ^ 55 }
     requires rows_read { RowsRead file.now (s + g) n parameters c d }
-    ensures wrote { Wrote out.old at (wholeBytes list file.now s g n parameters c d from last)
+    ensures wrote { Wrote out.old at (whole_bytes list file.now s g n parameters c d from last)
         out.new result }
     ensures upper_bound { result ≤ at + 2 ^ 52 }
 {

@@ -2,18 +2,18 @@
 ghost use Rattle.std.specs.Prelude.{false, ◌≡◌, [], ◌∷◌, ◌++◌, ◌+◌, ◌-◌, ◌*◌, ◌^◌, ◌≤◌, ◌<◌, length};
 ghost use Rattle.columns.specs.Columns.{text_of};
 ghost use Rattle.columns.specs.Laid.{Wrote};
-ghost use Rattle.columns.specs.Format.{lineBytes, parameterColumns};
+ghost use Rattle.columns.specs.Format.{line_bytes, parameter_columns};
 ghost use Rattle.columns.specs.Letters.{newline};
-ghost use Rattle.records.specs.Record.{valuesAt};
+ghost use Rattle.records.specs.Record.{values_at};
 ghost use Rattle.directory.specs.Lines.{label_at};
 ghost use Rattle.directory.specs.Naming.{types_at};
 ghost use Rattle.layouts.specs.Known.{known};
 ghost use Rattle.sheets.specs.Plain.{sized};
 ghost use Rattle.sheets.specs.Sheet.{Line, line_of};
-ghost use Rattle.read_entities.specs.Marks.{carriedIn};
-ghost use Rattle.print.specs.Bytes.{entityBytes};
+ghost use Rattle.read_entities.specs.Marks.{carried_in};
+ghost use Rattle.print.specs.Bytes.{entity_bytes};
 ghost use Rattle.print.specs.Taking.{ValuesStand};
-ghost use Rattle.print.specs.Rows.{speltBytes, rowBytes, rowsBytes, SpeltReads, RowReads, RowsRead, Printable};
+ghost use Rattle.print.specs.Rows.{spelt_bytes, row_bytes, rows_bytes, SpeltReads, RowReads, RowsRead, Printable};
 
 use columns::format::{FIELD_COLUMNS, LINE_BYTES};
 use columns::{DirectoryNumber, ParameterLine, wide};
@@ -33,7 +33,7 @@ fn put_entry_line(
     number: DirectoryNumber,
     x: Fields,
 ) -> usize
-    requires line_bytes_in_bounds { lineBytes * k + 2 * lineBytes ≤ length file.now }
+    requires line_bytes_in_bounds { line_bytes * k + 2 * line_bytes ≤ length file.now }
     requires at_bound { at < 2 ^ 59 }
     ensures wrote { Wrote out.old at
         (line_of (Line.entry (known list x.entity.size x.form.size) (sized false number.0) x (label_at file.now k))
@@ -65,11 +65,11 @@ pub fn put_entity(
     n: usize,
 ) -> usize
     requires values_stand { ValuesStand file.now base lines c d first n }
-    requires line_bytes_in_bounds { lineBytes * k + 2 * lineBytes ≤ length file.now }
+    requires line_bytes_in_bounds { line_bytes * k + 2 * line_bytes ≤ length file.now }
     requires at_bound { at < 2 ^ 57 }
     ensures wrote { Wrote out.old at
-        (entityBytes list (types_at file.now first n) number.0 x (label_at file.now k)
-        (carriedIn (valuesAt parameterColumns c d (text_of file.now base parameterColumns lines) 0))) out.new result }
+        (entity_bytes list (types_at file.now first n) number.0 x (label_at file.now k)
+        (carried_in (values_at parameter_columns c d (text_of file.now base parameter_columns lines) 0))) out.new result }
     ensures upper_bound { result ≤ at + 388 + 70400 * lines }
 {
     let entity = x.entity;
@@ -121,7 +121,7 @@ fn put_spelt(
     requires i_lt_n { i < n }
     requires at_bound { at < 2 ^ 57 }
     requires spelt_reads { SpeltReads file.now parameters c d pointer.0 count }
-    ensures wrote { Wrote out.old at (speltBytes list file.now first n parameters c d i x pointer.0 count)
+    ensures wrote { Wrote out.old at (spelt_bytes list file.now first n parameters c d i x pointer.0 count)
         out.new result }
     ensures upper_bound { result ≤ at + 15000000000 }
 {
@@ -156,7 +156,7 @@ fn put_row(
     requires i_lt_n { i < n }
     requires at_bound { at < 2 ^ 57 }
     requires row_reads { RowReads file.now first parameters c d i }
-    ensures wrote { Wrote out.old at (rowBytes list file.now first n parameters c d i) out.new result }
+    ensures wrote { Wrote out.old at (row_bytes list file.now first n parameters c d i) out.new result }
     ensures upper_bound { result ≤ at + 15000000000 }
 {
     match entry_at(file, first + 2 * i) {
@@ -187,7 +187,7 @@ pub fn put_rows(
     requires at_bound { at < 2 ^ 56 }
     requires rows_read { RowsRead file.now first n parameters c d }
     ensures wrote { Wrote out.old at
-        (rowsBytes list file.now first n parameters c d 0 n ++ (line_of (Line.last n) ++ (newline ∷ [])))
+        (rows_bytes list file.now first n parameters c d 0 n ++ (line_of (Line.last n) ++ (newline ∷ [])))
         out.new result }
     ensures upper_bound { result ≤ at + 15000000000 * n + 23 }
 {

@@ -1,22 +1,22 @@
 // The S lines: the text of columns 1 to 72 without trailing blanks.
 ghost use Rattle.std.specs.Prelude.{◌≡◌, [], ◌∷◌, ◌++◌, map, ◌+◌, ◌*◌, ◌^◌, ◌≤◌, ◌<◌, length, take, drop};
 ghost use Rattle.columns.specs.First.{up_from};
-ghost use Rattle.columns.specs.Trim.{trimEnd};
+ghost use Rattle.columns.specs.Trim.{trim_end};
 ghost use Rattle.columns.specs.Laid.{Wrote};
-ghost use Rattle.columns.specs.Format.{lineBytes, textColumns, mostLines};
+ghost use Rattle.columns.specs.Format.{line_bytes, text_columns, most_lines};
 ghost use Rattle.columns.specs.Letters.{newline};
 ghost use Rattle.sheets.specs.Sheet.{Line, line_of};
-ghost use Rattle.model.specs.Read.{isBlank, startText};
-ghost use Rattle.print.specs.Bytes.{startBytes};
+ghost use Rattle.model.specs.Read.{is_blank, start_text};
+ghost use Rattle.print.specs.Bytes.{start_bytes};
 
 use columns::format::{LINE_BYTES, TEXT_COLUMNS};
 use sheets_lay::put_start;
 
 // How many bytes of the text from here on are kept.
 fn kept(file: &[u8], from: usize) -> usize
-    requires { from + textColumns ≤ length file.now }
-    ensures file_value { take result (drop from file.now) ≡ trimEnd isBlank (take textColumns (drop from file.now)) }
-    ensures upper_bound { result ≤ textColumns }
+    requires { from + text_columns ≤ length file.now }
+    ensures file_value { take result (drop from file.now) ≡ trim_end is_blank (take text_columns (drop from file.now)) }
+    ensures upper_bound { result ≤ text_columns }
 {
     let mut n = TEXT_COLUMNS;
     while 0 < n {
@@ -31,9 +31,9 @@ fn kept(file: &[u8], from: usize) -> usize
 
 // The S line of line k of the file.
 fn put_start_line(out: &mut [u8], at: usize, file: &[u8], k: usize) -> usize
-    requires line_bytes_in_bounds { lineBytes * k + lineBytes ≤ length file.now }
+    requires line_bytes_in_bounds { line_bytes * k + line_bytes ≤ length file.now }
     requires at_bound { at < 2 ^ 60 }
-    ensures wrote { Wrote out.old at (line_of (Line.start (startText file.now k)) ++ (newline ∷ []))
+    ensures wrote { Wrote out.old at (line_of (Line.start (start_text file.now k)) ++ (newline ∷ []))
         out.new result }
     ensures upper_bound { result ≤ at + 75 }
 {
@@ -45,11 +45,11 @@ fn put_start_line(out: &mut [u8], at: usize, file: &[u8], k: usize) -> usize
 
 // Those of the first s lines.
 pub fn put_starts(out: &mut [u8], at: usize, file: &[u8], s: usize) -> usize
-    requires s_in_bounds { lineBytes * s ≤ length file.now }
-    requires s_le_most_lines { s ≤ mostLines }
+    requires s_in_bounds { line_bytes * s ≤ length file.now }
+    requires s_le_most_lines { s ≤ most_lines }
     requires at_bound { at < 2 ^ 59 }
     ensures wrote { Wrote out.old at
-        (startBytes (map (startText file.now) (up_from 0 s))) out.new result }
+        (start_bytes (map (start_text file.now) (up_from 0 s))) out.new result }
     ensures upper_bound { result ≤ at + 75 * s }
 {
     let mut next = at;

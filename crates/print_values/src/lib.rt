@@ -2,11 +2,11 @@
 ghost use Rattle.std.specs.Prelude.{◌+◌, ◌*◌, ◌^◌, ◌≤◌, ◌<◌};
 ghost use Rattle.columns.specs.Columns.{text_of};
 ghost use Rattle.columns.specs.Laid.{Wrote};
-ghost use Rattle.columns.specs.Format.{parameterColumns};
-ghost use Rattle.records.specs.Record.{valuesAt};
+ghost use Rattle.columns.specs.Format.{parameter_columns};
+ghost use Rattle.records.specs.Record.{values_at};
 ghost use Rattle.directory.specs.Naming.{types_at};
-ghost use Rattle.read_entities.specs.Marks.{carriedIn, marksBegun, markedFrom};
-ghost use Rattle.print.specs.Bytes.{valueBytes};
+ghost use Rattle.read_entities.specs.Marks.{carried_in, marks_begun, marked_from};
+ghost use Rattle.print.specs.Bytes.{value_bytes};
 ghost use Rattle.print.specs.Taking.{ValuesStand, GivenStands, GivenPut};
 
 use columns::format::PARAMETER_COLUMNS;
@@ -70,8 +70,8 @@ pub fn put_values(
     requires values_stand { ValuesStand file.now base lines c d first n }
     requires at_bound { at < 2 ^ 58 }
     ensures wrote { Wrote out.old at
-        (valueBytes (markedFrom (types_at file.now first n) (marksBegun list typ form)
-        (carriedIn (valuesAt parameterColumns c d (text_of file.now base parameterColumns lines) 0)))) out.new result }
+        (value_bytes (marked_from (types_at file.now first n) (marks_begun list typ form)
+        (carried_in (values_at parameter_columns c d (text_of file.now base parameter_columns lines) 0)))) out.new result }
     ensures upper_bound { result ≤ at + 70400 * lines }
 {
     let mut g = marks_begun(list, typ, form);

@@ -1,10 +1,10 @@
 // All that is asked of a file before the last pass, in the paper's order.
 ghost use Rattle.std.specs.Prelude.{◌≡◌};
 ghost use Rattle.cards.specs.Rules.{Holds};
-ghost use Rattle.owners.specs.InFile.{ownersIn, outcome};
+ghost use Rattle.owners.specs.InFile.{owners_in, outcome};
 ghost use Rattle.model.specs.Read.{before};
-ghost use Rattle.read_passes.specs.Passes.{passOf, beforeAnswer};
-ghost use Rattle.read_passes.specs.Walks.{directoryOutcome, behindCards};
+ghost use Rattle.read_passes.specs.Passes.{pass_of, before_answer};
+ghost use Rattle.read_passes.specs.Walks.{directory_outcome, behind_cards};
 
 use cards::{CardsRead, Counts};
 use columns::Fault;
@@ -14,7 +14,7 @@ use read_passes::{BeforeAnswer, FilePass, GlobalAnswer};
 // 11: over entries, then over P lines.
 fn owners_pass(file: &[u8], c: Counts) -> FilePass
     requires { Holds file.now c }
-    ensures { result ≡ passOf (outcome c (ownersIn file.now c)) }
+    ensures { result ≡ pass_of (outcome c (owners_in file.now c)) }
 {
     let found = owners_pass::owners(file, c);
     let line = owners_pass::line_of(c, found);
@@ -34,7 +34,7 @@ fn owners_pass(file: &[u8], c: Counts) -> FilePass
 // Each entry 9, 13; all 10; then 11.
 fn directory_pass(file: &[u8], c: Counts) -> FilePass
     requires { Holds file.now c }
-    ensures { result ≡ passOf (directoryOutcome file.now c) }
+    ensures { result ≡ pass_of (directory_outcome file.now c) }
 {
     let entries = read_directory::entries(file, c);
     match entries {
@@ -46,7 +46,7 @@ fn directory_pass(file: &[u8], c: Counts) -> FilePass
 // Behind the lines: G, then the directory.
 fn behind_cards(file: &[u8], c: Counts) -> BeforeAnswer
     requires { Holds file.now c }
-    ensures { result ≡ beforeAnswer (behindCards file.now c) }
+    ensures { result ≡ before_answer (behind_cards file.now c) }
 {
     let global = read_global::globals(file, c);
     match global {
@@ -67,7 +67,7 @@ fn behind_cards(file: &[u8], c: Counts) -> BeforeAnswer
 
 // All that is asked of a file before the last pass.
 pub fn before(file: &[u8]) -> BeforeAnswer
-    ensures { result ≡ beforeAnswer (before file.now) }
+    ensures { result ≡ before_answer (before file.now) }
 {
     let read = cards_pass::cards(file);
     match read {

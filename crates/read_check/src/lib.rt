@@ -1,12 +1,12 @@
 // All checks of a file in the paper's order: `last_pass` goes over its entities; `weigh` asks the list, all that is asked before, and the
 // last pass; `check` is its answer alone.
 ghost use Rattle.std.specs.Prelude.{◌≡◌, ◌+◌, ◌^◌, ◌<◌};
-ghost use Rattle.model.specs.Read.{lastPass};
-ghost use Rattle.read_passes.specs.Passes.{passOf};
-ghost use Rattle.read_passes.specs.Listed.{allEntries};
+ghost use Rattle.model.specs.Read.{last_pass};
+ghost use Rattle.read_passes.specs.Passes.{pass_of};
+ghost use Rattle.read_passes.specs.Listed.{all_entries};
 ghost use Rattle.read_passes.specs.Ready.{Ready};
-ghost use Rattle.read_weights.specs.Checks.{delimited, checkOf};
-ghost use Rattle.read_weights.specs.Weights.{rowsLength, rows_of, weightOf, Few, Light};
+ghost use Rattle.read_weights.specs.Checks.{delimited, check_of};
+ghost use Rattle.read_weights.specs.Weights.{rows_length, rows_of, weight_of, Few, Light};
 
 use cards::Counts;
 use columns::{Fault, FileLine, wide};
@@ -19,8 +19,8 @@ pub fn last_pass(list: u64, file: &[u8], c: Counts, parameter: u8, closing: u8) 
     requires ready { Ready file.now c }
     requires parameter_nonzero { 0 < parameter }
     requires closing_nonzero { 0 < closing }
-    ensures value { result ≡ rows_of (rowsLength list file.now c parameter closing)
-        (passOf (lastPass list file.now c (delimited parameter closing) (allEntries file.now c))) }
+    ensures value { result ≡ rows_of (rows_length list file.now c parameter closing)
+        (pass_of (last_pass list file.now c (delimited parameter closing) (all_entries file.now c))) }
     ensures few { Few (2 ^ 51) result }
 {
     let n = wide(c.d) / 2;
@@ -45,7 +45,7 @@ pub fn last_pass(list: u64, file: &[u8], c: Counts, parameter: u8, closing: u8) 
 
 // All checks of a file under a list, and the bytes of its sheet behind the G lines.
 pub fn weigh(list: u64, file: &[u8]) -> Weight
-    ensures value { result ≡ weightOf list file.now (checkOf list file.now) }
+    ensures value { result ≡ weight_of list file.now (check_of list file.now) }
     ensures light { Light (2 ^ 51) result }
 {
     if !layouts_lists::is_list(list) {
@@ -78,7 +78,7 @@ pub fn weigh(list: u64, file: &[u8]) -> Weight
 
 // All checks of a file under a list.
 pub fn check(list: u64, file: &[u8]) -> Checked
-    ensures { result ≡ checkOf list file.now }
+    ensures { result ≡ check_of list file.now }
 {
     let told = weigh(list, file);
     match told {

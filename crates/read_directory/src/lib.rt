@@ -5,8 +5,8 @@ mod refer;
 ghost use Rattle.std.specs.Prelude.{◌≡◌, ◌<◌};
 ghost use Rattle.cards.specs.Cards.{entries};
 ghost use Rattle.cards.specs.Rules.{Holds};
-ghost use Rattle.read_passes.specs.Passes.{passOf};
-ghost use Rattle.read_passes.specs.Walks.{or_else, turn_of, entryCheck, referenceCheck, entriesOutcome};
+ghost use Rattle.read_passes.specs.Passes.{pass_of};
+ghost use Rattle.read_passes.specs.Walks.{or_else, turn_of, entry_check, reference_check, entries_outcome};
 
 use crate::refer::reference_check;
 use cards::Counts;
@@ -18,7 +18,7 @@ use read_passes::{FilePass, Turn};
 fn entry_check(file: &[u8], c: Counts, i: usize, kept: FilePass) -> Turn
     requires holds { Holds file.now c }
     requires i_bound { i < entries c }
-    ensures { result ≡ turn_of (entryCheck file.now c i) (or_else kept (referenceCheck file.now c i)) }
+    ensures { result ≡ turn_of (entry_check file.now c i) (or_else kept (reference_check file.now c i)) }
 {
     let first = cards::entry_line(c, 0);
     let total = wide(c.d) / 2;
@@ -44,7 +44,7 @@ fn entry_check(file: &[u8], c: Counts, i: usize, kept: FilePass) -> Turn
 // All entries.
 pub fn entries(file: &[u8], c: Counts) -> FilePass
     requires { Holds file.now c }
-    ensures { result ≡ passOf (entriesOutcome file.now c) }
+    ensures { result ≡ pass_of (entries_outcome file.now c) }
 {
     let n = wide(c.d) / 2;
     let mut i = 0;

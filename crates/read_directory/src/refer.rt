@@ -1,10 +1,10 @@
 // What an entry names: an entry of the file, of the type wanted (10). Entry i has its first D line at index first + 2 * i among the lines.
 ghost use Rattle.std.specs.Prelude.{◌≡◌, ◌+◌, ◌*◌, ◌≤◌, length};
-ghost use Rattle.columns.specs.Format.{lineBytes};
-ghost use Rattle.directory.specs.Rules.{all_fit, references, referenceRule};
-ghost use Rattle.directory.specs.Asking.{asksOk};
+ghost use Rattle.columns.specs.Format.{line_bytes};
+ghost use Rattle.directory.specs.Rules.{all_fit, references, reference_rule};
+ghost use Rattle.directory.specs.Asking.{asks_ok};
 ghost use Rattle.directory.specs.Naming.{types_at};
-ghost use Rattle.read_passes.specs.Passes.{passOf};
+ghost use Rattle.read_passes.specs.Passes.{pass_of};
 ghost use Rattle.read_passes.specs.Walks.{or_else};
 
 use columns::{Fault, FileLine};
@@ -16,8 +16,8 @@ const REFERENCES: usize = 7;
 
 // Whether what is asked, if it is, names such an entry.
 fn asks_ok(file: &[u8], first: usize, n: usize, w: Wanted) -> bool
-    requires { lineBytes * (first + 2 * n) ≤ length file.now }
-    ensures { result ≡ asksOk (types_at file.now first n) w }
+    requires { line_bytes * (first + 2 * n) ≤ length file.now }
+    ensures { result ≡ asks_ok (types_at file.now first n) w }
 {
     if !w.asked {
         return true;
@@ -28,7 +28,7 @@ fn asks_ok(file: &[u8], first: usize, n: usize, w: Wanted) -> bool
 
 // Whether all references of an entry do.
 fn all_ask_ok(file: &[u8], first: usize, n: usize, e: Entry) -> bool
-    requires { lineBytes * (first + 2 * n) ≤ length file.now }
+    requires { line_bytes * (first + 2 * n) ≤ length file.now }
     ensures { result ≡ all_fit (types_at file.now first n) (references e) }
 {
     let mut j = 0;
@@ -51,8 +51,8 @@ pub fn reference_check(
     line: FileLine,
     kept: FilePass,
 ) -> FilePass
-    requires { lineBytes * (first + 2 * n) ≤ length file.now }
-    ensures { result ≡ or_else kept (passOf (referenceRule (types_at file.now first n) fields line.0)) }
+    requires { line_bytes * (first + 2 * n) ≤ length file.now }
+    ensures { result ≡ or_else kept (pass_of (reference_rule (types_at file.now first n) fields line.0)) }
 {
     let FilePass::Good = kept else {
         return kept;

@@ -12,7 +12,7 @@ use Rattle.records.specs.declared.Got.{Got}
 use Rattle.records.specs.declared.Got.TheVariants.{Found, Refused}
 use Rattle.records.specs.Record.{behind}
 use Rattle.records.specs.Reading.{Sane}
-use Rattle.records.specs.Items.{gotItem}
+use Rattle.records.specs.Items.{got_item}
 use Rattle.read_entities.specs.declared.Taken.{Taken}
 use Rattle.read_entities.specs.Taking.{taken_of}
 
@@ -28,7 +28,7 @@ module _ {g : Got} where
   pub taken_refused : {fault : Fault} {s at : ℕ} → g ≡ Refused fault s at → with Default at ≡ taken_of g
   taken_refused e = rw e
 
-pub taken_item : (t : List ℕ) (g : Got) → item_of t (taken_of g).value ≡ gotItem t g
+pub taken_item : (t : List ℕ) (g : Got) → item_of t (taken_of g).value ≡ got_item t g
 taken_item t (Found v s next last) = refl
 taken_item t (Refused fault s at) = refl
 

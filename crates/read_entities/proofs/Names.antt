@@ -9,24 +9,24 @@ use Rattle.values.specs.declared.Value.TheVariants.{Default, Whole, Real, Text}
 use Rattle.layouts.specs.Named.{named}
 
 module _ (types : List ℕ) {v : Value} where
-  pub default-names : v ≡ Default → 0 ≡ named types v
+  pub default_names : v ≡ Default → 0 ≡ named types v
   unfolding named
-  default-names e = rw e
+  default_names e = rw e
 
-  pub negative-names : {neg : Bool} {size : ℕ} → v ≡ Whole neg size → neg ≡ true → 0 ≡ named types v
+  pub negative_names : {neg : Bool} {size : ℕ} → v ≡ Whole neg size → neg ≡ true → 0 ≡ named types v
   unfolding named
-  negative-names e h = rw (e, h)
+  negative_names e h = rw (e, h)
 
-  pub whole-names : {neg : Bool} {size r : ℕ} → v ≡ Whole neg size → neg ≡ false → r ≡ class_at types size → r ≡ named types v
+  pub whole_names : {neg : Bool} {size r : ℕ} → v ≡ Whole neg size → neg ≡ false → r ≡ class_at types size → r ≡ named types v
   unfolding named
-  whole-names e h k = rw (e, h) k
+  whole_names e h k = rw (e, h) k
 
-  pub real-names : {neg : Bool} {m : ℕ} {eneg : Bool} {e : ℕ} {double : Bool} → v ≡ Real neg m eneg e double → 0 ≡ named types v
+  pub real_names : {neg : Bool} {m : ℕ} {eneg : Bool} {e : ℕ} {double : Bool} → v ≡ Real neg m eneg e double → 0 ≡ named types v
   unfolding named
-  real-names e = rw e
+  real_names e = rw e
 
   pub text-names : {start count : ℕ} → v ≡ Text start count → 0 ≡ named types v
   unfolding named
   text-names e = rw e
 
-pub ruleset names = (default-names, negative-names, whole-names, real-names, text-names)
+pub ruleset names = (default_names, negative_names, whole_names, real_names, text-names)

@@ -1,4 +1,4 @@
--- The pass over one entity is that of `byParameters`: a value that is the type, the kept values behind the first, the answer of a verdict.
+-- The pass over one entity is that of `by_parameters`: a value that is the type, the kept values behind the first, the answer of a verdict.
 -- Assumes nothing.
 use mathlib.Core.Path.{◌≡◌, refl, ◌∙◌}
 use mathlib.Core.Bool.{Bool, true, false, cond}
@@ -18,72 +18,72 @@ use Rattle.records.specs.Reading.{checked}
 use Rattle.layouts.specs.declared.LayoutVerdict.{LayoutVerdict}
 use Rattle.layouts.specs.declared.LayoutVerdict.TheVariants.{Good as GoodVerdict, Layout, LayoutReference}
 use Rattle.layouts.specs.Known.{known}
-use Rattle.layouts.specs.Entities.{Entity, verdict, fault, entityCheck}
+use Rattle.layouts.specs.Entities.{Entity, verdict, fault, entity_check}
 use Rattle.model.specs.Model.{type_of}
-use Rattle.model.specs.Read.{Listed, is_type, byParameters, carried}
+use Rattle.model.specs.Read.{Listed, is_type, by_parameters, carried}
 use Rattle.read_entities.specs.declared.EntityAnswer.TheVariants.{Good, Refused}
-use Rattle.read_entities.specs.Taking.{entityWith}
-use Rattle.read_entities.specs.Answers.{entityAnswer, entityPassOf, typeRead, verdictAnswer}
+use Rattle.read_entities.specs.Taking.{entity_with}
+use Rattle.read_entities.specs.Answers.{entity_answer, entity_pass_of, type_read, verdict_answer}
 
 -- ---- the answer for an entry of the file
 
-then-carried : {A : Type 0} (o : Outcome (Unit {0})) (a : A) → entityAnswer o ≡ entityAnswer (o then λ _. accepted a)
-then-carried (accepted u) a = refl
-then-carried (refused n p) a = refl
+then_carried : {A : Type 0} (o : Outcome (Unit {0})) (a : A) → entity_answer o ≡ entity_answer (o then λ _. accepted a)
+then_carried (accepted u) a = refl
+then_carried (refused n p) a = refl
 
-fault-place : (w : LayoutVerdict) (p q : ℕ) → entityAnswer (fault w p) ≡ entityAnswer (fault w q)
+fault-place : (w : LayoutVerdict) (p q : ℕ) → entity_answer (fault w p) ≡ entity_answer (fault w q)
 fault-place GoodVerdict p q = refl
 fault-place Layout p q = refl
 fault-place LayoutReference p q = refl
 
-check-place : (list : ℕ) (types : List ℕ) (e : Entity) (p q : ℕ) → entityAnswer (entityCheck list types e p) ≡ entityAnswer (entityCheck list types e q)
-unfolding entityCheck
-check-place list types e p q = by (known list e.typ e.form)
+check_place : (list : ℕ) (types : List ℕ) (e : Entity) (p q : ℕ) → entity_answer (entity_check list types e p) ≡ entity_answer (entity_check list types e q)
+unfolding entity_check
+check_place list types e p q = by (known list e.typ e.form)
   where
-    by : (b : Bool) → entityAnswer (cond b (fault (verdict types e) p) (accepted tt)) ≡ entityAnswer (cond b (fault (verdict types e) q) (accepted tt))
+    by : (b : Bool) → entity_answer (cond b (fault (verdict types e) p) (accepted tt)) ≡ entity_answer (cond b (fault (verdict types e) q) (accepted tt))
     by true = fault-place (verdict types e) p q
     by false = refl
 
 -- what the pass says of an entry is told by its type and its form
 pub pass-read : (list : ℕ) (types : List ℕ) (place : ℕ) (e : Listed) (vs : Values)
-    → entityPassOf list types (type_of e.fields) e.fields.form.size vs ≡ entityAnswer (byParameters list types place e vs)
-unfolding entityPassOf
+    → entity_pass_of list types (type_of e.fields) e.fields.form.size vs ≡ entity_answer (by_parameters list types place e vs)
+unfolding entity_pass_of
 pass-read list types place e (wrong n start at) = refl
 pass-read list types place e (values vs end) = by (is_type (type_of e.fields) (get_or vs 0 default))
   where
     by : (b : Bool)
-        → entityAnswer (demand b FirstValue 0 then λ _. entityCheck list types (entityWith (type_of e.fields) e.fields.form.size (trimmed (drop 1 vs))) 0)
-        ≡ entityAnswer (demand b FirstValue place then λ _. entityCheck list types (entityWith (type_of e.fields) e.fields.form.size (trimmed (drop 1 vs))) place then λ _. accepted (carried e (trimmed (drop 1 vs))))
+        → entity_answer (demand b FirstValue 0 then λ _. entity_check list types (entity_with (type_of e.fields) e.fields.form.size (trimmed (drop 1 vs))) 0)
+        ≡ entity_answer (demand b FirstValue place then λ _. entity_check list types (entity_with (type_of e.fields) e.fields.form.size (trimmed (drop 1 vs))) place then λ _. accepted (carried e (trimmed (drop 1 vs))))
     by true =
-        let x : Entity = entityWith (type_of e.fields) e.fields.form.size (trimmed (drop 1 vs)) in
-        check-place list types x 0 place ∙ then-carried (entityCheck list types x place) (carried e (trimmed (drop 1 vs)))
+        let x : Entity = entity_with (type_of e.fields) e.fields.form.size (trimmed (drop 1 vs)) in
+        check_place list types x 0 place ∙ then_carried (entity_check list types x place) (carried e (trimmed (drop 1 vs)))
     by false = refl
 
 -- ---- a value that is the type
 
 module _ (typ : ℕ) {v : Value} where
-  pub type-whole : {neg : Bool} {size : ℕ} → v ≡ Whole neg size → neg ≡ false → eqb size typ ≡ typeRead typ v
-  type-whole e h = rw (e, h)
+  pub type_whole : {neg : Bool} {size : ℕ} → v ≡ Whole neg size → neg ≡ false → eqb size typ ≡ type_read typ v
+  type_whole e h = rw (e, h)
 
-  pub type-negative : {neg : Bool} {size : ℕ} → v ≡ Whole neg size → neg ≡ true → false ≡ typeRead typ v
-  type-negative e h = rw (e, h)
+  pub type_negative : {neg : Bool} {size : ℕ} → v ≡ Whole neg size → neg ≡ true → false ≡ type_read typ v
+  type_negative e h = rw (e, h)
 
-  pub type-default : v ≡ Default → false ≡ typeRead typ v
-  type-default e = rw e
+  pub type_default : v ≡ Default → false ≡ type_read typ v
+  type_default e = rw e
 
-  pub type-real : {neg : Bool} {m : ℕ} {eneg : Bool} {e : ℕ} {double : Bool} → v ≡ Real neg m eneg e double → false ≡ typeRead typ v
-  type-real e = rw e
+  pub type_real : {neg : Bool} {m : ℕ} {eneg : Bool} {e : ℕ} {double : Bool} → v ≡ Real neg m eneg e double → false ≡ type_read typ v
+  type_real e = rw e
 
-  pub type-text : {start count : ℕ} → v ≡ Text start count → false ≡ typeRead typ v
-  type-text e = rw e
+  pub type_text : {start count : ℕ} → v ≡ Text start count → false ≡ type_read typ v
+  type_text e = rw e
 
-pub ruleset typing = (type-whole, type-negative, type-default, type-real, type-text)
+pub ruleset typing = (type_whole, type_negative, type_default, type_real, type_text)
 
-pub read-type : (typ : ℕ) (t : List ℕ) (v : Value) → is_type typ (item_of t v) ≡ typeRead typ v
-read-type typ t Default = refl
-read-type typ t (Whole neg size) = refl
-read-type typ t (Real neg m eneg e double) = refl
-read-type typ t (Text start count) = refl
+pub read_type : (typ : ℕ) (t : List ℕ) (v : Value) → is_type typ (item_of t v) ≡ type_read typ v
+read_type typ t Default = refl
+read_type typ t (Whole neg size) = refl
+read_type typ t (Real neg m eneg e double) = refl
+read_type typ t (Text start count) = refl
 
 -- ---- the values behind the first
 
@@ -94,25 +94,25 @@ pub record Accepted (vals : Values) (n m end : ℕ) : Type 0 where
   pub count : n ≡ length vs
   pub keeps : m ≡ kept vs
 
-pub done-values : (vals : Values) (n m end : ℕ) → checked vals ≡ Done n m end → Accepted vals n m end
-done-values (values vs to) n m end h = record { vs = vs; is = cc; count = cc; keeps = cc }
-done-values (wrong f s at) n m end h = let z : ◌≡◌ {A = ℕ} 0 1 = cc in absurd (omega arith)
+pub done_values : (vals : Values) (n m end : ℕ) → checked vals ≡ Done n m end → Accepted vals n m end
+done_values (values vs to) n m end h = record { vs = vs; is = cc; count = cc; keeps = cc }
+done_values (wrong f s at) n m end h = let z : ◌≡◌ {A = ℕ} 0 1 = cc in absurd (omega arith)
 
 -- ---- the pass
 
-pub answer-fault : (w : LayoutVerdict) (p : ℕ) → verdictAnswer w ≡ entityAnswer (fault w p)
+pub answer-fault : (w : LayoutVerdict) (p : ℕ) → verdict_answer w ≡ entity_answer (fault w p)
 answer-fault GoodVerdict p = refl
 answer-fault Layout p = refl
 answer-fault LayoutReference p = refl
 
 module _ {w : LayoutVerdict} where
-  pub answer-good : w ≡ GoodVerdict → Good ≡ verdictAnswer w
-  answer-good e = rw e
+  pub answer_good : w ≡ GoodVerdict → Good ≡ verdict_answer w
+  answer_good e = rw e
 
-  pub answer-layout : w ≡ Layout → Refused LayoutFault ≡ verdictAnswer w
-  answer-layout e = rw e
+  pub answer_layout : w ≡ Layout → Refused LayoutFault ≡ verdict_answer w
+  answer_layout e = rw e
 
-  pub answer-reference : w ≡ LayoutReference → Refused LayoutReferenceFault ≡ verdictAnswer w
-  answer-reference e = rw e
+  pub answer_reference : w ≡ LayoutReference → Refused LayoutReferenceFault ≡ verdict_answer w
+  answer_reference e = rw e
 
-pub ruleset answering = (answer-good, answer-layout, answer-reference)
+pub ruleset answering = (answer_good, answer_layout, answer_reference)

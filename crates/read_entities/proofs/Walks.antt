@@ -10,110 +10,110 @@ use Rattle.columns.specs.declared.Fault.{Fault}
 use Rattle.columns.specs.Columns.{text_of}
 use Rattle.values.specs.declared.Value.{Value}
 use Rattle.values.specs.declared.Value.TheVariants.{Default, Whole, Real, Text}
-use Rattle.values.specs.Value.{Item, default, whole, real, item_of, is_default, head, spelled, isMissing}
+use Rattle.values.specs.Value.{Item, default, whole, real, item_of, is_default, head, spelled, is_missing}
 use Rattle.values.specs.Writing.{front}
 use Rattle.records.specs.declared.Got.{Got}
 use Rattle.records.specs.declared.Got.TheVariants.{Found, Refused}
-use Rattle.records.specs.Record.{Values, values, wrong, more, value_at, valuesAt, trim, trimmed}
+use Rattle.records.specs.Record.{Values, values, wrong, more, value_at, values_at, trim, trimmed}
 use Rattle.records.specs.Reading.{Stands, Writable, Sane}
 use Rattle.records.specs.Written.{copied}
 use Rattle.records.proofs.Texts.{length-text, small}
-use Rattle.records.proofs.Bounds.{next_more, next-in, next-less, can_write}
-use Rattle.records.proofs.Puts.{inside, copied-text, spelled-length, copied-few}
+use Rattle.records.proofs.Bounds.{next_more, next_in, next_less, can_write}
+use Rattle.records.proofs.Puts.{inside, copied-text, spelled-length, copied_few}
 use Rattle.records.proofs.Steps.{at_last, at_more, at-wrong}
 use Rattle.layouts.specs.declared.LayoutState.{LayoutState}
 use Rattle.layouts.specs.declared.Stepped.{Stepped}
 use Rattle.layouts.specs.declared.Stepped.TheVariants.{Go, Bad}
 use Rattle.layouts.specs.Named.{named}
-use Rattle.layouts.specs.Machine.{stand, runsOn}
+use Rattle.layouts.specs.Machine.{stand, runs_on}
 use Rattle.layouts.specs.Walk.{stepped, run}
-use Rattle.layouts.proofs.Steps.{runs-left, step-runs}
-use Rattle.layouts.proofs.Runs.{feed-stepped, run-bad, run-append}
+use Rattle.layouts.proofs.Steps.{runs_left, step_runs}
+use Rattle.layouts.proofs.Runs.{feed-stepped, run_bad, run-append}
 use Rattle.read_entities.specs.declared.EntityWalked.{EntityWalked}
 use Rattle.read_entities.specs.declared.EntityWalked.TheVariants.{Done, Wrong}
-use Rattle.read_entities.specs.Walking.{carriedLength, owing, stateAfter, lengthAfter, owedAfter, walkedFrom}
+use Rattle.read_entities.specs.Walking.{carried_length, owing, state_after, length_after, owed_after, walked_from}
 
 -- ---- defaults
 
-run-default : (types : List ℕ) (g : Stepped) (n : ℕ) → run types (stepped types g Default) (replicate n default) ≡ run types g (replicate (suc n) default)
+run_default : (types : List ℕ) (g : Stepped) (n : ℕ) → run types (stepped types g Default) (replicate n default) ≡ run types g (replicate (suc n) default)
 unfolding run
-run-default types g n = ap (λ (x : Stepped). run types x (replicate n default)) (sym (feed-stepped types [] g Default))
+run_default types g n = ap (λ (x : Stepped). run types x (replicate n default)) (sym (feed-stepped types [] g Default))
 
 module _ (types : List ℕ) (g : Stepped) (left : ℕ) {f : Stepped} (inv : run types g (replicate left default) ≡ f) where
-  pub defaults-none : left ≤ 0 → g ≡ f
+  pub defaults_none : left ≤ 0 → g ≡ f
   unfolding run
-  defaults-none h =
+  defaults_none h =
       let z : left ≡ 0 = omega arith in
       rw z at inv
 
-  pub defaults-more : {u : Stepped} → 0 < left → u ≡ stepped types g Default → run types u (replicate (left - 1) default) ≡ f
-  defaults-more {u} h e =
+  pub defaults_more : {u : Stepped} → 0 < left → u ≡ stepped types g Default → run types u (replicate (left - 1) default) ≡ f
+  defaults_more {u} h e =
       let z : suc (left - 1) ≡ left = omega arith in
-      ap (λ (x : Stepped). run types x (replicate (left - 1) default)) e ∙ run-default types g (left - 1) ∙ ap (λ (k : ℕ). run types g (replicate k default)) z ∙ inv
+      ap (λ (x : Stepped). run types x (replicate (left - 1) default)) e ∙ run_default types g (left - 1) ∙ ap (λ (k : ℕ). run types g (replicate k default)) z ∙ inv
 
-pub ruleset defaults = (defaults-none, defaults-more)
+pub ruleset defaults = (defaults_none, defaults_more)
 
 -- ---- behind a value
 
-module _ (types : List ℕ) {g : Stepped} (owed : ℕ) (v : Value) (b : Bool) (eb : b ≡ isMissing v) where
-  pub state-same : b ≡ true → g ≡ stateAfter types g owed v
-  state-same e = rw (← eb, e)
+module _ (types : List ℕ) {g : Stepped} (owed : ℕ) (v : Value) (b : Bool) (eb : b ≡ is_missing v) where
+  pub state_same : b ≡ true → g ≡ state_after types g owed v
+  state_same e = rw (← eb, e)
 
   module _ (e : b ≡ false) where
-    pub state-bad : g ≡ Bad → Bad ≡ stateAfter types g owed v
-    state-bad eg = rw (← eb, e, eg, run-bad types (replicate owed default))
+    pub state_bad : g ≡ Bad → Bad ≡ state_after types g owed v
+    state_bad eg = rw (← eb, e, eg, run_bad types (replicate owed default))
 
     module _ (s : LayoutState) (eg : g ≡ Go s) (t : LayoutState) where
       -- none is owed, and more of its kind follow
-      pub state-runs : (y : Bool) → owed ≡ 0 → y ≡ runsOn s v → y ≡ true → t ≡ stand s s.at (s.left - 1) → Go t ≡ stateAfter types g owed v
+      pub state_runs : (y : Bool) → owed ≡ 0 → y ≡ runs_on s v → y ≡ true → t ≡ stand s s.at (s.left - 1) → Go t ≡ state_after types g owed v
       unfolding run
-      state-runs y z ey h et = rw (← eb, e, eg, z) (step-runs s t v (named types v) y ey h et)
+      state_runs y z ey h et = rw (← eb, e, eg, z) (step_runs s t v (named types v) y ey h et)
 
-      pub state-given : (h u : Stepped) → t ≡ stand s s.at s.left → h ≡ run types (Go t) (replicate owed default) → u ≡ stepped types h v → u ≡ stateAfter types g owed v
+      pub state-given : (h u : Stepped) → t ≡ stand s s.at s.left → h ≡ run types (Go t) (replicate owed default) → u ≡ stepped types h v → u ≡ state_after types g owed v
       state-given h u et eh eu = rw (← eb, e, eg) (eu ∙ ap (λ (x : Stepped). stepped types x v) (eh ∙ ap (λ (x : LayoutState). run types (Go x) (replicate owed default)) et))
 
-pub ruleset states = (state-same, state-bad, state-runs, state-given, runs-left)
+pub ruleset states = (state_same, state_bad, state_runs, state-given, runs_left)
 
 module _ (size owed : ℕ) {v : Value} where
-  pub measured-whole : {neg : Bool} {n r : ℕ} → v ≡ Whole neg n → r ≡ length (spelled (whole neg n)) → size + 3 * owed + 3 + r ≡ lengthAfter size owed v
-  measured-whole e q = rw (e, q) (omega arith)
+  pub measured_whole : {neg : Bool} {n r : ℕ} → v ≡ Whole neg n → r ≡ length (spelled (whole neg n)) → size + 3 * owed + 3 + r ≡ length_after size owed v
+  measured_whole e q = rw (e, q) (omega arith)
 
-  pub measured-real : {neg : Bool} {m : ℕ} {eneg : Bool} {x : ℕ} {double : Bool} {r : ℕ} → v ≡ Real neg m eneg x double → r ≡ length (spelled (real neg m eneg x double)) → size + 3 * owed + 3 + r ≡ lengthAfter size owed v
-  measured-real e q = rw (e, q) (omega arith)
+  pub measured_real : {neg : Bool} {m : ℕ} {eneg : Bool} {x : ℕ} {double : Bool} {r : ℕ} → v ≡ Real neg m eneg x double → r ≡ length (spelled (real neg m eneg x double)) → size + 3 * owed + 3 + r ≡ length_after size owed v
+  measured_real e q = rw (e, q) (omega arith)
 
-  pub measured-text : {start count r : ℕ} → v ≡ Text start count → r ≡ length (head count) → size + 3 * owed + 3 + r + count ≡ lengthAfter size owed v
-  measured-text e q = rw (e, q)
+  pub measured_text : {start count r : ℕ} → v ≡ Text start count → r ≡ length (head count) → size + 3 * owed + 3 + r + count ≡ length_after size owed v
+  measured_text e q = rw (e, q)
 
   -- a string is short
   module _ {start count : ℕ} (r : ℕ) (e : v ≡ Text start count) (few : copied v ≤ 999) (h : r ≤ 44) where
-    pub text-light : size + 3 * owed + 3 + r + count ≤ size + 3 * owed + 1046
-    text-light = omega (arith, copied-text e)
+    pub text_light : size + 3 * owed + 3 + r + count ≤ size + 3 * owed + 1046
+    text_light = omega (arith, copied-text e)
 
     pub text-fits : size < 2 ^ 60 → owed < 2 ^ 60 → size + 3 * owed + 3 + r + count < 2 ^ 64
     text-fits p q = omega (arith, copied-text e)
 
-pub ruleset measures = (measured-whole, measured-real, measured-text, text-light, text-fits)
+pub ruleset measures = (measured_whole, measured_real, measured_text, text_light, text-fits)
 
-module _ (owed : ℕ) (v : Value) (b : Bool) (eb : b ≡ isMissing v) where
-  pub owed_more : b ≡ true → owed + 1 ≡ owedAfter owed v
+module _ (owed : ℕ) (v : Value) (b : Bool) (eb : b ≡ is_missing v) where
+  pub owed_more : b ≡ true → owed + 1 ≡ owed_after owed v
   owed_more e = rw (← eb, e)
 
-  pub owed_none : b ≡ false → 0 ≡ owedAfter owed v
+  pub owed_none : b ≡ false → 0 ≡ owed_after owed v
   owed_none e = rw (← eb, e)
 
 pub ruleset owes = (owed_more, owed_none)
 
 -- ---- defaults that are owed
 
-one-default : (n : ℕ) (us : List Item) → replicate n default ++ (default ∷ us) ≡ replicate (suc n) default ++ us
-one-default zero us = refl
-one-default (suc n) us = ap (λ (l : List Item). default ∷ l) (one-default n us)
+one_default : (n : ℕ) (us : List Item) → replicate n default ++ (default ∷ us) ≡ replicate (suc n) default ++ us
+one_default zero us = refl
+one_default (suc n) us = ap (λ (l : List Item). default ∷ l) (one_default n us)
 
-owing-default : (owed : ℕ) (us : List Item) → owing owed (trim default us) ≡ owing (owed + 1) us
-owing-default owed [] = refl
-owing-default owed (u ∷ us) =
+owing_default : (owed : ℕ) (us : List Item) → owing owed (trim default us) ≡ owing (owed + 1) us
+owing_default owed [] = refl
+owing_default owed (u ∷ us) =
     let z : suc owed ≡ owed + 1 = omega arith in
-    one-default owed (u ∷ us) ∙ ap (λ (k : ℕ). replicate k default ++ (u ∷ us)) z
+    one_default owed (u ∷ us) ∙ ap (λ (k : ℕ). replicate k default ++ (u ∷ us)) z
 
 owing-given : (owed : ℕ) (i : Item) (us : List Item) → is_default i ≡ false → owing owed (trim i us) ≡ replicate owed default ++ (i ∷ us)
 owing-given owed i [] e = rw e
@@ -123,10 +123,10 @@ pub owing-none : (us : List Item) → owing 0 us ≡ us
 owing-none [] = refl
 owing-none (u ∷ us) = refl
 
-defaults-length : (n : ℕ) (us : List Item) → carriedLength (replicate n default ++ us) ≡ 3 * n + carriedLength us
-unfolding carriedLength spelled
-defaults-length zero us = omega arith
-defaults-length (suc n) us = omega (arith, defaults-length n us)
+defaults_length : (n : ℕ) (us : List Item) → carried_length (replicate n default ++ us) ≡ 3 * n + carried_length us
+unfolding carried_length spelled
+defaults_length zero us = omega arith
+defaults_length (suc n) us = omega (arith, defaults_length n us)
 
 -- a value that is given, behind the defaults owed
 module _ (types : List ℕ) (g : Stepped) (owed : ℕ) (t : List ℕ) (v : Value) (us : List Item) (e : is_default (item_of t v) ≡ false) where
@@ -136,51 +136,51 @@ module _ (types : List ℕ) (g : Stepped) (owed : ℕ) (t : List ℕ) (v : Value
       ap (run types g) (owing-given owed (item_of t v) us e) ∙ run-append types g (replicate owed default) (item_of t v ∷ us)
       ∙ ap₂ (run types) (feed-stepped types t (run types g (replicate owed default)) v) (sym (owing-none us))
 
-  given-length : (size : ℕ) → Writable (length t) v → size + carriedLength (owing owed (trim (item_of t v) us)) ≡ size + 3 * owed + 3 + length (front v) + copied v + carriedLength (owing 0 us)
-  unfolding carriedLength
+  given-length : (size : ℕ) → Writable (length t) v → size + carried_length (owing owed (trim (item_of t v) us)) ≡ size + 3 * owed + 3 + length (front v) + copied v + carried_length (owing 0 us)
+  unfolding carried_length
   given-length size h =
-      let a = ap carriedLength (owing-given owed (item_of t v) us e) ∙ defaults-length owed (item_of t v ∷ us) in
-      let b = ap carriedLength (owing-none us) in
+      let a = ap carried_length (owing-given owed (item_of t v) us e) ∙ defaults_length owed (item_of t v ∷ us) in
+      let b = ap carried_length (owing-none us) in
       omega (arith, a, b, spelled-length t v (inside (length t) v h))
 
 module _ (types : List ℕ) (g : Stepped) (owed size : ℕ) (t : List ℕ) where
-  walk-one : (v : Value) (vals : Values) → Writable (length t) v
-      → walkedFrom types g owed size (more (item_of t v) vals) ≡ walkedFrom types (stateAfter types g owed v) (owedAfter owed v) (lengthAfter size owed v) vals
-  walk-one v (wrong fault start at) h = refl
-  walk-one Default (values vs end) h = ap (λ (l : List Item). Done (run types g l) (size + carriedLength l)) (owing-default owed (trimmed vs))
-  walk-one (Whole neg n) (values vs end) h = ap₂ Done (given-state types g owed t (Whole neg n) (trimmed vs) refl) (given-length types g owed t (Whole neg n) (trimmed vs) refl size h)
-  walk-one (Real neg m eneg e double) (values vs end) h = ap₂ Done (given-state types g owed t (Real neg m eneg e double) (trimmed vs) refl) (given-length types g owed t (Real neg m eneg e double) (trimmed vs) refl size h)
-  walk-one (Text start count) (values vs end) h = ap₂ Done (given-state types g owed t (Text start count) (trimmed vs) refl) (given-length types g owed t (Text start count) (trimmed vs) refl size h)
+  walk_one : (v : Value) (vals : Values) → Writable (length t) v
+      → walked_from types g owed size (more (item_of t v) vals) ≡ walked_from types (state_after types g owed v) (owed_after owed v) (length_after size owed v) vals
+  walk_one v (wrong fault start at) h = refl
+  walk_one Default (values vs end) h = ap (λ (l : List Item). Done (run types g l) (size + carried_length l)) (owing_default owed (trimmed vs))
+  walk_one (Whole neg n) (values vs end) h = ap₂ Done (given-state types g owed t (Whole neg n) (trimmed vs) refl) (given-length types g owed t (Whole neg n) (trimmed vs) refl size h)
+  walk_one (Real neg m eneg e double) (values vs end) h = ap₂ Done (given-state types g owed t (Real neg m eneg e double) (trimmed vs) refl) (given-length types g owed t (Real neg m eneg e double) (trimmed vs) refl size h)
+  walk_one (Text start count) (values vs end) h = ap₂ Done (given-state types g owed t (Text start count) (trimmed vs) refl) (given-length types g owed t (Text start count) (trimmed vs) refl size h)
 
-  walk-all : (v : Value) (next : ℕ) → Writable (length t) v → walkedFrom types g owed size (values (item_of t v ∷ []) next) ≡ Done (stateAfter types g owed v) (lengthAfter size owed v)
-  unfolding run carriedLength
-  walk-all v next h = walk-one v (values [] next) h ∙ ap (Done (stateAfter types g owed v)) (add-zero (lengthAfter size owed v))
+  walk_all : (v : Value) (next : ℕ) → Writable (length t) v → walked_from types g owed size (values (item_of t v ∷ []) next) ≡ Done (state_after types g owed v) (length_after size owed v)
+  unfolding run carried_length
+  walk_all v next h = walk_one v (values [] next) h ∙ ap (Done (state_after types g owed v)) (add-zero (length_after size owed v))
 
 -- ---- the loop over a record: f is the answer
 
 module _ {file : List ℕ} {base lines : ℕ} (st : Stands file base 64 lines) {c d : ℕ} (pc : 0 < c) (pd : 0 < d) (types : List ℕ) where
   module _ (q owed size : ℕ) (g : Stepped) {got : Got} {f : EntityWalked} (h : q ≤ lines * 64) (eg : got ≡ value_at 64 c d (text_of file base 64 lines) q)
-      (inv : walkedFrom types g owed size (valuesAt 64 c d (text_of file base 64 lines) q) ≡ f) where
-    pub walk-wrong : {fault : Fault} {s at : ℕ} → got ≡ Refused fault s at → Wrong fault ≡ f
-    walk-wrong e = sym (ap (walkedFrom types g owed size) (at-wrong 64 c d (text_of file base 64 lines) pc pd q (sym eg ∙ e))) ∙ inv
+      (inv : walked_from types g owed size (values_at 64 c d (text_of file base 64 lines) q) ≡ f) where
+    pub walk_wrong : {fault : Fault} {s at : ℕ} → got ≡ Refused fault s at → Wrong fault ≡ f
+    walk_wrong e = sym (ap (walked_from types g owed size) (at-wrong 64 c d (text_of file base 64 lines) pc pd q (sym eg ∙ e))) ∙ inv
 
     module _ (sane : Sane q (lines * 64) got) {v : Value} {s next : ℕ} {last : Bool} (e : got ≡ Found v s next last) {u : Stepped} {size' : ℕ}
-        (eu : u ≡ stateAfter types g owed v) (el : size' ≡ lengthAfter size owed v) where
+        (eu : u ≡ state_after types g owed v) (el : size' ≡ length_after size owed v) where
       can : Writable (length (text_of file base 64 lines)) v
       can = rw (length-text file base 64 lines st) (can_write q (lines * 64) e sane)
 
-      pub walk-last : last ≡ true → Done u size' ≡ f
-      walk-last l =
+      pub walk_last : last ≡ true → Done u size' ≡ f
+      walk_last l =
           let t = text_of file base 64 lines in
           ap₂ Done eu el
-          ∙ sym (ap (walkedFrom types g owed size) (at_last 64 c d t pc pd q (sym eg ∙ e ∙ ap (Found v s next) l)) ∙ walk-all types g owed size t v next can) ∙ inv
+          ∙ sym (ap (walked_from types g owed size) (at_last 64 c d t pc pd q (sym eg ∙ e ∙ ap (Found v s next) l)) ∙ walk_all types g owed size t v next can) ∙ inv
 
-      pub walk_more : {o' : ℕ} → o' ≡ owedAfter owed v → last ≡ false → walkedFrom types u o' size' (valuesAt 64 c d (text_of file base 64 lines) next) ≡ f
+      pub walk_more : {o' : ℕ} → o' ≡ owed_after owed v → last ≡ false → walked_from types u o' size' (values_at 64 c d (text_of file base 64 lines) next) ≡ f
       walk_more eo l =
           let t = text_of file base 64 lines in
           let i : q ≤ length t = omega (arith, length-text file base 64 lines st) in
           rw (eu, eo, el)
-          (sym (ap (walkedFrom types g owed size) (at_more 64 c d t pc pd q i (sym eg ∙ e ∙ ap (Found v s next) l)) ∙ walk-one types g owed size t v (valuesAt 64 c d t next) can) ∙ inv)
+          (sym (ap (walked_from types g owed size) (at_more 64 c d t pc pd q i (sym eg ∙ e ∙ ap (Found v s next) l)) ∙ walk_one types g owed size t v (values_at 64 c d t next) can) ∙ inv)
 
 -- ---- its bounds: each value takes a character, and its line 1046 bytes at most
 
@@ -194,23 +194,23 @@ same_length true size size' x e = e
 same_length false size size' x e = refl
 
 module _ (q owed size lines : ℕ) (i : size + 1100 * owed ≤ 1100 * q) {got : Got} (sane : Sane q (lines * 64) got) {v : Value} {s next : ℕ} {last : Bool} (e : got ≡ Found v s next last)
-    {o' size' : ℕ} (el : size' ≡ lengthAfter size owed v) (k : size' ≤ size + 3 * owed + 1046) (eo : o' ≡ owedAfter owed v) where
-  pub light-next : size' + 1100 * o' ≤ 1100 * next
-  light-next =
-      lighter (isMissing v) size size' owed o' q next i (next_more q (lines * 64) e sane) k
-      (same_length (isMissing v) size size' (size + 3 * owed + 3 + length (front v) + copied v) el) eo
+    {o' size' : ℕ} (el : size' ≡ length_after size owed v) (k : size' ≤ size + 3 * owed + 1046) (eo : o' ≡ owed_after owed v) where
+  pub light_next : size' + 1100 * o' ≤ 1100 * next
+  light_next =
+      lighter (is_missing v) size size' owed o' q next i (next_more q (lines * 64) e sane) k
+      (same_length (is_missing v) size size' (size + 3 * owed + 3 + length (front v) + copied v) el) eo
 
-  pub light-all : size' ≤ 70400 * lines
-  light-all = omega (arith, light-next, next-in q (lines * 64) e sane)
+  pub light_all : size' ≤ 70400 * lines
+  light_all = omega (arith, light_next, next_in q (lines * 64) e sane)
 
 module _ {file : List ℕ} {base lines : ℕ} (st : Stands file base 64 lines) (q owed size : ℕ) (h : q ≤ lines * 64) (i : size + 1100 * owed ≤ 1100 * q) where
-  pub length-small : size < 2 ^ 60
-  length-small = omega (arith, small file base 64 lines st)
+  pub length_small : size < 2 ^ 60
+  length_small = omega (arith, small file base 64 lines st)
 
   pub owed_small : owed < 2 ^ 60
   owed_small = omega (arith, small file base 64 lines st)
 
 pub copied-fits : (q m : ℕ) {got : Got} {v : Value} {s next : ℕ} {last : Bool} → got ≡ Found v s next last → Sane q m got → copied v ≤ 999
-copied-fits q m {got} {v} e h = copied-few m v (can_write q m e h)
+copied-fits q m {got} {v} e h = copied_few m v (can_write q m e h)
 
-pub ruleset walks = (walk-wrong, walk-last, walk_more, light-next, light-all, length-small, owed_small, copied-fits, next-in, next-less)
+pub ruleset walks = (walk_wrong, walk_last, walk_more, light_next, light_all, length_small, owed_small, copied-fits, next_in, next_less)

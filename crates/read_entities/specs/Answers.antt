@@ -1,4 +1,4 @@
--- The code's form: what the last pass says of one entity: the answer of `byParameters` without what is carried and without the place.
+-- The code's form: what the last pass says of one entity: the answer of `by_parameters` without what is carried and without the place.
 use Rattle.std.specs.Prelude.{Bool, false, cond, not, ◌&&◌, List, ℕ, eqb, get_or, drop}
 use Rattle.columns.specs.declared.Fault.TheVariants.{FirstValue, Layout as LayoutFault, LayoutReference as LayoutReferenceFault}
 use Rattle.columns.specs.Refusal.{Outcome, accepted, refused, demand, ◌then◌}
@@ -9,7 +9,7 @@ use Rattle.records.specs.Record.{Values, values, wrong, trimmed}
 use Rattle.layouts.specs.declared.LayoutVerdict.{LayoutVerdict}
 use Rattle.layouts.specs.declared.LayoutVerdict.TheVariants.{Good as GoodVerdict, Layout, LayoutReference}
 use Rattle.layouts.specs.declared.Stepped.{Stepped}
-use Rattle.layouts.specs.Entities.{entityCheck}
+use Rattle.layouts.specs.Entities.{entity_check}
 use Rattle.layouts.specs.Walk.{ended}
 use Rattle.model.specs.Read.{is_type}
 use Rattle.read_entities.specs.declared.EntityAnswer.{EntityAnswer}
@@ -17,41 +17,41 @@ use Rattle.read_entities.specs.declared.EntityAnswer.TheVariants.{Good, Refused}
 use Rattle.read_entities.specs.declared.EntityWalked.{EntityWalked}
 use Rattle.read_entities.specs.declared.EntityWalked.TheVariants.{Done, Wrong}
 use Rattle.read_entities.specs.declared.Weighed.{Weighed}
-use Rattle.read_entities.specs.Taking.{entityWith}
+use Rattle.read_entities.specs.Taking.{entity_with}
 
 -- an outcome without its value and its place
-abbrev pub entityAnswer : {A : Type 0} → Outcome A → EntityAnswer
-entityAnswer (accepted a) = Good
-entityAnswer (refused fault place) = Refused fault
+abbrev pub entity_answer : {A : Type 0} → Outcome A → EntityAnswer
+entity_answer (accepted a) = Good
+entity_answer (refused fault place) = Refused fault
 
 -- an entity of this type and form, with these values in its record: nothing else of its entry has a say
-unfoldable pub entityPassOf : ℕ → List ℕ → ℕ → ℕ → Values → EntityAnswer
-entityPassOf list types typ form (wrong fault start at) = Refused fault
-entityPassOf list types typ form (values vs end) =
-    entityAnswer
+unfoldable pub entity_pass_of : ℕ → List ℕ → ℕ → ℕ → Values → EntityAnswer
+entity_pass_of list types typ form (wrong fault start at) = Refused fault
+entity_pass_of list types typ form (values vs end) =
+    entity_answer
     (demand (is_type typ (get_or vs 0 default)) FirstValue 0
-    then λ _. entityCheck list types (entityWith typ form (trimmed (drop 1 vs))) 0)
+    then λ _. entity_check list types (entity_with typ form (trimmed (drop 1 vs))) 0)
 
 -- ---- as the code goes about it
 
 -- a value as it was read is the integer type
-abbrev pub typeRead : ℕ → Value → Bool
-typeRead typ Default = false
-typeRead typ (Whole neg size) = not neg && eqb size typ
-typeRead typ (Real neg m eneg e double) = false
-typeRead typ (Text start count) = false
+abbrev pub type_read : ℕ → Value → Bool
+type_read typ Default = false
+type_read typ (Whole neg size) = not neg && eqb size typ
+type_read typ (Real neg m eneg e double) = false
+type_read typ (Text start count) = false
 
 -- the answer that a verdict is
-abbrev pub verdictAnswer : LayoutVerdict → EntityAnswer
-verdictAnswer GoodVerdict = Good
-verdictAnswer Layout = Refused LayoutFault
-verdictAnswer LayoutReference = Refused LayoutReferenceFault
+abbrev pub verdict_answer : LayoutVerdict → EntityAnswer
+verdict_answer GoodVerdict = Good
+verdict_answer Layout = Refused LayoutFault
+verdict_answer LayoutReference = Refused LayoutReferenceFault
 
 -- by whether the first value is the type, whether the list knows the entity, and where its layout stands behind its values
-abbrev pub passAnswer : Bool → Bool → Stepped → EntityAnswer
-passAnswer typed inside g = cond typed (cond inside (verdictAnswer (ended g)) Good) (Refused FirstValue)
+abbrev pub pass_answer : Bool → Bool → Stepped → EntityAnswer
+pass_answer typed inside g = cond typed (cond inside (verdict_answer (ended g)) Good) (Refused FirstValue)
 
 -- the same by the walk over its values, with the bytes of their lines
-unfoldable pub weighedOf : Bool → Bool → EntityWalked → Weighed
-weighedOf typed inside (Done state size) = record { answer = passAnswer typed inside state; length = size }
-weighedOf typed inside (Wrong fault) = record { answer = Refused fault; length = 0 }
+unfoldable pub weighed_of : Bool → Bool → EntityWalked → Weighed
+weighed_of typed inside (Done state size) = record { answer = pass_answer typed inside state; length = size }
+weighed_of typed inside (Wrong fault) = record { answer = Refused fault; length = 0 }

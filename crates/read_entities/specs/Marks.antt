@@ -6,18 +6,18 @@ use Rattle.layouts.specs.declared.Stepped.{Stepped}
 use Rattle.layouts.specs.declared.Stepped.TheVariants.{Go, Bad}
 use Rattle.layouts.specs.Known.{known}
 use Rattle.layouts.specs.Machine.{start}
-use Rattle.layouts.specs.Walk.{marksFrom}
+use Rattle.layouts.specs.Walk.{marks_from}
 use Rattle.model.specs.Model.{marked}
 
 -- the values behind the type, without the defaults at the end
-abbrev pub carriedIn : Values → List Item
-carriedIn (values vs end) = trimmed (drop 1 vs)
-carriedIn (wrong fault start at) = []
+abbrev pub carried_in : Values → List Item
+carried_in (values vs end) = trimmed (drop 1 vs)
+carried_in (wrong fault start at) = []
 
 -- before the first of them; outside the list it stands where nothing is a reference
-unfoldable pub marksBegun : ℕ → ℕ → ℕ → Stepped
-marksBegun list typ form = cond (known list typ form) (Go (start typ form)) Bad
+unfoldable pub marks_begun : ℕ → ℕ → ℕ → Stepped
+marks_begun list typ form = cond (known list typ form) (Go (start typ form)) Bad
 
 -- the values from here on, each with its mark
-unfoldable pub markedFrom : List ℕ → Stepped → List Item → List (Bool × Item)
-markedFrom types g vs = marked (marksFrom types g vs) vs
+unfoldable pub marked_from : List ℕ → Stepped → List Item → List (Bool × Item)
+marked_from types g vs = marked (marks_from types g vs) vs

@@ -13,5 +13,5 @@ taken_of (Found v s next last) = record { value = v; next = next }
 taken_of (Refused fault s at) = record { value = Default; next = at }
 
 -- an entity as the layouts see it
-abbrev pub entityWith : ℕ → ℕ → List Item → Entity
-entityWith typ form vs = record { typ = typ; form = form; values = vs }
+abbrev pub entity_with : ℕ → ℕ → List Item → Entity
+entity_with typ form vs = record { typ = typ; form = form; values = vs }

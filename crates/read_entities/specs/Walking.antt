@@ -1,9 +1,9 @@
 -- The code's form: one walk over an entity's values: what the layout and the sheet see are those up to the last that is no default, so a
 -- default is owed until a value is given behind it. Its lines in the sheet are measured on the way.
 use Rattle.std.specs.Prelude.{cond, List, [], ◌∷◌, ◌++◌, ℕ, ◌+◌, ◌*◌, ◌≤◌, ◌<◌, length, replicate}
-use Rattle.columns.specs.Format.{lineBytes, parameterColumns}
+use Rattle.columns.specs.Format.{line_bytes, parameter_columns}
 use Rattle.values.specs.declared.Value.{Value}
-use Rattle.values.specs.Value.{Item, default, spelled, isMissing}
+use Rattle.values.specs.Value.{Item, default, spelled, is_missing}
 use Rattle.values.specs.Writing.{front}
 use Rattle.records.specs.Record.{Values, values, wrong, trimmed}
 use Rattle.records.specs.Reading.{Stands}
@@ -14,9 +14,9 @@ use Rattle.read_entities.specs.declared.EntityWalked.{EntityWalked}
 use Rattle.read_entities.specs.declared.EntityWalked.TheVariants.{Done, Wrong}
 
 -- the bytes of the value lines of these values: the mark, a tab, the spelling, an LF
-unfoldable pub carriedLength : List Item → ℕ
-carriedLength [] = 0
-carriedLength (v ∷ vs) = length (spelled v) + 3 + carriedLength vs
+unfoldable pub carried_length : List Item → ℕ
+carried_length [] = 0
+carried_length (v ∷ vs) = length (spelled v) + 3 + carried_length vs
 
 -- the defaults owed stand before values, and before none they are forgotten
 abbrev pub owing : ℕ → List Item → List Item
@@ -25,28 +25,28 @@ owing owed (v ∷ vs) = replicate owed default ++ (v ∷ vs)
 
 -- what a walk needs: the P lines from base on stand in the file, so do the D lines of n entries from line `first` on, and no delimiter is 0
 pub record EntityStands (f : List ℕ) (base lines c d first n : ℕ) : Type 0 where
-  pub stands : Stands f base parameterColumns lines
+  pub stands : Stands f base parameter_columns lines
   pub parameter : 0 < c
   pub closing : 0 < d
-  pub directory-there : lineBytes * (first + 2 * n) ≤ length f
+  pub directory_there : line_bytes * (first + 2 * n) ≤ length f
 
 -- ---- behind a value
 
-abbrev pub stateAfter : List ℕ → Stepped → ℕ → Value → Stepped
-stateAfter types g owed v = cond (isMissing v) g (stepped types (run types g (replicate owed default)) v)
+abbrev pub state_after : List ℕ → Stepped → ℕ → Value → Stepped
+state_after types g owed v = cond (is_missing v) g (stepped types (run types g (replicate owed default)) v)
 
-abbrev pub lengthAfter : ℕ → ℕ → Value → ℕ
-lengthAfter size owed v = cond (isMissing v) size (size + 3 * owed + 3 + length (front v) + copied v)
+abbrev pub length_after : ℕ → ℕ → Value → ℕ
+length_after size owed v = cond (is_missing v) size (size + 3 * owed + 3 + length (front v) + copied v)
 
-abbrev pub owedAfter : ℕ → Value → ℕ
-owedAfter owed v = cond (isMissing v) (owed + 1) 0
+abbrev pub owed_after : ℕ → Value → ℕ
+owed_after owed v = cond (is_missing v) (owed + 1) 0
 
 -- ---- behind all
 
 -- the rest of the walk, so many defaults owed and so many bytes measured
-abbrev pub walkedFrom : List ℕ → Stepped → ℕ → ℕ → Values → EntityWalked
-walkedFrom types g owed size (values vs end) = Done (run types g (owing owed (trimmed vs))) (size + carriedLength (owing owed (trimmed vs)))
-walkedFrom types g owed size (wrong fault start at) = Wrong fault
+abbrev pub walked_from : List ℕ → Stepped → ℕ → ℕ → Values → EntityWalked
+walked_from types g owed size (values vs end) = Done (run types g (owing owed (trimmed vs))) (size + carried_length (owing owed (trimmed vs)))
+walked_from types g owed size (wrong fault start at) = Wrong fault
 
 -- no more bytes than m
 abbrev pub Light : ℕ → EntityWalked → Type 0

@@ -1,9 +1,9 @@
 // The marks of an entity's values in the sheet.
 ghost use Rattle.std.specs.Prelude.{◌≡◌, ◌+◌, ◌*◌, ◌≤◌, length};
-ghost use Rattle.columns.specs.Format.{lineBytes};
+ghost use Rattle.columns.specs.Format.{line_bytes};
 ghost use Rattle.directory.specs.Naming.{types_at};
 ghost use Rattle.layouts.specs.Walk.{stepped, mark};
-ghost use Rattle.read_entities.specs.Marks.{marksBegun};
+ghost use Rattle.read_entities.specs.Marks.{marks_begun};
 
 use crate::naming::named_at;
 use layouts::Stepped;
@@ -13,7 +13,7 @@ use values::Value;
 
 // Before the first value.
 pub fn marks_begun(list: u64, typ: u32, form: u32) -> Stepped
-    ensures { result ≡ marksBegun list typ form }
+    ensures { result ≡ marks_begun list typ form }
 {
     if known(list, typ, form) {
         return Stepped::Go(start(typ, form));
@@ -33,7 +33,7 @@ pub fn mark_of(g: Stepped) -> bool
 
 // Behind this value.
 pub fn mark_step(file: &[u8], first: usize, n: usize, g: Stepped, v: Value) -> Stepped
-    requires { lineBytes * (first + 2 * n) ≤ length file.now }
+    requires { line_bytes * (first + 2 * n) ≤ length file.now }
     ensures { result ≡ stepped (types_at file.now first n) g v }
 {
     match g {

@@ -1,12 +1,12 @@
 // The pass over one entity: its record's values, the type that stands first, its layout.
 ghost use Rattle.std.specs.Prelude.{◌≡◌, ◌*◌, ◌≤◌};
 ghost use Rattle.columns.specs.Columns.{text_of};
-ghost use Rattle.columns.specs.Format.{parameterColumns};
-ghost use Rattle.records.specs.Record.{valuesAt};
+ghost use Rattle.columns.specs.Format.{parameter_columns};
+ghost use Rattle.records.specs.Record.{values_at};
 ghost use Rattle.directory.specs.Naming.{types_at};
-ghost use Rattle.read_entities.specs.Marks.{carriedIn};
-ghost use Rattle.read_entities.specs.Walking.{EntityStands, carriedLength};
-ghost use Rattle.read_entities.specs.Answers.{typeRead, verdictAnswer, passAnswer, weighedOf, entityPassOf};
+ghost use Rattle.read_entities.specs.Marks.{carried_in};
+ghost use Rattle.read_entities.specs.Walking.{EntityStands, carried_length};
+ghost use Rattle.read_entities.specs.Answers.{type_read, verdict_answer, pass_answer, weighed_of, entity_pass_of};
 
 use columns::Fault;
 use columns::format::PARAMETER_COLUMNS;
@@ -22,7 +22,7 @@ use values::Value;
 
 // Whether a value is the integer type.
 fn is_type(typ: u32, v: Value) -> bool
-    ensures { result ≡ typeRead typ v }
+    ensures { result ≡ type_read typ v }
 {
     match v {
         Value::Default => false,
@@ -38,7 +38,7 @@ fn is_type(typ: u32, v: Value) -> bool
 }
 
 fn verdict_answer(w: LayoutVerdict) -> EntityAnswer
-    ensures { result ≡ verdictAnswer w }
+    ensures { result ≡ verdict_answer w }
 {
     match w {
         LayoutVerdict::Good => EntityAnswer::Good,
@@ -50,7 +50,7 @@ fn verdict_answer(w: LayoutVerdict) -> EntityAnswer
 // What is said of an entity whose first value is its type or not, that the list knows or not, and whose layout stands there
 // behind its values.
 fn pass_answer(typed: bool, inside: bool, g: Stepped) -> EntityAnswer
-    ensures { result ≡ passAnswer typed inside g }
+    ensures { result ≡ pass_answer typed inside g }
 {
     if !typed {
         return EntityAnswer::Refused(Fault::FirstValue);
@@ -69,7 +69,7 @@ fn pass_answer(typed: bool, inside: bool, g: Stepped) -> EntityAnswer
 
 // The same by the walk over its values, with the bytes of their lines.
 fn weighed_by(typed: bool, inside: bool, walked: EntityWalked) -> Weighed
-    ensures { result ≡ weighedOf typed inside walked }
+    ensures { result ≡ weighed_of typed inside walked }
 {
     match walked {
         EntityWalked::Wrong(fault) => Weighed {
@@ -98,10 +98,10 @@ pub fn entity_pass(
     n: usize,
 ) -> Weighed
     requires { EntityStands file.now base lines c d first n }
-    ensures answer_value { result.answer ≡ entityPassOf list (types_at file.now first n) typ form
-        (valuesAt parameterColumns c d (text_of file.now base parameterColumns lines) 0) }
-    ensures length_value { result.length ≡ carriedLength
-        (carriedIn (valuesAt parameterColumns c d (text_of file.now base parameterColumns lines) 0)) }
+    ensures answer_value { result.answer ≡ entity_pass_of list (types_at file.now first n) typ form
+        (values_at parameter_columns c d (text_of file.now base parameter_columns lines) 0) }
+    ensures length_value { result.length ≡ carried_length
+        (carried_in (values_at parameter_columns c d (text_of file.now base parameter_columns lines) 0)) }
     ensures length_bound { result.length ≤ 70400 * lines }
 {
     let g = value_at(file, base, PARAMETER_COLUMNS, lines, c, d, 0);

@@ -3,7 +3,7 @@ mod sheet;
 
 ghost use Rattle.std.specs.Prelude.{◌≡◌, length};
 ghost use Rattle.model.specs.Read.{reads};
-ghost use Rattle.desk.specs.Answers.{answer_of, leftIn};
+ghost use Rattle.desk.specs.Answers.{answer_of, left_in};
 
 use desk::{Answer, answers};
 use read_weights::Weight;
@@ -11,7 +11,7 @@ use read_weights::Weight;
 // The sheet of a file under a list. It is measured first, since a refusal changes no byte of out.
 pub fn read(list: u64, file: &[u8], out: &mut [u8]) -> Answer
     ensures value { result ≡ answer_of (length out.old) (reads list file.now) }
-    ensures out_after { out.new ≡ leftIn out.old (reads list file.now) }
+    ensures out_after { out.new ≡ left_in out.old (reads list file.now) }
 {
     let told = read_check::weigh(list, file);
     match told {

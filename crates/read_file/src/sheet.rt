@@ -2,13 +2,13 @@
 ghost use Rattle.std.specs.Prelude.{◌≡◌, ◌*◌, ◌^◌, ◌≤◌, ◌<◌, length};
 ghost use Rattle.columns.specs.Columns.{text_of};
 ghost use Rattle.columns.specs.Laid.{Wrote};
-ghost use Rattle.columns.specs.Format.{textColumns};
+ghost use Rattle.columns.specs.Format.{text_columns};
 ghost use Rattle.records.specs.Reading.{Stands};
-ghost use Rattle.print.specs.Whole.{fieldBytes};
+ghost use Rattle.print.specs.Whole.{field_bytes};
 ghost use Rattle.read_weights.specs.declared.Checked.TheVariants.{Good};
-ghost use Rattle.read_weights.specs.Checks.{checkOf};
-ghost use Rattle.read_weights.specs.Weights.{rowsLength};
-ghost use Rattle.desk.specs.Reading.{sheetIn};
+ghost use Rattle.read_weights.specs.Checks.{check_of};
+ghost use Rattle.read_weights.specs.Weights.{rows_length};
+ghost use Rattle.desk.specs.Reading.{sheet_in};
 
 use cards::Counts;
 use columns::format::LINE_BYTES;
@@ -24,8 +24,8 @@ pub fn put_file(
     parameter: u8,
     closing: u8,
 ) -> usize
-    requires { Good c parameter closing ≡ checkOf list file.now }
-    ensures { Wrote out.old 0 (sheetIn list file.now) out.new result }
+    requires { Good c parameter closing ≡ check_of list file.now }
+    ensures { Wrote out.old 0 (sheet_in list file.now) out.new result }
 {
     let s = wide(c.s);
     let g = wide(c.g);
@@ -50,11 +50,11 @@ fn fields_len(
     from: usize,
     last: bool,
 ) -> usize
-    requires stands { Stands file.now base textColumns lines }
-    requires from_bound { from ≤ lines * textColumns }
+    requires stands { Stands file.now base text_columns lines }
+    requires from_bound { from ≤ lines * text_columns }
     requires c_nonzero { 0 < c }
     requires d_nonzero { 0 < d }
-    ensures value { result ≡ length (fieldBytes c d (text_of file.now base textColumns lines) from last) }
+    ensures value { result ≡ length (field_bytes c d (text_of file.now base text_columns lines) from last) }
     ensures upper_bound { result ≤ 79200 * lines }
 {
     if last {
@@ -66,10 +66,10 @@ fn fields_len(
 
 // How long the sheet is, what stands behind its G lines taking so many bytes.
 pub fn measure(list: u64, file: &[u8], c: Counts, parameter: u8, closing: u8, rows: usize) -> usize
-    requires closing_value { Good c parameter closing ≡ checkOf list file.now }
-    requires rows_value { rows ≡ rowsLength list file.now c parameter closing }
+    requires closing_value { Good c parameter closing ≡ check_of list file.now }
+    requires rows_value { rows ≡ rows_length list file.now c parameter closing }
     requires rows_bound { rows ≤ 2 ^ 51 }
-    ensures { result ≡ length (sheetIn list file.now) }
+    ensures { result ≡ length (sheet_in list file.now) }
 {
     let s = wide(c.s);
     let g = wide(c.g);

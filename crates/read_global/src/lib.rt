@@ -1,12 +1,12 @@
 // G: 6 and 7 in text order, stray text, then 8.
 ghost use Rattle.std.specs.Prelude.{◌≡◌, ◌*◌, ◌<◌, ◌≤◌};
-ghost use Rattle.columns.specs.Format.{textColumns};
+ghost use Rattle.columns.specs.Format.{text_columns};
 ghost use Rattle.cards.specs.Rules.{Holds};
-ghost use Rattle.cards.specs.Shared.{fileLine};
+ghost use Rattle.cards.specs.Shared.{file_line};
 ghost use Rattle.records.specs.Record.{start_of, behind};
-ghost use Rattle.model.specs.Read.{globalText, globalLine, spellingLine, noStray, globalIn};
-ghost use Rattle.read_passes.specs.Passes.{passOf, answer_of, globalAnswer};
-ghost use Rattle.read_passes.specs.Walks.{or_else, gotValue, fieldsFit, valuesOutcome};
+ghost use Rattle.model.specs.Read.{global_text, global_line, spelling_line, no_stray, global_in};
+ghost use Rattle.read_passes.specs.Passes.{pass_of, answer_of, global_answer};
+ghost use Rattle.read_passes.specs.Walks.{or_else, got_value, fields_fit, values_outcome};
 
 use cards::Counts;
 use columns::format::{LINE_BYTES, TEXT_COLUMNS};
@@ -20,7 +20,7 @@ const FIRST_FIELD: u32 = 3;
 // The file line of position p of G's text.
 fn global_line(c: Counts, p: usize) -> FileLine
     requires { p ≤ 16000000 }
-    ensures { result ≡ fileLine (globalLine c p) }
+    ensures { result ≡ file_line (global_line c p) }
 {
     FileLine(wide(c.s) + p / TEXT_COLUMNS + 1)
 }
@@ -29,7 +29,7 @@ fn global_line(c: Counts, p: usize) -> FileLine
 fn spelling_line(file: &[u8], c: Counts, start: usize, at: usize) -> FileLine
     requires holds { Holds file.now c }
     requires start_bound { start ≤ 16000000 }
-    ensures { result ≡ fileLine (spellingLine c (globalText file.now c) start at) }
+    ensures { result ≡ file_line (spelling_line c (global_text file.now c) start at) }
 {
     let s = wide(c.s);
     let g = wide(c.g);
@@ -42,8 +42,8 @@ fn spelling_line(file: &[u8], c: Counts, start: usize, at: usize) -> FileLine
 // Behind the record, which ends at `end`, is nothing but blanks.
 fn no_stray(file: &[u8], c: Counts, end: usize) -> FilePass
     requires holds { Holds file.now c }
-    requires end_bound { end ≤ c.g * textColumns }
-    ensures { result ≡ passOf (noStray c (globalText file.now c) end) }
+    requires end_bound { end ≤ c.g * text_columns }
+    ensures { result ≡ pass_of (no_stray c (global_text file.now c) end) }
 {
     let lines = wide(c.g);
     let q = records_global::stray(file, LINE_BYTES * wide(c.s), TEXT_COLUMNS, lines, end);
@@ -58,7 +58,7 @@ fn no_stray(file: &[u8], c: Counts, end: usize) -> FilePass
 }
 
 fn value_of(g: Got) -> Value
-    ensures { result ≡ gotValue g }
+    ensures { result ≡ got_value g }
 {
     match g {
         Got::Found { value, .. } => value,
@@ -87,11 +87,11 @@ fn behind_of(g: Got) -> usize
 // Rule 8, field by field: the values from position `from` on, n of them.
 fn fields_fit(file: &[u8], c: Counts, parameter: u8, closing: u8, from: usize, n: usize) -> FilePass
     requires holds { Holds file.now c }
-    requires from_bound { from ≤ c.g * textColumns }
+    requires from_bound { from ≤ c.g * text_columns }
     requires n_bound { n ≤ 16000000 }
     requires parameter_nonzero { 0 < parameter }
     requires closing_nonzero { 0 < closing }
-    ensures { result ≡ passOf (fieldsFit c parameter closing (globalText file.now c) from n) }
+    ensures { result ≡ pass_of (fields_fit c parameter closing (global_text file.now c) from n) }
 {
     let base = LINE_BYTES * wide(c.s);
     let lines = wide(c.g);
@@ -126,13 +126,13 @@ fn done_pass(
     end: usize,
 ) -> FilePass
     requires holds { Holds file.now c }
-    requires from_bound { from ≤ c.g * textColumns }
+    requires from_bound { from ≤ c.g * text_columns }
     requires n_bound { n ≤ 16000000 }
-    requires end_bound { end ≤ c.g * textColumns }
+    requires end_bound { end ≤ c.g * text_columns }
     requires parameter_nonzero { 0 < parameter }
     requires closing_nonzero { 0 < closing }
-    ensures { result ≡ or_else (passOf (noStray c (globalText file.now c) end))
-        (passOf (fieldsFit c parameter closing (globalText file.now c) from n)) }
+    ensures { result ≡ or_else (pass_of (no_stray c (global_text file.now c) end))
+        (pass_of (fields_fit c parameter closing (global_text file.now c) from n)) }
 {
     let found = no_stray(file, c, end);
     match found {
@@ -144,10 +144,10 @@ fn done_pass(
 // The record from `from` on.
 fn values_pass(file: &[u8], c: Counts, parameter: u8, closing: u8, from: usize) -> FilePass
     requires holds { Holds file.now c }
-    requires from_bound { from ≤ c.g * textColumns }
+    requires from_bound { from ≤ c.g * text_columns }
     requires parameter_nonzero { 0 < parameter }
     requires closing_nonzero { 0 < closing }
-    ensures { result ≡ passOf (valuesOutcome c (globalText file.now c) parameter closing from) }
+    ensures { result ≡ pass_of (values_outcome c (global_text file.now c) parameter closing from) }
 {
     let lines = wide(c.g);
     let base = LINE_BYTES * wide(c.s);
@@ -173,7 +173,7 @@ fn answer_of(found: FilePass, parameter: u8, closing: u8) -> GlobalAnswer
 // The Global section.
 pub fn globals(file: &[u8], c: Counts) -> GlobalAnswer
     requires { Holds file.now c }
-    ensures { result ≡ globalAnswer (globalIn file.now c) }
+    ensures { result ≡ global_answer (global_in file.now c) }
 {
     let first = wide(c.s);
     let opening = records_global::opening_of(file, LINE_BYTES * first, wide(c.g));

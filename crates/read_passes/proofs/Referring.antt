@@ -12,7 +12,7 @@ use Rattle.columns.specs.declared.FileLine.{FileLine}
 use Rattle.columns.specs.declared.ParameterLine.{ParameterLine}
 use Rattle.columns.specs.Refusal.{Outcome, accepted, refused, demand, ◌then◌}
 use Rattle.cards.specs.declared.Counts.{Counts}
-use Rattle.cards.specs.Cards.{firstD, entries, entryLine}
+use Rattle.cards.specs.Cards.{first_d, entries, entry_line}
 use Rattle.directory.specs.declared.Fields.{Fields}
 use Rattle.directory.specs.declared.Entry.{Entry}
 use Rattle.directory.specs.declared.Rule.{Rule}
@@ -21,87 +21,87 @@ use Rattle.directory.specs.declared.EntryRead.{EntryRead}
 use Rattle.directory.specs.declared.EntryRead.TheVariants.{Spelt}
 use Rattle.directory.specs.Fields.{entry_of as meaningOf}
 use Rattle.directory.specs.Lines.{entry_at, label_at}
-use Rattle.directory.specs.Rules.{all_fit, references, referenceRule}
-use Rattle.directory.specs.Asking.{ruleOf}
+use Rattle.directory.specs.Rules.{all_fit, references, reference_rule}
+use Rattle.directory.specs.Asking.{rule_of}
 use Rattle.directory.specs.Naming.{types_at}
-use Rattle.directory.proofs.Asked.{asks_nothing, asks-class, rest_all, rest-on, rest-no, rest-done}
-use Rattle.model.specs.Read.{Listed, firstEntry, entriesIn, referencesOf, referencesIn}
+use Rattle.directory.proofs.Asked.{asks_nothing, asks_class, rest_all, rest_on, rest_no, rest_done}
+use Rattle.model.specs.Read.{Listed, first_entry, entries_in, references_of, references_in}
 use Rattle.model.proofs.Types.{types-listed}
 use Rattle.read_passes.specs.declared.FilePass.{FilePass}
 use Rattle.read_passes.specs.declared.FilePass.TheVariants.{Good, Refused}
 use Rattle.read_passes.specs.declared.Turn.TheVariants.{Kept}
-use Rattle.read_passes.specs.Passes.{passOf}
-use Rattle.read_passes.specs.Listed.{listed_of, listed_at, entry_of, allEntries, allTypes}
-use Rattle.read_passes.specs.Walks.{or_else, first_of, turn_of, entryCheck, referenceCheck, entriesOutcome}
-use Rattle.read_passes.proofs.Listing.{entries-are}
-use Rattle.read_passes.proofs.Walks.{row-walk, entries-walk, both-on, both-here, both_end, turn-wrong, turn-good, turn-refused}
-use Rattle.read_passes.proofs.Whole.{good-entries}
+use Rattle.read_passes.specs.Passes.{pass_of}
+use Rattle.read_passes.specs.Listed.{listed_of, listed_at, entry_of, all_entries, all_types}
+use Rattle.read_passes.specs.Walks.{or_else, first_among, turn_of, entry_check, reference_check, entries_outcome}
+use Rattle.read_passes.proofs.Listing.{entries_are}
+use Rattle.read_passes.proofs.Walks.{row_walk, entries_walk, both_on, both_here, both_end, turn_wrong, turn_good, turn_refused}
+use Rattle.read_passes.proofs.Whole.{good_entries}
 
 -- ---- one reference
 
-pub ruleset asks = (not-true, not-false, asks_nothing, asks-class, rest_all, rest-on, rest-no, rest-done)
+pub ruleset asks = (not-true, not-false, asks_nothing, asks_class, rest_all, rest_on, rest_no, rest_done)
 
 -- ---- those of one entry
 
 module _ (types : List ℕ) (x : Fields) (line : FileLine) (kept : FilePass) where
-  pub kept-stays : (n : Fault) (l : FileLine) → kept ≡ Refused n l → kept ≡ or_else kept (passOf (referenceRule types x line.0))
-  kept-stays n l e = rw e
+  pub kept_stays : (n : Fault) (l : FileLine) → kept ≡ Refused n l → kept ≡ or_else kept (pass_of (reference_rule types x line.0))
+  kept_stays n l e = rw e
 
   module _ (g : kept ≡ Good) (y : Entry) (ey : y ≡ meaningOf x) (b : Bool) (eb : b ≡ all_fit types (references y)) where
-    asked : or_else kept (passOf (referenceRule types x line.0)) ≡ passOf (demand b Reference line.0)
-    unfolding referenceRule
+    asked : or_else kept (pass_of (reference_rule types x line.0)) ≡ pass_of (demand b Reference line.0)
+    unfolding reference_rule
     asked = rw (g, ← ey, ← eb)
 
-    pub refer-good : b ≡ true → Good ≡ or_else kept (passOf (referenceRule types x line.0))
-    refer-good h = sym (asked ∙ rw h)
+    pub refer_good : b ≡ true → Good ≡ or_else kept (pass_of (reference_rule types x line.0))
+    refer_good h = sym (asked ∙ rw h)
 
-    pub refer-wrong : b ≡ false → Refused Reference line ≡ or_else kept (passOf (referenceRule types x line.0))
+    pub refer-wrong : b ≡ false → Refused Reference line ≡ or_else kept (pass_of (reference_rule types x line.0))
     refer-wrong h = sym (asked ∙ rw h)
 
-pub ruleset refers = (kept-stays, refer-good, refer-wrong)
+pub ruleset refers = (kept_stays, refer_good, refer-wrong)
 
 -- ---- one entry
 
-module _ (f : List ℕ) (c : Counts) (i k : ℕ) (r : EntryRead) (ek : k ≡ entryLine c i) (er : r ≡ entry_at f k) where
-  place : k + 1 ≡ firstEntry c + 2 * i
+module _ (f : List ℕ) (c : Counts) (i k : ℕ) (r : EntryRead) (ek : k ≡ entry_line c i) (er : r ≡ entry_at f k) where
+  place : k + 1 ≡ first_entry c + 2 * i
   place = omega arith
 
   module _ (x : Fields) (from : ParameterLine) (count : ℕ) (e : r ≡ Spelt x from count) where
-    refers-at : referenceCheck f c i ≡ passOf (referenceRule (types_at f (firstD c) (entries c)) x (k + 1))
-    unfolding referenceCheck listed_at
+    refers-at : reference_check f c i ≡ pass_of (reference_rule (types_at f (first_d c) (entries c)) x (k + 1))
+    unfolding reference_check listed_at
     refers-at =
-        let q : (entry_of f c i).fields ≡ x = ap (λ (y : EntryRead). (listed_of (label_at f (entryLine c i)) y).fields) (ap (entry_at f) (sym ek) ∙ sym er ∙ e) in
-        ap₂ (λ (y : Fields) (p : ℕ). passOf (referenceRule (types_at f (firstD c) (entries c)) y p)) q (sym place)
+        let q : (entry_of f c i).fields ≡ x = ap (λ (y : EntryRead). (listed_of (label_at f (entry_line c i)) y).fields) (ap (entry_at f) (sym ek) ∙ sym er ∙ e) in
+        ap₂ (λ (y : Fields) (p : ℕ). pass_of (reference_rule (types_at f (first_d c) (entries c)) y p)) q (sym place)
 
-    pub turn-kept : (rule : Rule) → rule ≡ ruleOf x → rule ≡ GoodRule → (kept next : FilePass) (first d : ℕ) → first ≡ entryLine c 0 → d ≡ c.d
-        → next ≡ or_else kept (passOf (referenceRule (types_at f first (d / 2)) x (k + 1))) → Kept next ≡ turn_of (entryCheck f c i) (or_else kept (referenceCheck f c i))
-    turn-kept rule eq g kept next first d ef ed en =
-        let s : first ≡ firstD c = omega arith in
-        let q : next ≡ or_else kept (referenceCheck f c i) = en ∙ rw (s, ed, refers-at) in
-        ap Kept q ∙ turn-good f c i k r ek er x from count e rule eq (or_else kept (referenceCheck f c i)) g
+    pub turn_kept : (rule : Rule) → rule ≡ rule_of x → rule ≡ GoodRule → (kept next : FilePass) (first d : ℕ) → first ≡ entry_line c 0 → d ≡ c.d
+        → next ≡ or_else kept (pass_of (reference_rule (types_at f first (d / 2)) x (k + 1))) → Kept next ≡ turn_of (entry_check f c i) (or_else kept (reference_check f c i))
+    turn_kept rule eq g kept next first d ef ed en =
+        let s : first ≡ first_d c = omega arith in
+        let q : next ≡ or_else kept (reference_check f c i) = en ∙ rw (s, ed, refers-at) in
+        ap Kept q ∙ turn_good f c i k r ek er x from count e rule eq (or_else kept (reference_check f c i)) g
 
 -- ---- all entries
 
 -- the types that stand on the D lines are those of the entries, where all pass
-pub types-stand : (f : List ℕ) (c : Counts) → passOf (entriesIn f c) ≡ Good → allTypes f c ≡ types_at f (firstD c) (entries c)
-types-stand f c good = types-listed f c (allEntries f c) (good-entries f c good)
+pub types-stand : (f : List ℕ) (c : Counts) → pass_of (entries_in f c) ≡ Good → all_types f c ≡ types_at f (first_d c) (entries c)
+types-stand f c good = types-listed f c (all_entries f c) (good_entries f c good)
 
-references-walk : (f : List ℕ) (c : Counts) → passOf (entriesIn f c) ≡ Good → passOf (referencesIn c (allEntries f c)) ≡ first_of (referenceCheck f c) 0 (entries c)
-unfolding referencesIn referenceCheck
-references-walk f c good =
-    rw (types-stand f c good) (row-walk (referencesOf (types_at f (firstD c) (entries c))) (entry_of f c) (firstEntry c) (entries c) 0 (firstEntry c) (omega arith))
+references_walk : (f : List ℕ) (c : Counts) → pass_of (entries_in f c) ≡ Good → pass_of (references_in c (all_entries f c)) ≡ first_among (reference_check f c) 0 (entries c)
+unfolding references_in reference_check
+references_walk f c good =
+    rw (types-stand f c good) (row_walk (references_of (types_at f (first_d c) (entries c))) (entry_of f c) (first_entry c) (entries c) 0 (first_entry c) (omega arith))
 
 -- 10 has a say if all entries pass 9 and 13
-both-walk : (f : List ℕ) (c : Counts) → or_else (first_of (entryCheck f c) 0 (entries c)) (first_of (referenceCheck f c) 0 (entries c)) ≡ passOf (entriesOutcome f c)
-unfolding entriesOutcome
-both-walk f c = rw (← entries-walk f c) (by (entriesIn f c) refl)
+both_walk : (f : List ℕ) (c : Counts) → or_else (first_among (entry_check f c) 0 (entries c)) (first_among (reference_check f c) 0 (entries c)) ≡ pass_of (entries_outcome f c)
+unfolding entries_outcome
+both_walk f c = rw (← entries_walk f c) (by (entries_in f c) refl)
   where
-    by : (o : Outcome (List Listed)) → entriesIn f c ≡ o → or_else (passOf o) (first_of (referenceCheck f c) 0 (entries c)) ≡ passOf (o then λ es. referencesIn c es)
-    by (accepted es) e = sym (ap (λ (us : List Listed). passOf (referencesIn c us)) (entries-are f c es e) ∙ references-walk f c (ap passOf e))
+    by : (o : Outcome (List Listed)) → entries_in f c ≡ o → or_else (pass_of o) (first_among (reference_check f c) 0 (entries c)) ≡ pass_of (o then λ es. references_in c es)
+    by (accepted es) e = sym (ap (λ (us : List Listed). pass_of (references_in c us)) (entries_are f c es e) ∙ references_walk f c (ap pass_of e))
     by (refused n p) e = refl
 
-pub both-start : (f : List ℕ) (c : Counts) (d : ℕ) → d ≡ c.d
-    → or_else (first_of (entryCheck f c) 0 (d / 2 - 0)) (or_else Good (first_of (referenceCheck f c) 0 (d / 2 - 0))) ≡ passOf (entriesOutcome f c)
-both-start f c d e = rw (sub-zero, e) (both-walk f c)
+pub both_start : (f : List ℕ) (c : Counts) (d : ℕ) → d ≡ c.d
+    → or_else (first_among (entry_check f c) 0 (d / 2 - 0)) (or_else Good (first_among (reference_check f c) 0 (d / 2 - 0))) ≡ pass_of (entries_outcome f c)
+both_start f c d e = rw (sub-zero, e) (both_walk f c)
 
-pub ruleset turns = (turn-wrong, turn-refused, turn-kept, both-start, both-on, both-here, both_end)
+pub ruleset turns = (turn_wrong, turn_refused, turn_kept, both_start, both_on, both_here, both_end)

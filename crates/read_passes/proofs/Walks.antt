@@ -9,10 +9,10 @@ use Rattle.columns.specs.declared.Fault.{Fault}
 use Rattle.columns.specs.declared.Fault.TheVariants.{Directory}
 use Rattle.columns.specs.declared.FileLine.{FileLine}
 use Rattle.columns.specs.First.{up_from}
-use Rattle.columns.specs.Refusal.{Outcome, accepted, refused, eachAt, ◌then◌}
+use Rattle.columns.specs.Refusal.{Outcome, accepted, refused, each_at, ◌then◌}
 use Rattle.cards.specs.declared.Counts.{Counts}
-use Rattle.cards.specs.Cards.{entries, entryLine}
-use Rattle.cards.specs.Shared.{fileLine}
+use Rattle.cards.specs.Cards.{entries, entry_line}
+use Rattle.cards.specs.Shared.{file_line}
 use Rattle.directory.specs.declared.Fields.{Fields}
 use Rattle.directory.specs.declared.EntryRead.{EntryRead}
 use Rattle.directory.specs.declared.EntryRead.TheVariants.{Spelt, Wrong}
@@ -20,78 +20,78 @@ use Rattle.directory.specs.declared.Rule.{Rule}
 use Rattle.directory.specs.declared.Rule.TheVariants.{Good as GoodRule, Refused as RefusedRule}
 use Rattle.columns.specs.declared.ParameterLine.{ParameterLine}
 use Rattle.directory.specs.Lines.{entry_at, label_at}
-use Rattle.directory.specs.Asking.{outcomeOf, ruleOf}
-use Rattle.directory.proofs.Ranges.{rule-outcome}
-use Rattle.model.specs.Read.{Listed, two, byEntry, entryIn, entriesIn, firstEntry}
+use Rattle.directory.specs.Asking.{outcome_of, rule_of}
+use Rattle.directory.proofs.Ranges.{rule_outcome}
+use Rattle.model.specs.Read.{Listed, two, by_entry, entry_in, entries_in, first_entry}
 use Rattle.read_passes.specs.declared.FilePass.{FilePass}
 use Rattle.read_passes.specs.declared.FilePass.TheVariants.{Good, Refused}
-use Rattle.read_passes.specs.Passes.{passOf}
+use Rattle.read_passes.specs.Passes.{pass_of}
 use Rattle.read_passes.specs.declared.Turn.{Turn}
 use Rattle.read_passes.specs.declared.Turn.TheVariants.{Kept, Refused as RefusedTurn}
-use Rattle.read_passes.specs.Walks.{or_else, first_of, turn_of, entryCheck}
+use Rattle.read_passes.specs.Walks.{or_else, first_among, turn_of, entry_check}
 
 -- ---- a loop from i up to e: r is the answer
 
-module _ (check : ℕ → FilePass) (i e : ℕ) (r : FilePass) (inv : first_of check i (e - i) ≡ r) where
+module _ (check : ℕ → FilePass) (i e : ℕ) (r : FilePass) (inv : first_among check i (e - i) ≡ r) where
   module _ (x : FilePass) (h : i < e) (ex : x ≡ check i) where
-    next : or_else x (first_of check (i + 1) (e - (i + 1))) ≡ r
-    unfolding first_of
+    next : or_else x (first_among check (i + 1) (e - (i + 1))) ≡ r
+    unfolding first_among
     next =
         let l : e - i ≡ suc (e - (i + 1)) = omega arith in
         rw ex (rw l at inv)
 
-    pub walk-on : x ≡ Good → first_of check (i + 1) (e - (i + 1)) ≡ r
-    walk-on g = rw g at next
+    pub walk_on : x ≡ Good → first_among check (i + 1) (e - (i + 1)) ≡ r
+    walk_on g = rw g at next
 
     pub walk_here : {n : Fault} {l : FileLine} → x ≡ Refused n l → Refused n l ≡ r
     walk_here g = rw g at next
 
   pub walk_end : e ≤ i → Good ≡ r
-  unfolding first_of
+  unfolding first_among
   walk_end h =
       let z : e - i ≡ 0 = omega arith in
       rw z at inv
 
-pub walk_start : (check : ℕ → FilePass) (d n : ℕ) → d ≡ n → first_of check 0 (d / 2 - 0) ≡ first_of check 0 (n / 2)
+pub walk_start : (check : ℕ → FilePass) (d n : ℕ) → d ≡ n → first_among check 0 (d / 2 - 0) ≡ first_among check 0 (n / 2)
 walk_start check d n e = rw (sub-zero, e)
 
 -- ---- two rows in one loop: r is the answer, the refusals of the second kept behind those of the first
 
-pub or-good : (p : FilePass) → or_else p Good ≡ p
-or-good Good = refl
-or-good (Refused n l) = refl
+pub or_good : (p : FilePass) → or_else p Good ≡ p
+or_good Good = refl
+or_good (Refused n l) = refl
 
-or-both : (p q r : FilePass) → or_else (or_else p q) r ≡ or_else p (or_else q r)
-or-both Good q r = refl
-or-both (Refused n l) q r = refl
+or_both : (p q r : FilePass) → or_else (or_else p q) r ≡ or_else p (or_else q r)
+or_both Good q r = refl
+or_both (Refused n l) q r = refl
 
-module _ (a b : ℕ → FilePass) (i e : ℕ) (kept r : FilePass) (inv : or_else (first_of a i (e - i)) (or_else kept (first_of b i (e - i))) ≡ r) where
+module _ (a b : ℕ → FilePass) (i e : ℕ) (kept r : FilePass) (inv : or_else (first_among a i (e - i)) (or_else kept (first_among b i (e - i))) ≡ r) where
   module _ (y : Turn) (h : i < e) (ey : y ≡ turn_of (a i) (or_else kept (b i))) where
-    abbrev rest-a : FilePass
-    rest-a = first_of a (i + 1) (e - (i + 1))
+    abbrev rest_a : FilePass
+    rest_a = first_among a (i + 1) (e - (i + 1))
 
-    abbrev rest-b : FilePass
-    rest-b = first_of b (i + 1) (e - (i + 1))
+    abbrev rest_b : FilePass
+    rest_b = first_among b (i + 1) (e - (i + 1))
 
-    both-next : or_else (or_else (a i) rest-a) (or_else (or_else kept (b i)) rest-b) ≡ r
-    unfolding first_of
-    both-next =
+    both_next : or_else (or_else (a i) rest_a) (or_else (or_else kept (b i)) rest_b) ≡ r
+    unfolding first_among
+    both_next =
         let l : e - i ≡ suc (e - (i + 1)) = omega arith in
-        rw (or-both kept (b i) rest-b) (rw l at inv)
+        rw (or_both kept (b i) rest_b) (rw l at inv)
 
-    pub both-on : {next : FilePass} → y ≡ Kept next → or_else (first_of a (i + 1) (e - (i + 1))) (or_else next (first_of b (i + 1) (e - (i + 1)))) ≡ r
-    both-on {next} g = by (a i) (sym ey ∙ g) both-next
+    pub both_on : {next : FilePass} → y ≡ Kept next → or_else (first_among a (i + 1) (e - (i + 1))) (or_else next (first_among b (i + 1) (e - (i + 1)))) ≡ r
+    both_on {next} g = by (a i) (sym ey ∙ g) both_next
       where
-        by : (x : FilePass) → turn_of x (or_else kept (b i)) ≡ Kept next → or_else (or_else x rest-a) (or_else (or_else kept (b i)) rest-b) ≡ r → or_else rest-a (or_else next rest-b) ≡ r
+        by : (x : FilePass) → turn_of x (or_else kept (b i)) ≡ Kept next → or_else (or_else x rest_a) (or_else (or_else kept (b i)) rest_b) ≡ r → or_else rest_a (or_else next rest_b) ≡ r
         by Good t n =
             let q : or_else kept (b i) ≡ next = cc in
             rw q at n
         by (Refused m l) t n = let z : ◌≡◌ {A = ℕ} 0 1 = cc in absurd (omega arith)
 
-    pub both-here : {m : Fault} {l : FileLine} → y ≡ RefusedTurn m l → Refused m l ≡ r
-    both-here {m} {l} g = by (a i) (sym ey ∙ g) both-next
+    pub both_here : {m : Fault} {l : FileLine} → y ≡ RefusedTurn m l → Refused m l ≡ r
+    both_here {m} {l} g = by (a i) (sym ey ∙ g) both_next
       where
-        by : (x : FilePass) → turn_of x (or_else kept (b i)) ≡ RefusedTurn m l → or_else (or_else x rest-a) (or_else (or_else kept (b i)) rest-b) ≡ r → Refused m l ≡ r
+        by : (x : FilePass) → turn_of x (or_else kept (b i)) ≡ RefusedTurn m l → or_else (or_else x rest_a) (or_else (or_else kept (b i)) rest_b) ≡ r → Refused m l ≡ r
         by Good t n = let z : ◌≡◌ {A = ℕ} 0 1 = cc in absurd (omega arith)
         by (Refused m' l') t n =
             let em : m ≡ m' = cc in
@@ -99,62 +99,62 @@ module _ (a b : ℕ → FilePass) (i e : ℕ) (kept r : FilePass) (inv : or_else
             rw (em, el) n
 
   pub both_end : e ≤ i → kept ≡ r
-  unfolding first_of
+  unfolding first_among
   both_end h =
       let z : e - i ≡ 0 = omega arith in
-      sym (or-good kept) ∙ (rw z at inv)
+      sym (or_good kept) ∙ (rw z at inv)
 
 -- where all passes, each does
-pub each-good : (check : ℕ → FilePass) (n i j : ℕ) → first_of check i n ≡ Good → i ≤ j → j < i + n → check j ≡ Good
-unfolding first_of
-each-good check zero i j h lo hi = absurd (omega arith)
-each-good check (suc n) i j h lo hi = by (check i) refl h (each-good check n (i + 1) j)
+pub each_good : (check : ℕ → FilePass) (n i j : ℕ) → first_among check i n ≡ Good → i ≤ j → j < i + n → check j ≡ Good
+unfolding first_among
+each_good check zero i j h lo hi = absurd (omega arith)
+each_good check (suc n) i j h lo hi = by (check i) refl h (each_good check n (i + 1) j)
   where
-    by : (x : FilePass) → check i ≡ x → or_else x (first_of check (i + 1) n) ≡ Good → (first_of check (i + 1) n ≡ Good → i + 1 ≤ j → j < i + 1 + n → check j ≡ Good) → check j ≡ Good
+    by : (x : FilePass) → check i ≡ x → or_else x (first_among check (i + 1) n) ≡ Good → (first_among check (i + 1) n ≡ Good → i + 1 ≤ j → j < i + 1 + n → check j ≡ Good) → check j ≡ Good
     by Good e k ih = elim (ℕ_discrete j i) [ yes x ↦ rw x e | no x ↦ ih k (omega arith) (omega arith) ]
     by (Refused m l) e k ih = let z : ◌≡◌ {A = ℕ} 0 1 = cc in absurd (omega arith)
 
 -- ---- entries two lines apart
 
 module _ {A B : Type 0} (f : ℕ → A → Outcome B) (at : ℕ → A) (p : ℕ) where
-  after_one : {y : FilePass} (o : Outcome B) (xs : Outcome (List B)) → passOf xs ≡ y → passOf (o then λ z. xs then λ zs. accepted (z ∷ zs)) ≡ or_else (passOf o) y
+  after_one : {y : FilePass} (o : Outcome B) (xs : Outcome (List B)) → pass_of xs ≡ y → pass_of (o then λ z. xs then λ zs. accepted (z ∷ zs)) ≡ or_else (pass_of o) y
   after_one (accepted b) (accepted bs) e = e
   after_one (accepted b) (refused n q) e = e
   after_one (refused n q) xs e = refl
 
-  pub row-walk : (n i q : ℕ) → q ≡ p + 2 * i → passOf (eachAt two f q (map at (up_from i n))) ≡ first_of (λ j. passOf (f (p + 2 * j) (at j))) i n
-  unfolding eachAt up_from first_of
-  row-walk zero i q e = refl
-  row-walk (suc n) i q e =
-      rw e (after_one (f (p + 2 * i) (at i)) (eachAt two f (p + 2 * i + 2) (map at (up_from (i + 1) n))) (row-walk n (i + 1) (p + 2 * i + 2) (omega arith)))
+  pub row_walk : (n i q : ℕ) → q ≡ p + 2 * i → pass_of (each_at two f q (map at (up_from i n))) ≡ first_among (λ j. pass_of (f (p + 2 * j) (at j))) i n
+  unfolding each_at up_from first_among
+  row_walk zero i q e = refl
+  row_walk (suc n) i q e =
+      rw e (after_one (f (p + 2 * i) (at i)) (each_at two f (p + 2 * i + 2) (map at (up_from (i + 1) n))) (row_walk n (i + 1) (p + 2 * i + 2) (omega arith)))
 
-pub entries-walk : (f : List ℕ) (c : Counts) → passOf (entriesIn f c) ≡ first_of (entryCheck f c) 0 (entries c)
-unfolding entriesIn entryCheck
-entries-walk f c = row-walk (entryIn f) (entryLine c) (firstEntry c) (entries c) 0 (firstEntry c) (omega arith)
+pub entries_walk : (f : List ℕ) (c : Counts) → pass_of (entries_in f c) ≡ first_among (entry_check f c) 0 (entries c)
+unfolding entries_in entry_check
+entries_walk f c = row_walk (entry_in f) (entry_line c) (first_entry c) (entries c) 0 (first_entry c) (omega arith)
 
 -- ---- one entry
 
-module _ (f : List ℕ) (c : Counts) (i k : ℕ) (r : EntryRead) (ek : k ≡ entryLine c i) (er : r ≡ entry_at f k) where
-  place : k + 1 ≡ firstEntry c + 2 * i
+module _ (f : List ℕ) (c : Counts) (i k : ℕ) (r : EntryRead) (ek : k ≡ entry_line c i) (er : r ≡ entry_at f k) where
+  place : k + 1 ≡ first_entry c + 2 * i
   place = omega arith
 
-  one : entryCheck f c i ≡ passOf (byEntry (label_at f k) (k + 1) r)
-  unfolding entryCheck entryIn
+  one : entry_check f c i ≡ pass_of (by_entry (label_at f k) (k + 1) r)
+  unfolding entry_check entry_in
   one = rw (place, er, ek)
 
-  pub turn-wrong : (kept : FilePass) → r ≡ Wrong → RefusedTurn Directory (fileLine (k + 1)) ≡ turn_of (entryCheck f c i) kept
-  turn-wrong kept e = sym (ap (λ (p : FilePass). turn_of p kept) one ∙ rw e)
+  pub turn_wrong : (kept : FilePass) → r ≡ Wrong → RefusedTurn Directory (file_line (k + 1)) ≡ turn_of (entry_check f c i) kept
+  turn_wrong kept e = sym (ap (λ (p : FilePass). turn_of p kept) one ∙ rw e)
 
-  module _ (x : Fields) (from : ParameterLine) (count : ℕ) (e : r ≡ Spelt x from count) (rule : Rule) (eq : rule ≡ ruleOf x) where
-    ruled : entryCheck f c i ≡ passOf (outcomeOf rule (k + 1))
-    ruled = one ∙ rw (e, ← rule-outcome x (k + 1), ← eq) (by rule)
+  module _ (x : Fields) (from : ParameterLine) (count : ℕ) (e : r ≡ Spelt x from count) (rule : Rule) (eq : rule ≡ rule_of x) where
+    ruled : entry_check f c i ≡ pass_of (outcome_of rule (k + 1))
+    ruled = one ∙ rw (e, ← rule_outcome x (k + 1), ← eq) (by rule)
       where
-        by : (q : Rule) → passOf {A = Listed} (outcomeOf q (k + 1) then λ _. accepted (record { fields = x; label = label_at f k; pointer = from.0; lines = count })) ≡ passOf (outcomeOf q (k + 1))
+        by : (q : Rule) → pass_of {A = Listed} (outcome_of q (k + 1) then λ _. accepted (record { fields = x; label = label_at f k; pointer = from.0; lines = count })) ≡ pass_of (outcome_of q (k + 1))
         by GoodRule = refl
         by (RefusedRule n) = refl
 
-    pub turn-good : (kept : FilePass) → rule ≡ GoodRule → Kept kept ≡ turn_of (entryCheck f c i) kept
-    turn-good kept g = sym (ap (λ (p : FilePass). turn_of p kept) ruled ∙ rw g)
+    pub turn_good : (kept : FilePass) → rule ≡ GoodRule → Kept kept ≡ turn_of (entry_check f c i) kept
+    turn_good kept g = sym (ap (λ (p : FilePass). turn_of p kept) ruled ∙ rw g)
 
-    pub turn-refused : (kept : FilePass) (n : Fault) → rule ≡ RefusedRule n → RefusedTurn n (fileLine (k + 1)) ≡ turn_of (entryCheck f c i) kept
-    turn-refused kept n g = sym (ap (λ (p : FilePass). turn_of p kept) ruled ∙ rw g)
+    pub turn_refused : (kept : FilePass) (n : Fault) → rule ≡ RefusedRule n → RefusedTurn n (file_line (k + 1)) ≡ turn_of (entry_check f c i) kept
+    turn_refused kept n g = sym (ap (λ (p : FilePass). turn_of p kept) ruled ∙ rw g)

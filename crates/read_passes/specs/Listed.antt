@@ -2,12 +2,12 @@
 use Rattle.std.specs.Prelude.{List, [], map, ℕ}
 use Rattle.columns.specs.First.{up_from}
 use Rattle.cards.specs.declared.Counts.{Counts}
-use Rattle.cards.specs.Cards.{entryLine, entries}
+use Rattle.cards.specs.Cards.{entry_line, entries}
 use Rattle.directory.specs.declared.EntryRead.{EntryRead}
 use Rattle.directory.specs.declared.EntryRead.TheVariants.{Spelt, Wrong}
 use Rattle.directory.specs.Fields.{fields_of}
 use Rattle.directory.specs.Lines.{entry_at, label_at}
-use Rattle.model.specs.Read.{Listed, listedType}
+use Rattle.model.specs.Read.{Listed, listed_type}
 
 -- an entry that is spelt (a wrong one stands for nothing)
 abbrev pub listed_of : List ℕ → EntryRead → Listed
@@ -20,15 +20,15 @@ listed_at f k = listed_of (label_at f k) (entry_at f k)
 
 -- entry i
 abbrev pub entry_of : List ℕ → Counts → ℕ → Listed
-entry_of f c i = listed_at f (entryLine c i)
+entry_of f c i = listed_at f (entry_line c i)
 
 -- the entries from i on, n of them
-abbrev pub entriesFrom : List ℕ → Counts → ℕ → ℕ → List Listed
-entriesFrom f c i n = map (entry_of f c) (up_from i n)
+abbrev pub entries_from : List ℕ → Counts → ℕ → ℕ → List Listed
+entries_from f c i n = map (entry_of f c) (up_from i n)
 
 -- all of them, and their types
-abbrev pub allEntries : List ℕ → Counts → List Listed
-allEntries f c = entriesFrom f c 0 (entries c)
+abbrev pub all_entries : List ℕ → Counts → List Listed
+all_entries f c = entries_from f c 0 (entries c)
 
-abbrev pub allTypes : List ℕ → Counts → List ℕ
-allTypes f c = map listedType (allEntries f c)
+abbrev pub all_types : List ℕ → Counts → List ℕ
+all_types f c = map listed_type (all_entries f c)

@@ -1,28 +1,28 @@
 -- The code's form: the passes as the code walks them: the first refusal of a row of checks, and Global's fields by their positions.
 use Rattle.std.specs.Prelude.{Bool, List, ℕ, zero, suc, ◌+◌, ◌*◌, eqb}
 use Rattle.columns.specs.declared.Fault.TheVariants.{Global}
-use Rattle.columns.specs.First.{firstNot}
+use Rattle.columns.specs.First.{first_not}
 use Rattle.columns.specs.Refusal.{Outcome, accepted, demand, ◌then◌}
-use Rattle.columns.specs.Format.{textColumns}
+use Rattle.columns.specs.Format.{text_columns}
 use Rattle.cards.specs.declared.Counts.{Counts}
-use Rattle.cards.specs.Cards.{firstD, entries, entryLine}
-use Rattle.directory.specs.Rules.{referenceRule}
+use Rattle.cards.specs.Cards.{first_d, entries, entry_line}
+use Rattle.directory.specs.Rules.{reference_rule}
 use Rattle.directory.specs.Naming.{types_at}
 use Rattle.values.specs.declared.Value.{Value}
 use Rattle.values.specs.declared.Value.TheVariants.{Default}
 use Rattle.values.specs.Value.{seen}
 use Rattle.records.specs.declared.Got.{Got}
 use Rattle.records.specs.declared.Got.TheVariants.{Found, Refused as GotRefused}
-use Rattle.records.specs.Record.{value_at, valuesAt, position_of, start_at}
-use Rattle.records.specs.Items.{gotItem}
-use Rattle.records.specs.Global.{firstField, globalFits}
-use Rattle.owners.specs.InFile.{ownersIn, outcome as ownershipOutcome}
-use Rattle.model.specs.Read.{GlobalRead, Before, entryIn, firstEntry, globalLine, byValues, globalIn, entriesIn, referencesIn}
+use Rattle.records.specs.Record.{value_at, values_at, position_of, start_at}
+use Rattle.records.specs.Items.{got_item}
+use Rattle.records.specs.Global.{first_field, global_fits}
+use Rattle.owners.specs.InFile.{owners_in, outcome as ownershipOutcome}
+use Rattle.model.specs.Read.{GlobalRead, Before, entry_in, first_entry, global_line, by_values, global_in, entries_in, references_in}
 use Rattle.read_passes.specs.declared.FilePass.{FilePass}
 use Rattle.read_passes.specs.declared.FilePass.TheVariants.{Good, Refused}
 use Rattle.read_passes.specs.declared.Turn.{Turn}
 use Rattle.read_passes.specs.declared.Turn.TheVariants.{Kept, Refused as RefusedTurn}
-use Rattle.read_passes.specs.Passes.{passOf}
+use Rattle.read_passes.specs.Passes.{pass_of}
 use Rattle.read_passes.specs.Listed.{entry_of}
 
 -- the first refusal of two checks
@@ -31,17 +31,17 @@ or_else Good q = q
 or_else (Refused n l) q = Refused n l
 
 -- the first refusal of the checks from i on, n of them
-unfoldable pub first_of : (ℕ → FilePass) → ℕ → ℕ → FilePass
-first_of check i zero = Good
-first_of check i (suc n) = or_else (check i) (first_of check (i + 1) n)
+unfoldable pub first_among : (ℕ → FilePass) → ℕ → ℕ → FilePass
+first_among check i zero = Good
+first_among check i (suc n) = or_else (check i) (first_among check (i + 1) n)
 
 -- rules 9 and 13 of entry i
-unfoldable pub entryCheck : List ℕ → Counts → ℕ → FilePass
-entryCheck f c i = passOf (entryIn f (firstEntry c + 2 * i) (entryLine c i))
+unfoldable pub entry_check : List ℕ → Counts → ℕ → FilePass
+entry_check f c i = pass_of (entry_in f (first_entry c + 2 * i) (entry_line c i))
 
 -- rule 10 of entry i, by the types that stand on the D lines: they are those of the entries, if all pass
-unfoldable pub referenceCheck : List ℕ → Counts → ℕ → FilePass
-referenceCheck f c i = passOf (referenceRule (types_at f (firstD c) (entries c)) (entry_of f c i).fields (firstEntry c + 2 * i))
+unfoldable pub reference_check : List ℕ → Counts → ℕ → FilePass
+reference_check f c i = pass_of (reference_rule (types_at f (first_d c) (entries c)) (entry_of f c i).fields (first_entry c + 2 * i))
 
 -- an entry passes 9 and 13, with what is kept of 10; or it is refused
 abbrev pub turn_of : FilePass → FilePass → Turn
@@ -49,36 +49,36 @@ turn_of Good kept = Kept kept
 turn_of (Refused n l) kept = RefusedTurn n l
 
 -- the value that was read; a refused one stands for nothing
-abbrev pub gotValue : Got → Value
-gotValue (Found v s next last) = v
-gotValue (GotRefused n s at) = Default
+abbrev pub got_value : Got → Value
+got_value (Found v s next last) = v
+got_value (GotRefused n s at) = Default
 
 -- whether value k of Global's text, read from a position on, may stand in its field
-unfoldable pub valueFits : ℕ → ℕ → List ℕ → ℕ → ℕ → Bool
-valueFits p d t from k = globalFits (firstField + k) (seen (gotItem t (value_at textColumns p d t (position_of textColumns p d t from k))))
+unfoldable pub value_fits : ℕ → ℕ → List ℕ → ℕ → ℕ → Bool
+value_fits p d t from k = global_fits (first_field + k) (seen (got_item t (value_at text_columns p d t (position_of text_columns p d t from k))))
 
 -- rule 8 of the first n values
-unfoldable pub fieldsFit : Counts → ℕ → ℕ → List ℕ → ℕ → ℕ → Outcome (Unit {0})
-fieldsFit c p d t from n =
-    let k = firstNot (valueFits p d t from) 0 n in demand (eqb k n) Global (globalLine c (start_at textColumns p d t from k))
+unfoldable pub fields_fit : Counts → ℕ → ℕ → List ℕ → ℕ → ℕ → Outcome (Unit {0})
+fields_fit c p d t from n =
+    let k = first_not (value_fits p d t from) 0 n in demand (eqb k n) Global (global_line c (start_at text_columns p d t from k))
 
 -- the record behind the opening
-unfoldable pub valuesOutcome : Counts → List ℕ → ℕ → ℕ → ℕ → Outcome GlobalRead
-valuesOutcome c t p d from = byValues c t p d from (valuesAt textColumns p d t from)
+unfoldable pub values_outcome : Counts → List ℕ → ℕ → ℕ → ℕ → Outcome GlobalRead
+values_outcome c t p d from = by_values c t p d from (values_at text_columns p d t from)
 
 -- each entry 9, 13; all 10
-unfoldable pub entriesOutcome : List ℕ → Counts → Outcome (List (Unit {0}))
-entriesOutcome f c = entriesIn f c then λ es. referencesIn c es
+unfoldable pub entries_outcome : List ℕ → Counts → Outcome (List (Unit {0}))
+entries_outcome f c = entries_in f c then λ es. references_in c es
 
 -- each entry 9, 13; all 10; then 11
-unfoldable pub directoryOutcome : List ℕ → Counts → Outcome (Unit {0})
-directoryOutcome f c = entriesOutcome f c then λ _. ownershipOutcome c (ownersIn f c)
+unfoldable pub directory_outcome : List ℕ → Counts → Outcome (Unit {0})
+directory_outcome f c = entries_outcome f c then λ _. ownershipOutcome c (owners_in f c)
 
 -- all that is asked behind the lines, given their counts
-unfoldable pub behindCards : List ℕ → Counts → Outcome Before
-behindCards f c =
-    globalIn f c
-    then λ g. entriesIn f c
-    then λ es. referencesIn c es
-    then λ _. ownershipOutcome c (ownersIn f c)
+unfoldable pub behind_cards : List ℕ → Counts → Outcome Before
+behind_cards f c =
+    global_in f c
+    then λ g. entries_in f c
+    then λ es. references_in c es
+    then λ _. ownershipOutcome c (owners_in f c)
     then λ _. accepted (record { counts = c; global = g; listed = es })

@@ -2,13 +2,13 @@
 // The layout and the sheet see the values up to the last that is no default, so defaults are owed until a value is given behind them.
 ghost use Rattle.std.specs.Prelude.{◌≡◌, ◌+◌, ◌*◌, ◌^◌, ◌≤◌, ◌<◌, length, replicate};
 ghost use Rattle.columns.specs.Columns.{text_of};
-ghost use Rattle.columns.specs.Format.{lineBytes, parameterColumns};
+ghost use Rattle.columns.specs.Format.{line_bytes, parameter_columns};
 ghost use Rattle.values.specs.Value.{default};
-ghost use Rattle.records.specs.Record.{valuesAt};
+ghost use Rattle.records.specs.Record.{values_at};
 ghost use Rattle.records.specs.Written.{copied};
 ghost use Rattle.directory.specs.Naming.{types_at};
 ghost use Rattle.layouts.specs.Walk.{run};
-ghost use Rattle.read_entities.specs.Walking.{EntityStands, stateAfter, owedAfter, lengthAfter, walkedFrom, Light};
+ghost use Rattle.read_entities.specs.Walking.{EntityStands, state_after, owed_after, length_after, walked_from, Light};
 
 use columns::format::PARAMETER_COLUMNS;
 use layouts::Stepped;
@@ -25,7 +25,7 @@ const AROUND: usize = 3;
 
 // The layout behind so many defaults.
 fn behind_defaults(file: &[u8], first: usize, n: usize, g: Stepped, owed: usize) -> Stepped
-    requires { lineBytes * (first + 2 * n) ≤ length file.now }
+    requires { line_bytes * (first + 2 * n) ≤ length file.now }
     ensures { result ≡ run (types_at file.now first n) g (replicate owed default) }
 {
     let mut state = g;
@@ -40,8 +40,8 @@ fn behind_defaults(file: &[u8], first: usize, n: usize, g: Stepped, owed: usize)
 // The layout behind this value and the defaults owed before it; a default is owed. Most values are numbers where more of their kind follow:
 // they are answered here, for a state or a value that is passed on is copied through memory.
 fn state_after(file: &[u8], first: usize, n: usize, g: Stepped, owed: usize, v: Value) -> Stepped
-    requires { lineBytes * (first + 2 * n) ≤ length file.now }
-    ensures { result ≡ stateAfter (types_at file.now first n) g owed v }
+    requires { line_bytes * (first + 2 * n) ≤ length file.now }
+    ensures { result ≡ state_after (types_at file.now first n) g owed v }
 {
     if is_missing(v) {
         return g;
@@ -65,7 +65,7 @@ fn length_after(length: usize, owed: usize, v: Value) -> usize
     requires length_len_bound { length < 2 ^ 60 }
     requires owed_bound { owed < 2 ^ 60 }
     requires v_bound { copied v ≤ 999 }
-    ensures value { result ≡ lengthAfter length owed v }
+    ensures value { result ≡ length_after length owed v }
     ensures upper_bound { result ≤ length + 3 * owed + 1046 }
 {
     match v {
@@ -85,7 +85,7 @@ fn length_after(length: usize, owed: usize, v: Value) -> usize
 // How many defaults are owed behind it.
 fn owed_after(owed: usize, v: Value) -> usize
     requires { owed < 2 ^ 60 }
-    ensures { result ≡ owedAfter owed v }
+    ensures { result ≡ owed_after owed v }
 {
     if is_missing(v) {
         return owed + 1;
@@ -106,9 +106,9 @@ pub fn walk(
     n: usize,
 ) -> EntityWalked
     requires entity_stands { EntityStands file.now base lines c d first n }
-    requires from_bound { from ≤ lines * parameterColumns }
-    ensures value { result ≡ walkedFrom (types_at file.now first n) begun 0 0
-        (valuesAt parameterColumns c d (text_of file.now base parameterColumns lines) from) }
+    requires from_bound { from ≤ lines * parameter_columns }
+    ensures value { result ≡ walked_from (types_at file.now first n) begun 0 0
+        (values_at parameter_columns c d (text_of file.now base parameter_columns lines) from) }
     ensures light { Light (70400 * lines) result }
 {
     let mut q = from;

@@ -9,100 +9,100 @@ use Rattle.columns.specs.declared.Fault.{Fault}
 use Rattle.columns.specs.declared.Fault.TheVariants.{ListOrLength}
 use Rattle.columns.specs.declared.FileLine.{FileLine}
 use Rattle.columns.specs.Refusal.{Outcome, accepted, refused, ◌then◌}
-use Rattle.columns.specs.Format.{mostList}
+use Rattle.columns.specs.Format.{most_list}
 use Rattle.cards.specs.declared.Counts.{Counts}
-use Rattle.cards.specs.Shared.{fileLine}
+use Rattle.cards.specs.Shared.{file_line}
 use Rattle.model.specs.Model.{Carried, Model}
-use Rattle.model.specs.Read.{Before, before, lastPass, modelWith, readModel}
+use Rattle.model.specs.Read.{Before, before, last_pass, model_with, read_model}
 use Rattle.read_passes.specs.declared.FilePass.{FilePass}
 use Rattle.read_passes.specs.declared.FilePass.TheVariants.{Good as GoodPass, Refused as RefusedPass}
 use Rattle.read_passes.specs.declared.BeforeAnswer.{BeforeAnswer}
 use Rattle.read_passes.specs.declared.BeforeAnswer.TheVariants.{Good as GoodBefore, Refused as RefusedBefore}
-use Rattle.read_passes.specs.Passes.{passOf, beforeAnswer}
-use Rattle.read_passes.specs.Listed.{allEntries}
-use Rattle.read_passes.proofs.Facts.{passed-all}
+use Rattle.read_passes.specs.Passes.{pass_of, before_answer}
+use Rattle.read_passes.specs.Listed.{all_entries}
+use Rattle.read_passes.proofs.Facts.{passed_all}
 use Rattle.read_passes.proofs.After.{Answered, answered}
 use Rattle.read_weights.specs.declared.Checked.TheVariants.{Good, Refused}
-use Rattle.read_weights.specs.Checks.{delimited, checkedOf, checkOf}
-use Rattle.read_weights.proofs.Last.{last-any}
+use Rattle.read_weights.specs.Checks.{delimited, checked_of, check_of}
+use Rattle.read_weights.proofs.Last.{last_any}
 
 -- ---- reading, step by step
 
 module _ (list : ℕ) (f : List ℕ) where
-  pub refuses : (n : Fault) (l : ℕ) → readModel list f ≡ refused n l → checkOf list f ≡ Refused n (fileLine l)
-  unfolding checkOf
-  refuses n l e = ap (λ (o : Outcome Model). checkedOf (o then λ _. before f)) e
+  pub refuses : (n : Fault) (l : ℕ) → read_model list f ≡ refused n l → check_of list f ≡ Refused n (file_line l)
+  unfolding check_of
+  refuses n l e = ap (λ (o : Outcome Model). checked_of (o then λ _. before f)) e
 
-  pub accepts : (m : Model) (b : Before) → readModel list f ≡ accepted m → before f ≡ accepted b → checkOf list f ≡ Good b.counts b.global.parameter b.global.record-end
-  unfolding checkOf
-  accepts m b e eb = ap (λ (o : Outcome Model). checkedOf (o then λ _. before f)) e ∙ ap checkedOf eb
+  pub accepts : (m : Model) (b : Before) → read_model list f ≡ accepted m → before f ≡ accepted b → check_of list f ≡ Good b.counts b.global.parameter b.global.record_end
+  unfolding check_of
+  accepts m b e eb = ap (λ (o : Outcome Model). checked_of (o then λ _. before f)) e ∙ ap checked_of eb
 
-  pub list-refuses : leb list mostList ≡ false → readModel list f ≡ refused ListOrLength 0
-  unfolding readModel
-  list-refuses h = rw h
+  pub list_refuses : leb list most_list ≡ false → read_model list f ≡ refused ListOrLength 0
+  unfolding read_model
+  list_refuses h = rw h
 
-  module _ (h : leb list mostList ≡ true) where
-    pub before-refuses : (n : Fault) (l : ℕ) → before f ≡ refused n l → readModel list f ≡ refused n l
-    unfolding readModel
-    before-refuses n l e = rw (h, e)
+  module _ (h : leb list most_list ≡ true) where
+    pub before_refuses : (n : Fault) (l : ℕ) → before f ≡ refused n l → read_model list f ≡ refused n l
+    unfolding read_model
+    before_refuses n l e = rw (h, e)
 
-    pub read-last : (b : Before) → before f ≡ accepted b
-        → readModel list f ≡ lastPass list f b.counts b.global b.listed then λ es. accepted (modelWith f b.counts b.global es)
-    unfolding readModel
-    read-last b e = rw (h, e)
+    pub read_last : (b : Before) → before f ≡ accepted b
+        → read_model list f ≡ last_pass list f b.counts b.global b.listed then λ es. accepted (model_with f b.counts b.global es)
+    unfolding read_model
+    read_last b e = rw (h, e)
 
 -- the last pass by counts and delimiters alone
-pub last-same : (list : ℕ) (f : List ℕ) (b : Before) (c : Counts) (p d : ℕ) → b.counts ≡ c → b.global.parameter ≡ p → b.global.record-end ≡ d → b.listed ≡ allEntries f b.counts
-    → lastPass list f b.counts b.global b.listed ≡ lastPass list f c (delimited p d) (allEntries f c)
-last-same list f b c p d ec ep ed el =
-    ap (lastPass list f b.counts b.global) el ∙ ap (λ (k : Counts). lastPass list f k b.global (allEntries f k)) ec ∙ last-any list f c p d b.global (allEntries f c) ep ed
+pub last_same : (list : ℕ) (f : List ℕ) (b : Before) (c : Counts) (p d : ℕ) → b.counts ≡ c → b.global.parameter ≡ p → b.global.record_end ≡ d → b.listed ≡ all_entries f b.counts
+    → last_pass list f b.counts b.global b.listed ≡ last_pass list f c (delimited p d) (all_entries f c)
+last_same list f b c p d ec ep ed el =
+    ap (last_pass list f b.counts b.global) el ∙ ap (λ (k : Counts). last_pass list f k b.global (all_entries f k)) ec ∙ last_any list f c p d b.global (all_entries f c) ep ed
 
-good-same : (list : ℕ) (f : List ℕ) (b : Before) (c : Counts) (p d : ℕ) → b.counts ≡ c → b.global.parameter ≡ p → b.global.record-end ≡ d
-    → checkOf list f ≡ Good b.counts b.global.parameter b.global.record-end → Good c p d ≡ checkOf list f
-good-same list f b c p d ec ep ed h = rw (← ec, ← ep, ← ed) (sym h)
+good_same : (list : ℕ) (f : List ℕ) (b : Before) (c : Counts) (p d : ℕ) → b.counts ≡ c → b.global.parameter ≡ p → b.global.record_end ≡ d
+    → check_of list f ≡ Good b.counts b.global.parameter b.global.record_end → Good c p d ≡ check_of list f
+good_same list f b c p d ec ep ed h = rw (← ec, ← ep, ← ed) (sym h)
 
 -- ---- the answer
 
-module _ (list : ℕ) (f : List ℕ) (b : Bool) (eb : b ≡ leb list mostList) where
-  pub check-list : b ≡ false → Refused ListOrLength (fileLine 0) ≡ checkOf list f
-  check-list e = sym (refuses list f ListOrLength 0 (list-refuses list f (sym eb ∙ e)))
+module _ (list : ℕ) (f : List ℕ) (b : Bool) (eb : b ≡ leb list most_list) where
+  pub check_list : b ≡ false → Refused ListOrLength (file_line 0) ≡ check_of list f
+  check_list e = sym (refuses list f ListOrLength 0 (list_refuses list f (sym eb ∙ e)))
 
-  module _ (e : b ≡ true) (t : BeforeAnswer) (et : t ≡ beforeAnswer (before f)) where
-    pub check-before : (n : Fault) (l : FileLine) → t ≡ RefusedBefore n l → Refused n l ≡ checkOf list f
-    check-before n l g = by (before f) refl (sym et ∙ g)
+  module _ (e : b ≡ true) (t : BeforeAnswer) (et : t ≡ before_answer (before f)) where
+    pub check_before : (n : Fault) (l : FileLine) → t ≡ RefusedBefore n l → Refused n l ≡ check_of list f
+    check_before n l g = by (before f) refl (sym et ∙ g)
       where
-        by : (o : Outcome Before) → before f ≡ o → beforeAnswer o ≡ RefusedBefore n l → Refused n l ≡ checkOf list f
+        by : (o : Outcome Before) → before f ≡ o → before_answer o ≡ RefusedBefore n l → Refused n l ≡ check_of list f
         by (accepted w) eo k = let z : ◌≡◌ {A = ℕ} 0 1 = cc in absurd (omega arith)
         by (refused m q) eo k =
             let en : m ≡ n = cc in
-            let el : fileLine q ≡ l = cc in
-            rw (← en, ← el) (sym (refuses list f m q (before-refuses list f (sym eb ∙ e) m q eo)))
+            let el : file_line q ≡ l = cc in
+            rw (← en, ← el) (sym (refuses list f m q (before_refuses list f (sym eb ∙ e) m q eo)))
 
-    module _ (c : Counts) (p d : ℕ) (g : t ≡ GoodBefore c p d) (y : FilePass) (ey : y ≡ passOf (lastPass list f c (delimited p d) (allEntries f c))) where
+    module _ (c : Counts) (p d : ℕ) (g : t ≡ GoodBefore c p d) (y : FilePass) (ey : y ≡ pass_of (last_pass list f c (delimited p d) (all_entries f c))) where
       a : Answered f c p d
       a = answered f t et c p d g
 
-      same : lastPass list f a.whole.counts a.whole.global a.whole.listed ≡ lastPass list f c (delimited p d) (allEntries f c)
-      same = last-same list f a.whole c p d a.counts a.parameter a.closing (passed-all f a.whole a.is).listed
+      same : last_pass list f a.whole.counts a.whole.global a.whole.listed ≡ last_pass list f c (delimited p d) (all_entries f c)
+      same = last_same list f a.whole c p d a.counts a.parameter a.closing (passed_all f a.whole a.is).listed
 
-      read : readModel list f ≡ lastPass list f c (delimited p d) (allEntries f c) then λ es. accepted (modelWith f a.whole.counts a.whole.global es)
-      read = read-last list f (sym eb ∙ e) a.whole a.is ∙ ap (λ (o : Outcome (List Carried)). o then λ es. accepted (modelWith f a.whole.counts a.whole.global es)) same
+      read : read_model list f ≡ last_pass list f c (delimited p d) (all_entries f c) then λ es. accepted (model_with f a.whole.counts a.whole.global es)
+      read = read_last list f (sym eb ∙ e) a.whole a.is ∙ ap (λ (o : Outcome (List Carried)). o then λ es. accepted (model_with f a.whole.counts a.whole.global es)) same
 
-      pub check-last : (n : Fault) (l : FileLine) → y ≡ RefusedPass n l → Refused n l ≡ checkOf list f
-      check-last n l k = by (lastPass list f c (delimited p d) (allEntries f c)) read (sym ey ∙ k)
+      pub check_last : (n : Fault) (l : FileLine) → y ≡ RefusedPass n l → Refused n l ≡ check_of list f
+      check_last n l k = by (last_pass list f c (delimited p d) (all_entries f c)) read (sym ey ∙ k)
         where
-          by : (o : Outcome (List Carried)) → readModel list f ≡ o then (λ es. accepted (modelWith f a.whole.counts a.whole.global es)) → passOf o ≡ RefusedPass n l → Refused n l ≡ checkOf list f
+          by : (o : Outcome (List Carried)) → read_model list f ≡ o then (λ es. accepted (model_with f a.whole.counts a.whole.global es)) → pass_of o ≡ RefusedPass n l → Refused n l ≡ check_of list f
           by (accepted es) eo j = let z : ◌≡◌ {A = ℕ} 0 1 = cc in absurd (omega arith)
           by (refused m q) eo j =
               let en : m ≡ n = cc in
-              let el : fileLine q ≡ l = cc in
+              let el : file_line q ≡ l = cc in
               rw (← en, ← el) (sym (refuses list f m q eo))
 
-      pub check-good : y ≡ GoodPass → Good c p d ≡ checkOf list f
-      check-good k = by (lastPass list f c (delimited p d) (allEntries f c)) read (sym ey ∙ k)
+      pub check_good : y ≡ GoodPass → Good c p d ≡ check_of list f
+      check_good k = by (last_pass list f c (delimited p d) (all_entries f c)) read (sym ey ∙ k)
         where
-          by : (o : Outcome (List Carried)) → readModel list f ≡ o then (λ es. accepted (modelWith f a.whole.counts a.whole.global es)) → passOf o ≡ GoodPass → Good c p d ≡ checkOf list f
+          by : (o : Outcome (List Carried)) → read_model list f ≡ o then (λ es. accepted (model_with f a.whole.counts a.whole.global es)) → pass_of o ≡ GoodPass → Good c p d ≡ check_of list f
           by (accepted es) eo j =
-              good-same list f a.whole c p d a.counts a.parameter a.closing
-              (accepts list f (modelWith f a.whole.counts a.whole.global es) a.whole eo a.is)
+              good_same list f a.whole c p d a.counts a.parameter a.closing
+              (accepts list f (model_with f a.whole.counts a.whole.global es) a.whole eo a.is)
           by (refused m q) eo j = let z : ◌≡◌ {A = ℕ} 0 1 = cc in absurd (omega arith)

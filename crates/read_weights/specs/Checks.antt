@@ -2,45 +2,45 @@
 use Rattle.std.specs.Prelude.{List, [], ℕ, ◌+◌, ◌*◌}
 use Rattle.columns.specs.Columns.{text_of}
 use Rattle.columns.specs.Refusal.{Outcome, accepted, refused, ◌then◌}
-use Rattle.columns.specs.Format.{lineBytes, parameterColumns}
+use Rattle.columns.specs.Format.{line_bytes, parameter_columns}
 use Rattle.cards.specs.declared.Counts.{Counts}
-use Rattle.cards.specs.Cards.{parameterLine}
-use Rattle.cards.specs.Shared.{fileLine}
-use Rattle.records.specs.Record.{valuesAt}
+use Rattle.cards.specs.Cards.{parameter_line}
+use Rattle.cards.specs.Shared.{file_line}
+use Rattle.records.specs.Record.{values_at}
 use Rattle.model.specs.Model.{Carried}
-use Rattle.model.specs.Read.{GlobalRead, globalRead, Listed, Before, firstEntry, parametersOf, carried, entityIn, before, readModel}
+use Rattle.model.specs.Read.{GlobalRead, global_read, Listed, Before, first_entry, parameters_of, carried, entity_in, before, read_model}
 use Rattle.read_passes.specs.declared.FilePass.{FilePass}
-use Rattle.read_passes.specs.Passes.{passOf}
-use Rattle.read_passes.specs.Listed.{entry_of, allTypes}
+use Rattle.read_passes.specs.Passes.{pass_of}
+use Rattle.read_passes.specs.Listed.{entry_of, all_types}
 use Rattle.read_entities.specs.declared.EntityAnswer.{EntityAnswer}
-use Rattle.read_entities.specs.Answers.{entityPassOf}
-use Rattle.read_entities.specs.Marks.{carriedIn}
+use Rattle.read_entities.specs.Answers.{entity_pass_of}
+use Rattle.read_entities.specs.Marks.{carried_in}
 use Rattle.read_weights.specs.declared.Checked.{Checked}
 use Rattle.read_weights.specs.declared.Checked.TheVariants.{Good, Refused}
 
 -- G as the last pass sees it: its two delimiters; its fields have no say
 abbrev pub delimited : ℕ → ℕ → GlobalRead
-delimited p d = globalRead p d []
+delimited p d = global_read p d []
 
 -- what is said of the entity of this type and form whose record stands in so many P lines from P line `from` on
-unfoldable pub recordAnswer : ℕ → List ℕ → Counts → ℕ → ℕ → ℕ → ℕ → ℕ → ℕ → EntityAnswer
-recordAnswer list f c p d typ form from lines =
-    entityPassOf list (allTypes f c) typ form
-    (valuesAt parameterColumns p d (text_of f (lineBytes * parameterLine c from) parameterColumns lines) 0)
+unfoldable pub record_answer : ℕ → List ℕ → Counts → ℕ → ℕ → ℕ → ℕ → ℕ → ℕ → EntityAnswer
+record_answer list f c p d typ form from lines =
+    entity_pass_of list (all_types f c) typ form
+    (values_at parameter_columns p d (text_of f (line_bytes * parameter_line c from) parameter_columns lines) 0)
 
 -- the last pass at entity i
-unfoldable pub entityAt : ℕ → List ℕ → Counts → ℕ → ℕ → ℕ → FilePass
-entityAt list f c p d i = passOf (entityIn list f c (delimited p d) (allTypes f c) (firstEntry c + 2 * i) (entry_of f c i))
+unfoldable pub entity_at : ℕ → List ℕ → Counts → ℕ → ℕ → ℕ → FilePass
+entity_at list f c p d i = pass_of (entity_in list f c (delimited p d) (all_types f c) (first_entry c + 2 * i) (entry_of f c i))
 
 -- what an entry carries: the values that stand in its record
 abbrev pub carried_of : List ℕ → Counts → ℕ → ℕ → Listed → Carried
-carried_of f c p d e = carried e (carriedIn (valuesAt parameterColumns p d (parametersOf f c e) 0))
+carried_of f c p d e = carried e (carried_in (values_at parameter_columns p d (parameters_of f c e) 0))
 
 -- counts and delimiters, or the first refusal
-abbrev pub checkedOf : Outcome Before → Checked
-checkedOf (accepted b) = Good b.counts b.global.parameter b.global.record-end
-checkedOf (refused n p) = Refused n (fileLine p)
+abbrev pub checked_of : Outcome Before → Checked
+checked_of (accepted b) = Good b.counts b.global.parameter b.global.record_end
+checked_of (refused n p) = Refused n (file_line p)
 
 -- all checks: the refusal of reading under this list, or what was told before the last pass
-unfoldable pub checkOf : ℕ → List ℕ → Checked
-checkOf list f = checkedOf (readModel list f then λ _. before f)
+unfoldable pub check_of : ℕ → List ℕ → Checked
+check_of list f = checked_of (read_model list f then λ _. before f)

@@ -2,13 +2,13 @@
 use Rattle.std.specs.Prelude.{ℕ, ◌+◌, ◌*◌, ◌≤◌, false, List, [], ◌∷◌, ◌++◌, length}
 use Rattle.columns.specs.declared.FileLine.{FileLine}
 use Rattle.columns.specs.Columns.{text_of}
-use Rattle.columns.specs.Format.{lineBytes, parameterColumns}
+use Rattle.columns.specs.Format.{line_bytes, parameter_columns}
 use Rattle.columns.specs.Letters.{newline}
 use Rattle.cards.specs.declared.Counts.{Counts}
-use Rattle.cards.specs.Cards.{firstD, firstP, entries, parameterLine}
-use Rattle.cards.specs.Shared.{fileLine}
+use Rattle.cards.specs.Cards.{first_d, first_p, entries, parameter_line}
+use Rattle.cards.specs.Shared.{file_line}
 use Rattle.values.specs.Value.{Item}
-use Rattle.records.specs.Record.{valuesAt}
+use Rattle.records.specs.Record.{values_at}
 use Rattle.directory.specs.declared.Fields.{Fields}
 use Rattle.directory.specs.Lines.{label_at}
 use Rattle.layouts.specs.Known.{known}
@@ -18,47 +18,47 @@ use Rattle.read_passes.specs.declared.FilePass.{FilePass}
 use Rattle.read_passes.specs.declared.FilePass.TheVariants.{Good as GoodPass, Refused as RefusedPass}
 use Rattle.read_entities.specs.declared.EntityAnswer.{EntityAnswer}
 use Rattle.read_entities.specs.declared.EntityAnswer.TheVariants.{Good as GoodEntity, Refused as RefusedEntity}
-use Rattle.read_entities.specs.Marks.{carriedIn}
-use Rattle.read_entities.specs.Walking.{carriedLength}
-use Rattle.print.specs.Rows.{rowBytes, rowsBytes}
+use Rattle.read_entities.specs.Marks.{carried_in}
+use Rattle.read_entities.specs.Walking.{carried_length}
+use Rattle.print.specs.Rows.{row_bytes, rows_bytes}
 use Rattle.read_weights.specs.declared.Checked.{Checked}
 use Rattle.read_weights.specs.declared.Checked.TheVariants.{Good, Refused}
 use Rattle.read_weights.specs.declared.Rows.{Rows}
 use Rattle.read_weights.specs.declared.Rows.TheVariants.{Good as GoodRows, Refused as RefusedRows}
-use Rattle.read_weights.specs.Checks.{recordAnswer}
+use Rattle.read_weights.specs.Checks.{record_answer}
 use Rattle.read_weights.specs.declared.Weight.{Weight}
 use Rattle.read_weights.specs.declared.Weight.TheVariants.{Good as GoodWeight, Refused as RefusedWeight}
 
 -- what the record carries that stands in so many P lines from P line `from` on
-unfoldable pub recordCarried : List ℕ → Counts → ℕ → ℕ → ℕ → ℕ → List Item
-recordCarried f c p d from lines =
-    carriedIn (valuesAt parameterColumns p d (text_of f (lineBytes * parameterLine c from) parameterColumns lines) 0)
+unfoldable pub record_carried : List ℕ → Counts → ℕ → ℕ → ℕ → ℕ → List Item
+record_carried f c p d from lines =
+    carried_in (values_at parameter_columns p d (text_of f (line_bytes * parameter_line c from) parameter_columns lines) 0)
 
 -- the bytes of entry i
-unfoldable pub rowLength : ℕ → List ℕ → Counts → ℕ → ℕ → ℕ → ℕ
-rowLength list f c p d i = length (rowBytes list f (firstD c) (entries c) (firstP c) p d i)
+unfoldable pub row_length : ℕ → List ℕ → Counts → ℕ → ℕ → ℕ → ℕ
+row_length list f c p d i = length (row_bytes list f (first_d c) (entries c) (first_p c) p d i)
 
 -- of so many entries from i on, and of the Z line
 unfoldable pub rows_from : ℕ → List ℕ → Counts → ℕ → ℕ → ℕ → ℕ → ℕ
 rows_from list f c p d i n =
-    length (rowsBytes list f (firstD c) (entries c) (firstP c) p d i n ++ (line_of (last (entries c)) ++ (newline ∷ [])))
+    length (rows_bytes list f (first_d c) (entries c) (first_p c) p d i n ++ (line_of (last (entries c)) ++ (newline ∷ [])))
 
 -- of all
-abbrev pub rowsLength : ℕ → List ℕ → Counts → ℕ → ℕ → ℕ
-rowsLength list f c p d = rows_from list f c p d 0 (entries c)
+abbrev pub rows_length : ℕ → List ℕ → Counts → ℕ → ℕ → ℕ
+rows_length list f c p d = rows_from list f c p d 0 (entries c)
 
 -- so many bytes, if an entity passes
-abbrev pub answerRows : EntityAnswer → ℕ → FileLine → Rows
-answerRows GoodEntity n line = GoodRows n
-answerRows (RefusedEntity fault) n line = RefusedRows fault line
+abbrev pub answer_rows : EntityAnswer → ℕ → FileLine → Rows
+answer_rows GoodEntity n line = GoodRows n
+answer_rows (RefusedEntity fault) n line = RefusedRows fault line
 
 -- entry i, whose first D line is line k, with these fields and its record in so many P lines from P line `from` on
-unfoldable pub speltRows : ℕ → List ℕ → Counts → ℕ → ℕ → ℕ → ℕ → Fields → ℕ → ℕ → Rows
-speltRows list f c p d i k x from lines =
-    answerRows (recordAnswer list f c p d x.entity.size x.form.size from lines)
+unfoldable pub spelt_rows : ℕ → List ℕ → Counts → ℕ → ℕ → ℕ → ℕ → Fields → ℕ → ℕ → Rows
+spelt_rows list f c p d i k x from lines =
+    answer_rows (record_answer list f c p d x.entity.size x.form.size from lines)
     (length (line_of (entry (known list x.entity.size x.form.size) (sized false (2 * i + 1)) x (label_at f k)) ++ (newline ∷ [])) +
-    carriedLength (recordCarried f c p d from lines))
-    (fileLine (k + 1))
+    carried_length (record_carried f c p d from lines))
+    (file_line (k + 1))
 
 -- so many bytes, if nothing is refused
 abbrev pub rows_of : ℕ → FilePass → Rows
@@ -66,9 +66,9 @@ rows_of n GoodPass = GoodRows n
 rows_of n (RefusedPass fault line) = RefusedRows fault line
 
 -- the answer of all checks, with those bytes
-abbrev pub weightOf : ℕ → List ℕ → Checked → Weight
-weightOf list f (Good c p d) = GoodWeight c p d (rowsLength list f c p d)
-weightOf list f (Refused fault line) = RefusedWeight fault line
+abbrev pub weight_of : ℕ → List ℕ → Checked → Weight
+weight_of list f (Good c p d) = GoodWeight c p d (rows_length list f c p d)
+weight_of list f (Refused fault line) = RefusedWeight fault line
 
 -- no more bytes than m
 abbrev pub Few : ℕ → Rows → Type 0

@@ -1,13 +1,13 @@
 // Reading: what the checks of a file say in the paper's order, and what stands behind them in the sheet. `entity_at` reads the parameters
 // of an entity and measures its lines in the sheet on the way. Crate `read_check` has the last pass over all of them and all checks.
 ghost use Rattle.std.specs.Prelude.{◌≡◌, ◌+◌, ◌*◌, ◌^◌, ◌<◌, ◌≤◌};
-ghost use Rattle.columns.specs.Format.{fieldColumns};
-ghost use Rattle.cards.specs.Cards.{entries, entryLine};
-ghost use Rattle.sheets.specs.Writing.{entryLength};
-ghost use Rattle.read_entities.specs.Walking.{carriedLength};
+ghost use Rattle.columns.specs.Format.{field_columns};
+ghost use Rattle.cards.specs.Cards.{entries, entry_line};
+ghost use Rattle.sheets.specs.Writing.{entry_length};
+ghost use Rattle.read_entities.specs.Walking.{carried_length};
 ghost use Rattle.read_passes.specs.Ready.{Ready};
-ghost use Rattle.read_weights.specs.Checks.{recordAnswer, entityAt};
-ghost use Rattle.read_weights.specs.Weights.{recordCarried, rowLength, answerRows, speltRows, rows_of, Few};
+ghost use Rattle.read_weights.specs.Checks.{record_answer, entity_at};
+ghost use Rattle.read_weights.specs.Weights.{record_carried, row_length, answer_rows, spelt_rows, rows_of, Few};
 
 use cards::Counts;
 use columns::format::{FIELD_COLUMNS, LINE_BYTES};
@@ -69,8 +69,8 @@ fn record_answer(
     requires closing_nonzero { 0 < closing }
     requires le_pointer { 1 ≤ pointer.0 }
     requires lines_bound { pointer.0 + lines ≤ c.p + 1 }
-    ensures answer_value { result.answer ≡ recordAnswer list file.now c parameter closing typ form pointer.0 lines }
-    ensures length_value { (result.length ≡ carriedLength (recordCarried file.now c parameter closing pointer.0 lines))
+    ensures answer_value { result.answer ≡ record_answer list file.now c parameter closing typ form pointer.0 lines }
+    ensures length_value { (result.length ≡ carried_length (record_carried file.now c parameter closing pointer.0 lines))
         × (result.length ≤ 70400 * lines) }
 {
     let total = wide(c.d) / 2;
@@ -86,7 +86,7 @@ fn record_answer(
 // The bytes of the entry line of entry i: its label fills a slot of the directory.
 fn head_len(i: usize, x: Fields) -> usize
     requires { i < 2 ^ 30 }
-    ensures value { result ≡ entryLength (2 * i + 1) x fieldColumns }
+    ensures value { result ≡ entry_length (2 * i + 1) x field_columns }
     ensures upper_bound { result ≤ 388 }
 {
     let number = cards::entry_number(i);
@@ -95,7 +95,7 @@ fn head_len(i: usize, x: Fields) -> usize
 
 // So many bytes, if the entity passes.
 fn rows_of(answer: EntityAnswer, length: usize, line: FileLine) -> Rows
-    ensures { result ≡ answerRows answer length line }
+    ensures { result ≡ answer_rows answer length line }
 {
     match answer {
         EntityAnswer::Good => Rows::Good(length),
@@ -120,10 +120,10 @@ fn row_at(
     requires parameter_nonzero { 0 < parameter }
     requires closing_nonzero { 0 < closing }
     requires i_bound { i < entries c }
-    requires k_value { k ≡ entryLine c i }
+    requires k_value { k ≡ entry_line c i }
     requires le_pointer { 1 ≤ pointer.0 }
     requires lines_bound { pointer.0 + lines ≤ c.p + 1 }
-    ensures value { result ≡ speltRows list file.now c parameter closing i k fields pointer.0 lines }
+    ensures value { result ≡ spelt_rows list file.now c parameter closing i k fields pointer.0 lines }
     ensures few { Few 15000000000 result }
 {
     let head = head_len(i, fields);
@@ -140,8 +140,8 @@ pub fn entity_at(list: u64, file: &[u8], c: Counts, parameter: u8, closing: u8, 
     requires parameter_nonzero { 0 < parameter }
     requires closing_nonzero { 0 < closing }
     requires i_bound { i < entries c }
-    ensures value { result ≡ rows_of (rowLength list file.now c parameter closing i)
-        (entityAt list file.now c parameter closing i) }
+    ensures value { result ≡ rows_of (row_length list file.now c parameter closing i)
+        (entity_at list file.now c parameter closing i) }
     ensures few { Few 15000000000 result }
 {
     let k = cards::entry_line(c, i);

@@ -20,9 +20,9 @@ use Rattle.values.specs.Number.{digits, value, number_of}
 use Rattle.values.specs.Head.{head_of}
 use Rattle.values.specs.Reading.{Within}
 use Rattle.values.proofs.Laws.{three}
-use Rattle.values.proofs.Digits.{digits-ds, value-below}
+use Rattle.values.proofs.Digits.{digits_ds, value-below}
 use Rattle.values.proofs.Ends.{inside, ends}
-use Rattle.values.proofs.Canon.{Canon, FineHead, head-fine}
+use Rattle.values.proofs.Canon.{Canon, FineHead, head_fine}
 use Rattle.values.proofs.Sizes.{sizes}
 use Rattle.values.proofs.Heads.{within_more}
 use Rattle.records.specs.declared.Next.{Next}
@@ -31,7 +31,7 @@ use Rattle.records.specs.declared.Got.{Got}
 use Rattle.records.specs.declared.Got.TheVariants.{Found, Refused}
 use Rattle.records.specs.declared.Check.{Check}
 use Rattle.records.specs.declared.Check.TheVariants.{Done, Wrong}
-use Rattle.records.specs.Record.{blanks, next_at, found, plain, headed, byNext, value_at}
+use Rattle.records.specs.Record.{blanks, next_at, found, plain, headed, by_next, value_at}
 use Rattle.records.specs.Reading.{Writable, Sane, SaneCheck}
 
 -- ---- heads
@@ -46,7 +46,7 @@ head-within l = pick (eqb (get_or l (length (digits l)) 0) 72) (leb (length (dig
     pick true true true e f =
         let n = length (digits l) in
         let i = inside l n (omega (arith, eqb-true (get_or l n 0) 72 e)) in
-        (omega (arith, three (value 0 (digits l)) n (value-below (digits-ds l)) (leb-true n 3 f)), omega arith)
+        (omega (arith, three (value 0 (digits l)) n (value-below (digits_ds l)) (leb-true n 3 f)), omega arith)
     pick true true false e f = (ends l).0
     pick true false c e f = (ends l).0
     pick false b c e f = (ends l).0
@@ -56,25 +56,25 @@ within l m h = within_more (length l) m (head_of l) h (head-within l)
 
 -- ---- what stands behind the blanks
 
-blanks-few : (l : List ℕ) → blanks l ≤ length l
-blanks-few [] = omega arith
-blanks-few (x ∷ xs) = pick (eqb x 32) (blanks-few xs)
+blanks_few : (l : List ℕ) → blanks l ≤ length l
+blanks_few [] = omega arith
+blanks_few (x ∷ xs) = pick (eqb x 32) (blanks_few xs)
   where
     pick : (b : Bool) → blanks xs ≤ length xs → cond b (suc (blanks xs)) 0 ≤ suc (length xs)
     pick true h = omega arith
     pick false h = omega arith
 
-pub blanks-in : (t : List ℕ) (p : ℕ) → p ≤ length t → p + blanks (drop p t) ≤ length t
-blanks-in t p h = omega (arith, blanks-few (drop p t), length-drop p t)
+pub blanks_in : (t : List ℕ) (p : ℕ) → p ≤ length t → p + blanks (drop p t) ≤ length t
+blanks_in t p h = omega (arith, blanks_few (drop p t), length-drop p t)
 
 -- it stands from p on, a delimiter before m
 abbrev Stop : ℕ → ℕ → Next → Type 0
 Stop p m (Delimiter at last) = (p ≤ at) × (at < m)
 Stop p m (Other at) = (p ≤ at) × (at ≤ m)
 
-found-sane : (p e m : ℕ) (v : Value) (s : ℕ) (n : Next) → p ≤ s → s ≤ e → Writable m v → Stop e m n → Sane p m (found v s n)
-found-sane p e m v s (Delimiter at last) h k f n = (h, omega arith, omega arith, f)
-found-sane p e m v s (Other at) h k f n = (h, omega arith, omega arith)
+found_sane : (p e m : ℕ) (v : Value) (s : ℕ) (n : Next) → p ≤ s → s ≤ e → Writable m v → Stop e m n → Sane p m (found v s n)
+found_sane p e m v s (Delimiter at last) h k f n = (h, omega arith, omega arith, f)
+found_sane p e m v s (Other at) h k f n = (h, omega arith, omega arith)
 
 module _ (w c d : ℕ) (t : List ℕ) (pc : 0 < c) (pd : 0 < d) where
   stop : (p : ℕ) → p ≤ length t → Stop p (length t) (next_at c d t p)
@@ -85,33 +85,33 @@ module _ (w c d : ℕ) (t : List ℕ) (pc : 0 < c) (pd : 0 < d) where
           → Stop p (length t) (cond a (Delimiter (p + blanks (drop p t)) false) (cond b (Delimiter (p + blanks (drop p t)) true) (Other (p + blanks (drop p t)))))
       pick true b e f = (omega arith, inside t (p + blanks (drop p t)) (omega (arith, eqb-true (get_or t (p + blanks (drop p t)) 0) c e)))
       pick false true e f = (omega arith, inside t (p + blanks (drop p t)) (omega (arith, eqb-true (get_or t (p + blanks (drop p t)) 0) d f)))
-      pick false false e f = (omega arith, blanks-in t p h)
+      pick false false e f = (omega arith, blanks_in t p h)
 
-  plain-sane : (p s e : ℕ) (n : Next) (k : Number) → p ≤ s → s ≤ e → e ≤ length t → Canon k → Stop e (length t) n → Sane p (length t) (plain s e n k)
-  plain-sane p s e n (WholeOf neg size) h k i f o = found-sane p e (length t) (Whole neg size) s n h k f.0 o
-  plain-sane p s e n (RealOf neg m eneg x double) h k i f o = found-sane p e (length t) (Real neg m eneg x double) s n h k (sizes f) o
-  plain-sane p s e (Delimiter at last) Beyond h k i f o = (h, omega arith, omega arith)
-  plain-sane p s e (Other at) Beyond h k i f o = (h, omega arith, omega arith)
-  plain-sane p s e n Bad h k i f o = (h, k, i)
+  plain_sane : (p s e : ℕ) (n : Next) (k : Number) → p ≤ s → s ≤ e → e ≤ length t → Canon k → Stop e (length t) n → Sane p (length t) (plain s e n k)
+  plain_sane p s e n (WholeOf neg size) h k i f o = found_sane p e (length t) (Whole neg size) s n h k f.0 o
+  plain_sane p s e n (RealOf neg m eneg x double) h k i f o = found_sane p e (length t) (Real neg m eneg x double) s n h k (sizes f) o
+  plain_sane p s e (Delimiter at last) Beyond h k i f o = (h, omega arith, omega arith)
+  plain_sane p s e (Other at) Beyond h k i f o = (h, omega arith, omega arith)
+  plain_sane p s e n Bad h k i f o = (h, k, i)
 
-  headed-sane : (p s : ℕ) (h : Head) → p ≤ s → s ≤ length t → FineHead h → Within (length t - s) h → Sane p (length t) (headed c d t s h)
-  headed-sane p s (Plain k) l i f k' =
+  headed_sane : (p s : ℕ) (h : Head) → p ≤ s → s ≤ length t → FineHead h → Within (length t - s) h → Sane p (length t) (headed c d t s h)
+  headed_sane p s (Plain k) l i f k' =
       let e : s + k.len ≤ length t = omega arith in
-      plain-sane p s (s + k.len) (next_at c d t (s + k.len)) k.number l (omega arith) e f (stop (s + k.len) e)
-  headed-sane p s (Count count len) l i f k' = pick (leb (s + len + count) (length t)) refl
+      plain_sane p s (s + k.len) (next_at c d t (s + k.len)) k.number l (omega arith) e f (stop (s + k.len) e)
+  headed_sane p s (Count count len) l i f k' = pick (leb (s + len + count) (length t)) refl
     where
       pick : (b : Bool) → leb (s + len + count) (length t) ≡ b
           → Sane p (length t) (cond b (found (Text (s + len) count) s (next_at c d t (s + len + count))) (Refused Spelling s (length t)))
       pick true e =
           let k : s + len + count ≤ length t = leb-true (s + len + count) (length t) e in
-          found-sane p (s + len + count) (length t) (Text (s + len) count) s (next_at c d t (s + len + count)) l (omega arith) (k, f.0, f.1) (stop (s + len + count) k)
+          found_sane p (s + len + count) (length t) (Text (s + len) count) s (next_at c d t (s + len + count)) l (omega arith) (k, f.0, f.1) (stop (s + len + count) k)
       pick false e = (l, i, omega arith)
 
-  next_sane : (p : ℕ) (n : Next) → Stop p (length t) n → Sane p (length t) (byNext w c d t n)
+  next_sane : (p : ℕ) (n : Next) → Stop p (length t) n → Sane p (length t) (by_next w c d t n)
   next_sane p (Delimiter at last) h = (h.0, omega arith, omega arith, tt)
   next_sane p (Other s) h =
       let l = take (w - s % w) (drop s t) in
-      headed-sane p s (head_of l) h.0 h.1 (head-fine l) (within l (length t - s) (simp (length-take, length-drop) (omega arith)))
+      headed_sane p s (head_of l) h.0 h.1 (head_fine l) (within l (length t - s) (simp (length-take, length-drop) (omega arith)))
 
   pub sane : (p : ℕ) → p ≤ length t → Sane p (length t) (value_at w c d t p)
   unfolding value_at
@@ -127,11 +127,11 @@ module _ (p m : ℕ) {g : Got} where
     pub next_more : p < next
     next_more = omega (arith, parts)
 
-    pub next-less : m - next < m - p
-    next-less = omega (arith, parts)
+    pub next_less : m - next < m - p
+    next_less = omega (arith, parts)
 
-    pub next-in : next ≤ m
-    next-in = omega (arith, parts)
+    pub next_in : next ≤ m
+    next_in = omega (arith, parts)
 
     pub can_write : Writable m v
     can_write = parts.3
@@ -155,8 +155,8 @@ module _ (m : ℕ) {v : Value} where
   pub text_in : {start count : ℕ} → v ≡ Text start count → Writable m v → start + count ≤ m
   text_in e h = (rw e at h).0
 
-  pub text-few : {start count : ℕ} → v ≡ Text start count → Writable m v → count ≤ 999
-  text-few e h = (rw e at h).2
+  pub text_few : {start count : ℕ} → v ≡ Text start count → Writable m v → count ≤ 999
+  text_few e h = (rw e at h).2
 
 -- ---- and of a whole record
 
@@ -165,8 +165,8 @@ module _ (p m : ℕ) {r : Check} where
     done : (1 ≤ count) × (kept ≤ count) × (p + count ≤ end) × (end ≤ m)
     done = rw e at h
 
-    pub done-count : p + count ≤ end
-    done-count = done.2
+    pub done_count : p + count ≤ end
+    done_count = done.2
 
     pub done_end : end ≤ m
     done_end = done.3
@@ -175,5 +175,5 @@ module _ (p m : ℕ) {r : Check} where
     failed : (p ≤ s) × (s ≤ at) × (at ≤ m)
     failed = rw e at h
 
-    pub failed-start : s ≤ m
-    failed-start = omega (arith, failed)
+    pub failed_start : s ≤ m
+    failed_start = omega (arith, failed)

@@ -9,8 +9,8 @@ use native.Mathlib.Omega.{arith}
 use lib.ListN.{length, take, drop, length-take, length-drop, get_or, set, replicate, length-append, length-set, length-replicate, replicate-append-replicate}
 use lib.Seq.{take-append_seam, take-suc, take_all, set_out}
 use borrow.Author.Tests.{le-leb, lt-leb}
-use Rattle.columns.specs.Laid.{Wrote, laid, laid-eq}
-use Rattle.columns.proofs.Writes.{wrote-length}
+use Rattle.columns.specs.Laid.{Wrote, laid, laid_eq}
+use Rattle.columns.proofs.Writes.{wrote_length}
 use Rattle.values.specs.declared.Value.{Value}
 use Rattle.values.specs.declared.Value.TheVariants.{Default, Whole, Real, Text}
 use Rattle.values.specs.Value.{item_of, head, spelled}
@@ -18,9 +18,9 @@ use Rattle.values.specs.Writing.{front, chars, Inside}
 use Rattle.values.proofs.Spells.{front-chars}
 use Rattle.records.specs.Reading.{Writable}
 use Rattle.records.specs.Flow.{firm, gap, delimiter, piece}
-use Rattle.records.specs.Written.{index_of, over, Put, Room, copied, pieceEnd}
-use Rattle.records.proofs.Bounds.{text_in, text-few}
-use Rattle.records.proofs.Positions.{on_line}
+use Rattle.records.specs.Written.{index_of, over, Put, Room, copied, piece_end}
+use Rattle.records.proofs.Bounds.{text_in, text_few}
+use Rattle.records.proofs.Positions.{on_line_lem}
 
 pub length_over : (base w : ℕ) (o : List ℕ) (p : ℕ) (bs : List ℕ) → length (over base w o p bs) ≡ length o
 unfolding over
@@ -38,9 +38,9 @@ module _ {base w : ℕ} where
   unfolding over
   put_one o p b r i k e = record { bytes = ap (λ (n : ℕ). set o n b) k; next = e }
 
-  pub put-out : (o : List ℕ) (p b r i : ℕ) → i ≡ base + p / w * 81 + p % w → r ≡ p + 1 → length o ≤ i → Put base w o p (b ∷ []) o r
+  pub put_out : (o : List ℕ) (p b r i : ℕ) → i ≡ base + p / w * 81 + p % w → r ≡ p + 1 → length o ≤ i → Put base w o p (b ∷ []) o r
   unfolding over
-  put-out o p b r i k e h = record { bytes = sym (set_out o (index_of base w p) b (omega arith)); next = e }
+  put_out o p b r i k e h = record { bytes = sym (set_out o (index_of base w p) b (omega arith)); next = e }
 
   pub put-none : {o : List ℕ} {p : ℕ} → Put base w o p [] o p
   unfolding over
@@ -48,7 +48,7 @@ module _ {base w : ℕ} where
 
   -- what is written to the file from a position's place on, on one line
   pub put-line : {o o' bs : List ℕ} {at r' : ℕ} (p j r : ℕ) → at ≡ base + p / w * 81 + p % w → j ≡ p % w → j + length bs ≤ w → r ≡ p + length bs → Wrote o at bs o' r' → Put base w o p bs o' r
-  put-line {o} {bs = bs} p j r ea ej h er x = record { bytes = x.bytes ∙ ap (λ (i : ℕ). laid o i bs) ea ∙ sym (on_line base w o p bs (omega arith)); next = er }
+  put-line {o} {bs = bs} p j r ea ej h er x = record { bytes = x.bytes ∙ ap (λ (i : ℕ). laid o i bs) ea ∙ sym (on_line_lem base w o p bs (omega arith)); next = er }
 
   pub run-line : {o o' : List ℕ} {at r' : ℕ} (p j r b count : ℕ) → at ≡ base + p / w * 81 + p % w → j ≡ p % w → j + count ≤ w → r ≡ p + count → Wrote o at (replicate count b) o' r'
       → Put base w o p (replicate count b) o' r
@@ -71,14 +71,14 @@ module _ {base w : ℕ} where
   pub put-more : {o o' o'' : List ℕ} {p r r' : ℕ} (s : List ℕ) (i : ℕ) → Put base w o p (take i s) o' r → i < length s → Put base w o' r (get_or s i 0 ∷ []) o'' r' → Put base w o p (take (i + 1) s) o'' r'
   put-more s i x h y = rw (add-one, take-suc s i 0 h) (then x y)
 
-  pub put-all-of : {o o' : List ℕ} {p r : ℕ} (s : List ℕ) (i : ℕ) → Put base w o p (take i s) o' r → length s ≤ i → Put base w o p s o' r
-  put-all-of s i x h = rw (take_all i s h) at x
+  pub put_all_of : {o o' : List ℕ} {p r : ℕ} (s : List ℕ) (i : ℕ) → Put base w o p (take i s) o' r → length s ≤ i → Put base w o p s o' r
+  put_all_of s i x h = rw (take_all i s h) at x
 
   pub run_more : {o o' o'' : List ℕ} {p r r' b : ℕ} (i : ℕ) → Put base w o p (replicate i b) o' r → Put base w o' r (b ∷ []) o'' r' → Put base w o p (replicate (i + 1) b) o'' r'
   run_more {b = b} i x y = rw (← replicate-append-replicate i 1 b) (then x y)
 
-  pub run-all : {o o' : List ℕ} {p r : ℕ} (b i count : ℕ) → Put base w o p (replicate i b) o' r → i ≤ count → count ≤ i → Put base w o p (replicate count b) o' r
-  run-all b i count x h k = let e : count ≡ i = omega arith in rw e x
+  pub run_all : {o o' : List ℕ} {p r : ℕ} (b i count : ℕ) → Put base w o p (replicate i b) o' r → i ≤ count → count ≤ i → Put base w o p (replicate count b) o' r
+  run_all b i count x h k = let e : count ≡ i = omega arith in rw e x
 
 -- ---- a loop that writes: what is still owed is cs
 
@@ -90,8 +90,8 @@ module _ {base w : ℕ} where
   pub owed_all : (o : List ℕ) (p : ℕ) (bs : List ℕ) → Owed base w o p bs o p bs
   owed_all o p bs = record { bytes = refl; next = refl }
 
-  pub owed-less : {o o' o'' bs a cs : List ℕ} {p r r' : ℕ} → Owed base w o p bs o' r (a ++ cs) → Put base w o' r a o'' r' → Owed base w o p bs o'' r' cs
-  owed-less {o} {o'} {o''} {bs} {a} {cs} {p} {r} x y = record {
+  pub owed_less : {o o' o'' bs a cs : List ℕ} {p r r' : ℕ} → Owed base w o p bs o' r (a ++ cs) → Put base w o' r a o'' r' → Owed base w o p bs o'' r' cs
+  owed_less {o} {o'} {o''} {bs} {a} {cs} {p} {r} x y = record {
     bytes = rw (y.bytes, y.next) (over-over base w o' r a cs ∙ x.bytes);
     next = omega (arith, y.next, x.next, length-append a cs);
   }
@@ -109,16 +109,16 @@ module _ (base w p : ℕ) where
   pub start_fits : base ≤ 2 ^ 40 → p ≤ 2 ^ 41 → base + p / w * 81 < 2 ^ 64
   start_fits k h = omega (arith, div-le_self p w)
 
-  pub index-fits : base ≤ 2 ^ 40 → p ≤ 2 ^ 41 → 1 ≤ w → w ≤ 80 → base + p / w * 81 + p % w < 2 ^ 64
-  index-fits k h l m = omega (arith, div-le_self p w, mod-lt p l)
+  pub index_fits : base ≤ 2 ^ 40 → p ≤ 2 ^ 41 → 1 ≤ w → w ≤ 80 → base + p / w * 81 + p % w < 2 ^ 64
+  index_fits k h l m = omega (arith, div-le_self p w, mod-lt p l)
 
 -- n characters from p on, on one line
 module _ (base w p n : ℕ) (l : 1 ≤ w) (m : w ≤ 80) (h : p + n ≤ 2 ^ 41) where
   pub row_fits : {j : ℕ} → j ≡ p % w → j + n < 2 ^ 64
   row_fits e = omega (arith, mod-lt p l)
 
-  pub row-index-fits : base ≤ 2 ^ 40 → base + p / w * 81 + p % w < 2 ^ 64
-  row-index-fits k = omega (arith, index-fits base w p k (omega arith) l m)
+  pub row_index_fits : base ≤ 2 ^ 40 → base + p / w * 81 + p % w < 2 ^ 64
+  row_index_fits k = omega (arith, index_fits base w p k (omega arith) l m)
 
   module _ {at : ℕ} (e : at ≡ base + p / w * 81 + p % w) (k : base ≤ 2 ^ 40) where
     pub row-start : at < 2 ^ 62
@@ -131,40 +131,40 @@ module _ (w p n : ℕ) {j : ℕ} (e : j ≡ p % w) where
   pub column_fits : 1 ≤ w → w ≤ 80 → n ≤ 2 ^ 40 → j + n < 2 ^ 64
   column_fits l m h = omega (arith, mod-lt p l)
 
-  pub column-in : 1 ≤ w → j ≤ w
-  column-in l = omega (arith, mod-lt p l)
+  pub column_in : 1 ≤ w → j ≤ w
+  column_in l = omega (arith, mod-lt p l)
 
   pub gap-none : j + n ≤ w → 0 ≡ gap w p n
   unfolding gap
   gap-none h = simp (le-leb (p % w + n) w (rw e at h))
 
-  pub gap-some : w < j + n → w - j ≡ gap w p n
+  pub gap_some : w < j + n → w - j ≡ gap w p n
   unfolding gap
-  gap-some h = rw e (simp (lt-leb (p % w + n) w (rw e at h)))
+  gap_some h = rw e (simp (lt-leb (p % w + n) w (rw e at h)))
 
-  pub gap-small : w ≤ 80 → w - j ≤ 80
-  gap-small h = omega arith
+  pub gap_small : w ≤ 80 → w - j ≤ 80
+  gap_small h = omega arith
 
-pub last-true : (last : Bool) → last ≡ true → 59 ≡ delimiter last
-last-true last e = rw e
+pub last_true : (last : Bool) → last ≡ true → 59 ≡ delimiter last
+last_true last e = rw e
 
-pub last-false : (last : Bool) → last ≡ false → 44 ≡ delimiter last
-last-false last e = rw e
+pub last_false : (last : Bool) → last ≡ false → 44 ≡ delimiter last
+last_false last e = rw e
 
-pub ruleset puts = (put_one, put-out, put-line, run-line, run_none, row_fits, row-index-fits, row-start, row-end, put-none, then, put-length, put-more, put-all-of, run_more, run-all, line-fits, start_fits, index-fits, column_fits, column-in, gap-none, gap-some, gap-small, last-true, last-false)
+pub ruleset puts = (put_one, put_out, put-line, run-line, run_none, row_fits, row_index_fits, row-start, row-end, put-none, then, put-length, put-more, put_all_of, run_more, run_all, line-fits, start_fits, index_fits, column_fits, column_in, gap-none, gap_some, gap_small, last_true, last_false)
 
 -- ---- a string's characters and the delimiter
 
 module _ {base w p r x : ℕ} {o o' : List ℕ} (src : List ℕ) (last : Bool) {v : Value} (ex : x ≡ delimiter last) where
-  pub tail-default : v ≡ Default → Put base w o p (x ∷ []) o' r → Put base w o p (chars src v ++ (delimiter last ∷ [])) o' r
-  tail-default e y = rw (e, ← ex) y
+  pub tail_default : v ≡ Default → Put base w o p (x ∷ []) o' r → Put base w o p (chars src v ++ (delimiter last ∷ [])) o' r
+  tail_default e y = rw (e, ← ex) y
 
-  pub tail-whole : {neg : Bool} {size : ℕ} → v ≡ Whole neg size → Put base w o p (x ∷ []) o' r → Put base w o p (chars src v ++ (delimiter last ∷ [])) o' r
-  tail-whole e y = rw (e, ← ex) y
+  pub tail_whole : {neg : Bool} {size : ℕ} → v ≡ Whole neg size → Put base w o p (x ∷ []) o' r → Put base w o p (chars src v ++ (delimiter last ∷ [])) o' r
+  tail_whole e y = rw (e, ← ex) y
 
-  pub tail-real : {neg : Bool} {m : ℕ} {eneg : Bool} {e : ℕ} {double : Bool} → v ≡ Real neg m eneg e double → Put base w o p (x ∷ []) o' r
+  pub tail_real : {neg : Bool} {m : ℕ} {eneg : Bool} {e : ℕ} {double : Bool} → v ≡ Real neg m eneg e double → Put base w o p (x ∷ []) o' r
       → Put base w o p (chars src v ++ (delimiter last ∷ [])) o' r
-  tail-real e y = rw (e, ← ex) y
+  tail_real e y = rw (e, ← ex) y
 
   pub tail-text : {o1 : List ℕ} {q start count : ℕ} → v ≡ Text start count → Put base w o p (take (start + count - start) (drop start src)) o1 q → Put base w o1 q (x ∷ []) o' r
       → Put base w o p (chars src v ++ (delimiter last ∷ [])) o' r
@@ -174,14 +174,14 @@ module _ {base w p r x : ℕ} {o o' : List ℕ} (src : List ℕ) (last : Bool) {
 
 -- the part of src that holds them
 module _ (src : List ℕ) {v : Value} {start count : ℕ} (e : v ≡ Text start count) (h : Writable (length src) v) where
-  pub text-end-in : start + count ≤ length src
-  text-end-in = text_in (length src) e h
+  pub text_end_in : start + count ≤ length src
+  text_end_in = text_in (length src) e h
 
-  pub text-end-fits : length src < 2 ^ 64 → start + count < 2 ^ 64
-  text-end-fits l = omega (arith, text_in (length src) e h)
+  pub text_end_fits : length src < 2 ^ 64 → start + count < 2 ^ 64
+  text_end_fits l = omega (arith, text_in (length src) e h)
 
   text-size : length (take (start + count - start) (drop start src)) ≤ 999
-  text-size = rw length-take (omega (arith, text-few (length src) e h))
+  text-size = rw length-take (omega (arith, text_few (length src) e h))
 
   pub text-room : (p : ℕ) → p ≤ 2 ^ 40 + 200 → p + length (take (start + count - start) (drop start src)) ≤ 2 ^ 41
   text-room p k = omega (arith, text-size)
@@ -190,15 +190,15 @@ module _ (src : List ℕ) {v : Value} {start count : ℕ} (e : v ≡ Text start 
     pub text-next : p ≤ 2 ^ 40 + 200 → q ≤ 2 ^ 41
     text-next k = omega (arith, text-size)
 
-    pub text-low : {r : ℕ} → r ≡ q + 1 → p < r
-    text-low i = omega arith
+    pub text_low : {r : ℕ} → r ≡ q + 1 → p < r
+    text_low i = omega arith
 
-    pub text-high : {r : ℕ} → r ≡ q + 1 → r ≤ p + 1000
-    text-high i = omega (arith, text-size)
+    pub text_high : {r : ℕ} → r ≡ q + 1 → r ≤ p + 1000
+    text_high i = omega (arith, text-size)
 
-pub ruleset tails = (tail-default, tail-whole, tail-real, put-length)
+pub ruleset tails = (tail_default, tail_whole, tail_real, put-length)
 
-pub ruleset text-tails = (tail-text, text-end-in, text-end-fits, text-room, text-next, text-low, text-high, put-length)
+pub ruleset text_tails = (tail-text, text_end_in, text_end_fits, text-room, text-next, text_low, text_high, put-length)
 
 -- ---- the whole piece
 
@@ -207,7 +207,7 @@ part : {o b bs : List ℕ} {n : ℕ} → Wrote o 0 bs b n → n ≤ length o →
 part {o} {b} {bs} {n} x h =
     let e : n ≡ length bs = x.next ∙ zero-add _ in
     let z : 0 + length bs ≤ length o = omega arith in
-    rw (e, x.bytes, laid-eq o 0 bs z) (take-append_seam bs _)
+    rw (e, x.bytes, laid_eq o 0 bs z) (take-append_seam bs _)
 
 part_length : {o b bs : List ℕ} {n : ℕ} → Wrote o 0 bs b n → n ≡ length bs
 part_length x = x.next ∙ zero-add _
@@ -238,7 +238,7 @@ piece-parts w p t v last h =
 
 module _ {o b : List ℕ} {n : ℕ} (v : Value) (x : Wrote o 0 (front v) b n) (h : n ≤ 44) (l : length o ≡ 64) where
   pub front_of : n ≡ length (take n b)
-  front_of = rw length-take (omega (arith, wrote-length x))
+  front_of = rw length-take (omega (arith, wrote_length x))
 
   front-size : length (take n b) ≤ 44
   front-size = rw length-take (omega arith)
@@ -251,11 +251,11 @@ module _ {o b : List ℕ} {n : ℕ} (v : Value) (x : Wrote o 0 (front v) b n) (h
       pub tail-room : a ≤ 2 ^ 40 + 200
       tail-room = omega (arith, front-size)
 
-      pub piece-low : {r : ℕ} → a < r → p < r
-      piece-low i = omega arith
+      pub piece_low : {r : ℕ} → a < r → p < r
+      piece_low i = omega arith
 
-      pub piece-high : {r : ℕ} → r ≤ a + 1000 → r ≤ p + 1200
-      piece-high i = omega (arith, front-size)
+      pub piece_high : {r : ℕ} → r ≤ a + 1000 → r ≤ p + 1200
+      piece_high i = omega (arith, front-size)
 
   pub piece_of : {base w p g q a r : ℕ} {f f1 f2 f3 : List ℕ} (src : List ℕ) (last : Bool) → Writable (length src) v → g ≡ gap w p (n + 1) → Put base w f p (replicate g 32) f1 q
       → Put base w f1 q (take n b) f2 a → Put base w f2 a (chars src v ++ (delimiter last ∷ [])) f3 r → Put base w f p (piece w p (item_of src v) last) f3 r
@@ -268,34 +268,34 @@ gap-room m g k = omega arith
 
 pub ruleset pieces = (front_of, front-room, tail-room, gap-room, put-length)
 
-pub ruleset whole-pieces = (piece-low, piece-high, piece_of)
+pub ruleset whole_pieces = (piece_low, piece_high, piece_of)
 
 -- ---- the position alone
 
 pub copied_none : {v : Value} → v ≡ Default → 0 ≡ copied v
 copied_none e = rw e
 
-pub copied-whole : {v : Value} {neg : Bool} {size : ℕ} → v ≡ Whole neg size → 0 ≡ copied v
-copied-whole e = rw e
+pub copied_whole : {v : Value} {neg : Bool} {size : ℕ} → v ≡ Whole neg size → 0 ≡ copied v
+copied_whole e = rw e
 
-pub copied-real : {v : Value} {neg : Bool} {m : ℕ} {eneg : Bool} {e : ℕ} {double : Bool} → v ≡ Real neg m eneg e double → 0 ≡ copied v
-copied-real e = rw e
+pub copied_real : {v : Value} {neg : Bool} {m : ℕ} {eneg : Bool} {e : ℕ} {double : Bool} → v ≡ Real neg m eneg e double → 0 ≡ copied v
+copied_real e = rw e
 
 pub copied-text : {v : Value} {start count : ℕ} → v ≡ Text start count → count ≡ copied v
 copied-text e = rw e
 
-pub end-parts : (w p : ℕ) (v : Value) {n g k : ℕ} → n ≡ length (front v) → g ≡ gap w p (n + 1) → k ≡ copied v → p + g + n + k + 1 ≡ pieceEnd w p v
-unfolding pieceEnd
+pub end-parts : (w p : ℕ) (v : Value) {n g k : ℕ} → n ≡ length (front v) → g ≡ gap w p (n + 1) → k ≡ copied v → p + g + n + k + 1 ≡ piece_end w p v
+unfolding piece_end
 end-parts w p v en eg ek = rw (eg, ek, en)
 
 -- what is spelled in n characters is its front and what is copied
-pub end-spelled : (w p : ℕ) (v : Value) {n g k : ℕ} → n ≡ length (front v) + copied v → k ≡ copied v → g ≡ gap w p (n - k + 1) → p + g + n + 1 ≡ pieceEnd w p v
-unfolding pieceEnd
+pub end-spelled : (w p : ℕ) (v : Value) {n g k : ℕ} → n ≡ length (front v) + copied v → k ≡ copied v → g ≡ gap w p (n - k + 1) → p + g + n + 1 ≡ piece_end w p v
+unfolding piece_end
 end-spelled w p v {n} {g} {k} en ek eg =
     let f : n - k + 1 ≡ length (front v) + 1 = omega arith in
     rw (eg, f) (omega arith)
 
-pub ruleset ends = (copied_none, copied-whole, copied-real, copied-text, end-parts, end-spelled)
+pub ruleset ends = (copied_none, copied_whole, copied_real, copied-text, end-parts, end-spelled)
 
 copied-length : (t : List ℕ) (v : Value) → Inside (length t) v → length (chars t v) ≡ copied v
 copied-length t Default h = refl
@@ -308,14 +308,14 @@ pub spelled-length : (t : List ℕ) (v : Value) → Inside (length t) v → leng
 spelled-length t v h = ap length (front-chars t v h) ∙ length-append (front v) (chars t v) ∙ ap (λ (k : ℕ). length (front v) + k) (copied-length t v h)
 
 -- a piece ends there, in whatever text a string's characters stand
-pub piece-end-is : (w p : ℕ) (t : List ℕ) (v : Value) (last : Bool) → Writable (length t) v → pieceEnd w p v ≡ p + length (piece w p (item_of t v) last)
-unfolding pieceEnd
-piece-end-is w p t v last h =
+pub piece_end_is : (w p : ℕ) (t : List ℕ) (v : Value) (last : Bool) → Writable (length t) v → piece_end w p v ≡ p + length (piece w p (item_of t v) last)
+unfolding piece_end
+piece_end_is w p t v last h =
     let n = copied-length t v (inside (length t) v h) in
     rw (← (piece-parts w p t v last h)) (simp (length-append, length-replicate) (omega arith))
 
-pub copied-few : (m : ℕ) (v : Value) → Writable m v → copied v ≤ 999
-copied-few m Default h = omega arith
-copied-few m (Whole neg size) h = omega arith
-copied-few m (Real neg k eneg e double) h = omega arith
-copied-few m (Text start count) h = omega arith
+pub copied_few : (m : ℕ) (v : Value) → Writable m v → copied v ≤ 999
+copied_few m Default h = omega arith
+copied_few m (Whole neg size) h = omega arith
+copied_few m (Real neg k eneg e double) h = omega arith
+copied_few m (Text start count) h = omega arith

@@ -15,42 +15,42 @@ use Rattle.records.specs.declared.Got.{Got}
 use Rattle.records.specs.declared.Got.TheVariants.{Found, Refused}
 use Rattle.records.specs.declared.Check.{Check}
 use Rattle.records.specs.declared.Check.TheVariants.{Done, Wrong}
-use Rattle.records.specs.Record.{value_at, Values, values, wrong, more, after, valuesFrom, valuesAt, trim, trimmed}
-use Rattle.records.specs.Reading.{Stands, Sane, keptAfter, keptFrom, checkFrom, checked}
+use Rattle.records.specs.Record.{value_at, Values, values, wrong, more, after, values_from, values_at, trim, trimmed}
+use Rattle.records.specs.Reading.{Stands, Sane, kept_after, kept_from, check_from, checked}
 use Rattle.records.proofs.Texts.{length-text, small}
-use Rattle.records.proofs.Bounds.{sane, next_more, next-less, next-in, wrong-from, wrong-behind, wrong-at}
+use Rattle.records.proofs.Bounds.{sane, next_more, next_less, next_in, wrong-from, wrong-behind, wrong-at}
 
 module _ (w c d : ℕ) (t : List ℕ) (pc : 0 < c) (pd : 0 < d) where
-  enough : (k m p : ℕ) → p ≤ length t → length t - p < k → length t - p < m → valuesFrom k w c d t p ≡ valuesFrom m w c d t p
-  unfolding valuesFrom
+  enough : (k m p : ℕ) → p ≤ length t → length t - p < k → length t - p < m → values_from k w c d t p ≡ values_from m w c d t p
+  unfolding values_from
   enough zero m p i h l = absurd (omega arith)
   enough (suc k) zero p i h l = absurd (omega arith)
   enough (suc k) (suc m) p i h l = pick (value_at w c d t p) (sane w c d t pc pd p i) (λ next. enough k m next)
     where
       pick : (g : Got) → Sane p (length t) g
-          → ((next : ℕ) → next ≤ length t → length t - next < k → length t - next < m → valuesFrom k w c d t next ≡ valuesFrom m w c d t next)
-          → after t (valuesFrom k w c d t) g ≡ after t (valuesFrom m w c d t) g
+          → ((next : ℕ) → next ≤ length t → length t - next < k → length t - next < m → values_from k w c d t next ≡ values_from m w c d t next)
+          → after t (values_from k w c d t) g ≡ after t (values_from m w c d t) g
       pick (Found v s next true) a ih = refl
       pick (Found v s next false) a ih = ap (more (item_of t v)) (ih next (omega arith) (omega arith) (omega arith))
       pick (Refused n s at) a ih = refl
 
   -- the three equations: the last value, one more, a refusal
   module _ (p : ℕ) where
-    pub at_last : {v : Value} {s next : ℕ} → value_at w c d t p ≡ Found v s next true → valuesAt w c d t p ≡ values (item_of t v ∷ []) next
-    unfolding valuesAt valuesFrom
-    at_last e = rw (valuesFrom, e)
+    pub at_last : {v : Value} {s next : ℕ} → value_at w c d t p ≡ Found v s next true → values_at w c d t p ≡ values (item_of t v ∷ []) next
+    unfolding values_at values_from
+    at_last e = rw (values_from, e)
 
-    pub at_more : p ≤ length t → {v : Value} {s next : ℕ} → value_at w c d t p ≡ Found v s next false → valuesAt w c d t p ≡ more (item_of t v) (valuesAt w c d t next)
-    unfolding valuesAt valuesFrom
+    pub at_more : p ≤ length t → {v : Value} {s next : ℕ} → value_at w c d t p ≡ Found v s next false → values_at w c d t p ≡ more (item_of t v) (values_at w c d t next)
+    unfolding values_at values_from
     at_more h {v} {s} {next} e =
         let a = sane w c d t pc pd p h in
         let f = next_more p (length t) e a in
-        let i = next-in p (length t) e a in
-        rw (valuesFrom, e) (ap (more (item_of t v)) (enough (length t) (suc (length t)) next i (omega arith) (omega arith)))
+        let i = next_in p (length t) e a in
+        rw (values_from, e) (ap (more (item_of t v)) (enough (length t) (suc (length t)) next i (omega arith) (omega arith)))
 
-    pub at-wrong : {fault : Fault} {s at : ℕ} → value_at w c d t p ≡ Refused fault s at → valuesAt w c d t p ≡ wrong fault s at
-    unfolding valuesAt valuesFrom
-    at-wrong e = rw (valuesFrom, e)
+    pub at-wrong : {fault : Fault} {s at : ℕ} → value_at w c d t p ≡ Refused fault s at → values_at w c d t p ≡ wrong fault s at
+    unfolding values_at values_from
+    at-wrong e = rw (values_from, e)
 
 -- the values after the first
 rest_of : (i : Item) (x : Values) {vs : List Item} {end : ℕ} → more i x ≡ values vs end → (us : List Item) × (vs ≡ i ∷ us) × (x ≡ values us end)
@@ -58,12 +58,12 @@ rest_of i (values us e) h = (us, (cc), (cc))
 rest_of i (wrong fault s at) h = let z : ◌≡◌ {A = ℕ} 0 1 = cc in absurd (omega arith)
 
 -- a record that is accepted, value by value: the last, one more, and none that is refused
-module _ (w c d : ℕ) (t : List ℕ) (pc : 0 < c) (pd : 0 < d) (p : ℕ) (h : p ≤ length t) {vs : List Item} {end : ℕ} (r : valuesAt w c d t p ≡ values vs end) where
-  pub last-is : {v : Value} {s next : ℕ} → value_at w c d t p ≡ Found v s next true → (vs ≡ item_of t v ∷ []) × (next ≡ end)
-  last-is e = let q = sym (at_last w c d t pc pd p e) ∙ r in ((cc), (cc))
+module _ (w c d : ℕ) (t : List ℕ) (pc : 0 < c) (pd : 0 < d) (p : ℕ) (h : p ≤ length t) {vs : List Item} {end : ℕ} (r : values_at w c d t p ≡ values vs end) where
+  pub last_is : {v : Value} {s next : ℕ} → value_at w c d t p ≡ Found v s next true → (vs ≡ item_of t v ∷ []) × (next ≡ end)
+  last_is e = let q = sym (at_last w c d t pc pd p e) ∙ r in ((cc), (cc))
 
-  pub more-is : {v : Value} {s next : ℕ} → value_at w c d t p ≡ Found v s next false → (us : List Item) × (vs ≡ item_of t v ∷ us) × (valuesAt w c d t next ≡ values us end)
-  more-is {v} {s} {next} e = rest_of (item_of t v) (valuesAt w c d t next) (sym (at_more w c d t pc pd p h e) ∙ r)
+  pub more-is : {v : Value} {s next : ℕ} → value_at w c d t p ≡ Found v s next false → (us : List Item) × (vs ≡ item_of t v ∷ us) × (values_at w c d t next ≡ values us end)
+  more-is {v} {s} {next} e = rest_of (item_of t v) (values_at w c d t next) (sym (at_more w c d t pc pd p h e) ∙ r)
 
   pub none-wrong : {fault : Fault} {s at : ℕ} → value_at w c d t p ≡ Refused fault s at → ⊥
   none-wrong e = let q = sym (at-wrong w c d t pc pd p e) ∙ r in let z : ◌≡◌ {A = ℕ} 0 1 = cc in omega arith
@@ -71,59 +71,59 @@ module _ (w c d : ℕ) (t : List ℕ) (pc : 0 < c) (pd : 0 < d) (p : ℕ) (h : p
 -- ---- the loop over a record
 
 -- one value more: what is kept
-kept_more : (t : List ℕ) (n k : ℕ) (v : Value) (vs : List Item) → keptFrom n k (trim (item_of t v) vs) ≡ keptFrom (n + 1) (keptAfter v k (n + 1)) vs
+kept_more : (t : List ℕ) (n k : ℕ) (v : Value) (vs : List Item) → kept_from n k (trim (item_of t v) vs) ≡ kept_from (n + 1) (kept_after v k (n + 1)) vs
 kept_more t n k Default [] = refl
 kept_more t n k (Whole neg size) [] = refl
 kept_more t n k (Real neg m eneg e double) [] = refl
 kept_more t n k (Text start count) [] = refl
 kept_more t n k v (u ∷ vs) = omega arith
 
-one_more : (t : List ℕ) (n k : ℕ) (v : Value) (vs : Values) → checkFrom n k (more (item_of t v) vs) ≡ checkFrom (n + 1) (keptAfter v k (n + 1)) vs
+one_more : (t : List ℕ) (n k : ℕ) (v : Value) (vs : Values) → check_from n k (more (item_of t v) vs) ≡ check_from (n + 1) (kept_after v k (n + 1)) vs
 one_more t n k v (values vs end) =
     let e : n + suc (length vs) ≡ n + 1 + length vs = omega arith in
     ap₂ (λ (a b : ℕ). Done a b end) e (kept_more t n k v (trimmed vs))
 one_more t n k v (wrong fault s at) = refl
 
-kept-all : (vs : List Item) → keptFrom 0 0 vs ≡ length vs
-kept-all [] = refl
-kept-all (v ∷ vs) = zero-add _
+kept_all : (vs : List Item) → kept_from 0 0 vs ≡ length vs
+kept_all [] = refl
+kept_all (v ∷ vs) = zero-add _
 
 -- the check from nothing is the check
-pub check-start : (vs : Values) → checkFrom 0 0 vs ≡ checked vs
-check-start (values vs end) = ap₂ (λ (a b : ℕ). Done a b end) (zero-add (length vs)) (kept-all (trimmed vs))
-check-start (wrong fault s at) = refl
+pub check_start : (vs : Values) → check_from 0 0 vs ≡ checked vs
+check_start (values vs end) = ap₂ (λ (a b : ℕ). Done a b end) (zero-add (length vs)) (kept_all (trimmed vs))
+check_start (wrong fault s at) = refl
 
 module _ {v : Value} (k n : ℕ) where
-  pub after-default : v ≡ Default → k ≡ keptAfter v k n
-  after-default e = rw e
+  pub after_default : v ≡ Default → k ≡ kept_after v k n
+  after_default e = rw e
 
-  pub after-whole : {neg : Bool} {size : ℕ} → v ≡ Whole neg size → n ≡ keptAfter v k n
-  after-whole e = rw e
+  pub after_whole : {neg : Bool} {size : ℕ} → v ≡ Whole neg size → n ≡ kept_after v k n
+  after_whole e = rw e
 
-  pub after-real : {neg : Bool} {m : ℕ} {eneg : Bool} {e : ℕ} {double : Bool} → v ≡ Real neg m eneg e double → n ≡ keptAfter v k n
-  after-real e = rw e
+  pub after_real : {neg : Bool} {m : ℕ} {eneg : Bool} {e : ℕ} {double : Bool} → v ≡ Real neg m eneg e double → n ≡ kept_after v k n
+  after_real e = rw e
 
-  pub after_text : {start count : ℕ} → v ≡ Text start count → n ≡ keptAfter v k n
+  pub after_text : {start count : ℕ} → v ≡ Text start count → n ≡ kept_after v k n
   after_text e = rw e
 
 module _ {file : List ℕ} {base w lines : ℕ} (st : Stands file base w lines) {c d : ℕ} (pc : 0 < c) (pd : 0 < d) where
-  module _ (q n k : ℕ) {g : Got} {r : Check} (h : q ≤ lines * w) (eg : g ≡ value_at w c d (text_of file base w lines) q) (inv : checkFrom n k (valuesAt w c d (text_of file base w lines) q) ≡ r) where
-    module _ {v : Value} {s next : ℕ} {last : Bool} (e : g ≡ Found v s next last) {k' : ℕ} (ek : k' ≡ keptAfter v k (n + 1)) where
-      pub check-last : last ≡ true → Done (n + 1) k' next ≡ r
-      check-last l =
+  module _ (q n k : ℕ) {g : Got} {r : Check} (h : q ≤ lines * w) (eg : g ≡ value_at w c d (text_of file base w lines) q) (inv : check_from n k (values_at w c d (text_of file base w lines) q) ≡ r) where
+    module _ {v : Value} {s next : ℕ} {last : Bool} (e : g ≡ Found v s next last) {k' : ℕ} (ek : k' ≡ kept_after v k (n + 1)) where
+      pub check_last : last ≡ true → Done (n + 1) k' next ≡ r
+      check_last l =
           let t = text_of file base w lines in
           ap (λ (x : ℕ). Done (n + 1) x next) (ek ∙ sym (kept_more t n k v []))
-          ∙ sym (ap (checkFrom n k) (at_last w c d t pc pd q (sym eg ∙ e ∙ ap (Found v s next) l))) ∙ inv
+          ∙ sym (ap (check_from n k) (at_last w c d t pc pd q (sym eg ∙ e ∙ ap (Found v s next) l))) ∙ inv
 
-      pub check-more : last ≡ false → checkFrom (n + 1) k' (valuesAt w c d (text_of file base w lines) next) ≡ r
-      check-more l =
+      pub check_more : last ≡ false → check_from (n + 1) k' (values_at w c d (text_of file base w lines) next) ≡ r
+      check_more l =
           let t = text_of file base w lines in
           let i : q ≤ length t = omega (arith, length-text file base w lines st) in
-          ap (λ (x : ℕ). checkFrom (n + 1) x (valuesAt w c d t next)) ek
-          ∙ sym (ap (checkFrom n k) (at_more w c d t pc pd q i (sym eg ∙ e ∙ ap (Found v s next) l)) ∙ one_more t n k v (valuesAt w c d t next)) ∙ inv
+          ap (λ (x : ℕ). check_from (n + 1) x (values_at w c d t next)) ek
+          ∙ sym (ap (check_from n k) (at_more w c d t pc pd q i (sym eg ∙ e ∙ ap (Found v s next) l)) ∙ one_more t n k v (values_at w c d t next)) ∙ inv
 
-    pub check-wrong : {fault : Fault} {s at : ℕ} → g ≡ Refused fault s at → Wrong fault s at ≡ r
-    check-wrong e = sym (ap (checkFrom n k) (at-wrong w c d (text_of file base w lines) pc pd q (sym eg ∙ e))) ∙ inv
+    pub check_wrong : {fault : Fault} {s at : ℕ} → g ≡ Refused fault s at → Wrong fault s at ≡ r
+    check_wrong e = sym (ap (check_from n k) (at-wrong w c d (text_of file base w lines) pc pd q (sym eg ∙ e))) ∙ inv
 
 -- n values stand between p and q
 module _ (p n q m : ℕ) (i : p + n ≤ q) {g : Got} where
@@ -136,4 +136,4 @@ module _ (p n q m : ℕ) (i : p + n ≤ q) {g : Got} where
 pub count_fits : {file : List ℕ} {base w lines : ℕ} → Stands file base w lines → (p n q : ℕ) → p + n ≤ q → q ≤ lines * w → n + 1 < 2 ^ 64
 count_fits {file} {base} {w} {lines} st p n q h k = omega (arith, small file base w lines st)
 
-pub ruleset steps = (check-start, after-default, after-whole, after-real, after_text, check-last, check-more, check-wrong, count_next, count-from, count_fits, next-in, next-less, wrong-behind, wrong-at)
+pub ruleset steps = (check_start, after_default, after_whole, after_real, after_text, check_last, check_more, check_wrong, count_next, count-from, count_fits, next_in, next_less, wrong-behind, wrong-at)

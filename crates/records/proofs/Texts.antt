@@ -6,7 +6,7 @@ use native.Mathlib.Nat.{mul-le-mul_left}
 use native.Mathlib.Omega.{arith}
 use lib.ListN.{length, get_or, drop, take}
 use Rattle.columns.specs.Columns.{text_of}
-use Rattle.columns.proofs.Text.{length-text as text-length, text-column, rest-in-file, rest-in-text, text-rest, text-char, text-end}
+use Rattle.columns.proofs.Text.{length-text as text-length, text_column, rest_in_file, rest_in_text, text_rest, text_char, text-end}
 use Rattle.records.specs.Reading.{Stands}
 
 module _ (file : List ℕ) (base w lines : ℕ) (st : Stands file base w lines) where
@@ -21,21 +21,21 @@ module _ (file : List ℕ) (base w lines : ℕ) (st : Stands file base w lines) 
 
   module _ (p : ℕ) (h : p < lines * w) where
     pub column : p % w < w
-    column = text-column file base w lines st.wide narrow st.inside p h
+    column = text_column file base w lines st.wide narrow st.inside p h
 
     -- the rest of p's line ends within the file
     pub index : base + p / w * 81 + p % w + (w - p % w) ≤ length file
-    index = rest-in-file file base w lines st.wide narrow st.inside p h
+    index = rest_in_file file base w lines st.wide narrow st.inside p h
 
     -- and within the text
     pub rest_in : p + (w - p % w) ≤ lines * w
-    rest_in = rest-in-text file base w lines st.wide narrow st.inside p h
+    rest_in = rest_in_text file base w lines st.wide narrow st.inside p h
 
     pub rest_of : take (w - p % w) (drop p (text_of file base w lines)) ≡ take (w - p % w) (drop (base + p / w * 81 + p % w) file)
-    rest_of = text-rest file base w lines st.wide narrow st.inside p h
+    rest_of = text_rest file base w lines st.wide narrow st.inside p h
 
     pub char_of : get_or (text_of file base w lines) p 0 ≡ get_or file (base + p / w * 81 + p % w) 0
-    char_of = text-char file base w lines st.wide narrow st.inside p h
+    char_of = text_char file base w lines st.wide narrow st.inside p h
 
-  pub char-end : (p : ℕ) → lines * w ≤ p → get_or (text_of file base w lines) p 0 ≡ 0
-  char-end p h = text-end file base w lines st.wide narrow st.inside p h
+  pub char_end : (p : ℕ) → lines * w ≤ p → get_or (text_of file base w lines) p 0 ≡ 0
+  char_end p h = text-end file base w lines st.wide narrow st.inside p h

@@ -3,16 +3,16 @@
 use Rattle.std.specs.Prelude.{◌≡◌, refl, Bool, true, false, List, [], ◌∷◌, map, ℕ}
 use Prim.Native.String.{String}
 use Rattle.columns.specs.declared.Fault.TheVariants.{Spelling, Limit}
-use Rattle.columns.specs.Decimal.{dec, lastDigits, toLeft}
-use Rattle.values.specs.Number.{number_of, powerAt, power}
+use Rattle.columns.specs.Decimal.{dec, last_digits, to_left}
+use Rattle.values.specs.Number.{number_of, power_at, power}
 use Rattle.values.specs.Head.{head_of}
 use Rattle.values.specs.Value.{Item, default, whole, real, text, seen, spelled}
 use Rattle.columns.specs.Quoted.{codes}
 use Rattle.records.specs.declared.Opening.{Opening}
 use Rattle.records.specs.declared.Opening.TheVariants.{Opened, Wrong}
-use Rattle.records.specs.Record.{next_at, value_at, Values, values, wrong, valuesFrom, valuesAt, trimmed}
-use Rattle.records.specs.Flow.{firm, gap, piece, flow, lineCount, cut, inLines}
-use Rattle.records.specs.Global.{mayDelimit, opened, recordDelimiter, openingOf, kind_of, in_range, globalFits}
+use Rattle.records.specs.Record.{next_at, value_at, Values, values, wrong, values_from, values_at, trimmed}
+use Rattle.records.specs.Flow.{firm, gap, piece, flow, line_count, cut, in_lines}
+use Rattle.records.specs.Global.{may_delimit, opened, record_delimiter, opening_of, kind_of, in_range, global_fits}
 
 -- the columns of a line, the text, and its values with the position behind them, or the refusal, where its value starts and where it shows
 abbrev records : List (ℕ × String × Values)
@@ -85,12 +85,12 @@ globals =
 
 -- what is computed is what is expected
 pub record Examples : Type 0 where
-  pub read : map (λ (e : ℕ × String × Values). valuesAt e.0 44 59 (codes e.1) 0) records
+  pub read : map (λ (e : ℕ × String × Values). values_at e.0 44 59 (codes e.1) 0) records
       ≡ map (λ (e : ℕ × String × Values). e.2) records
-  pub opened : map (λ (e : String × Opening). openingOf (codes e.0)) openings ≡ map (λ (e : String × Opening). e.1) openings
-  pub fit : map (λ (e : ℕ × Item × Bool). globalFits e.0 (seen e.1)) globals ≡ map (λ (e : ℕ × Item × Bool). e.2) globals
+  pub opened : map (λ (e : String × Opening). opening_of (codes e.0)) openings ≡ map (λ (e : String × Opening). e.1) openings
+  pub fit : map (λ (e : ℕ × Item × Bool). global_fits e.0 (seen e.1)) globals ≡ map (λ (e : ℕ × Item × Bool). e.2) globals
   -- a value that has no room goes to the next line, and so does a count with its H and first character; a string's text flows on
-  pub written : inLines 8
+  pub written : in_lines 8
       (flow 8 0 (whole false 116
       ∷ (real false 15 true 1 false ∷ (default ∷ (real true 2 false 0 true ∷ (text (codes "a;,") ∷ []))))))
       ≡ codes "116,    " ∷ (codes "15.E-1,," ∷ (codes "-2.D0,  " ∷ (codes "3Ha;,;  " ∷ [])))
@@ -98,6 +98,6 @@ pub record Examples : Type 0 where
 
 -- all of them
 pub examples : Examples
-unfolding valuesAt valuesFrom value_at next_at head_of number_of powerAt power mayDelimit opened recordDelimiter openingOf kind_of in_range
-    globalFits inLines lineCount cut toLeft flow piece gap firm spelled dec lastDigits
+unfolding values_at values_from value_at next_at head_of number_of power_at power may_delimit opened record_delimiter opening_of kind_of in_range
+    global_fits in_lines line_count cut to_left flow piece gap firm spelled dec last_digits
 examples = record { read = refl; opened = refl; fit = refl; written = refl; kept = refl }

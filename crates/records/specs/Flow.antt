@@ -1,6 +1,6 @@
 -- How a record is written: its values in lines of w columns, as a text of which position p stands on line p / w.
 use Rattle.std.specs.Prelude.{Bool, true, false, cond, List, [], ◌∷◌, ◌++◌, ℕ, zero, suc, ◌+◌, ◌-◌, ◌/◌, ◌%◌, length, replicate, take, drop, leb}
-use Rattle.columns.specs.Decimal.{toLeft}
+use Rattle.columns.specs.Decimal.{to_left}
 use Rattle.columns.specs.Letters.{space, comma, semicolon}
 use Rattle.values.specs.Value.{Item, default, whole, real, text, head, spelled, Fine, Printed}
 
@@ -35,7 +35,7 @@ flow w p (v ∷ vs) = piece w p v (none vs) ++ flow w (p + length (piece w p v (
 
 -- the values that a record can hold, one at least
 pub data Fines : List Item → Type 0 where
-  fine-one : {v : Item} → Fine v → Fines (v ∷ [])
+  fine_one : {v : Item} → Fine v → Fines (v ∷ [])
   fine_more : {v u : Item} {vs : List Item} → Fine v → Fines (u ∷ vs) → Fines (v ∷ (u ∷ vs))
 
 -- whose strings are of bytes that a line may hold
@@ -46,14 +46,14 @@ Prints (v ∷ vs) = Printed v × Prints vs
 -- ---- a text in lines
 
 -- how many lines of w columns n characters take
-unfoldable pub lineCount : ℕ → ℕ → ℕ
-lineCount w n = (n + (w - 1)) / w
+unfoldable pub line_count : ℕ → ℕ → ℕ
+line_count w n = (n + (w - 1)) / w
 
 -- the first n lines of w columns of a text, the last filled with blanks
 unfoldable pub cut : ℕ → ℕ → List ℕ → List (List ℕ)
 cut w zero t = []
-cut w (suc n) t = toLeft w (take w t) ∷ cut w n (drop w t)
+cut w (suc n) t = to_left w (take w t) ∷ cut w n (drop w t)
 
 -- all lines of a text
-unfoldable pub inLines : ℕ → List ℕ → List (List ℕ)
-inLines w t = cut w (lineCount w (length t)) t
+unfoldable pub in_lines : ℕ → List ℕ → List (List ℕ)
+in_lines w t = cut w (line_count w (length t)) t

@@ -4,7 +4,7 @@ use Rattle.values.specs.declared.Value.{Value}
 use Rattle.values.specs.declared.Value.TheVariants.{Default, Whole, Real, Text}
 use Rattle.values.specs.Number.{joins}
 use Rattle.columns.specs.Quoted.{codes}
-use Rattle.columns.specs.Letters.{comma, semicolon, digit1, letterH}
+use Rattle.columns.specs.Letters.{comma, semicolon, digit1, letter_h}
 use Rattle.records.specs.Flow.{delimiter}
 use Rattle.records.specs.declared.Opening.{Opening}
 use Rattle.records.specs.declared.Opening.TheVariants.{Opened, Wrong}
@@ -14,47 +14,47 @@ use Rattle.records.specs.declared.GlobalKind.TheVariants.{String, Real as RealKi
 -- ---- the opening
 
 -- a delimiter is no blank (a line's bytes are 32 to 126), digit, + - . D E H
-unfoldable pub mayDelimit : ℕ → Bool
-mayDelimit x = leb 33 x && not (joins x)
+unfoldable pub may_delimit : ℕ → Bool
+may_delimit x = leb 33 x && not (joins x)
 
 -- both may, and they differ
 unfoldable pub opened : ℕ → ℕ → ℕ → Bool → Opening
-opened c d next last = cond (mayDelimit c && (mayDelimit d && not (eqb c d))) (Opened c d next last) Wrong
+opened c d next last = cond (may_delimit c && (may_delimit d && not (eqb c d))) (Opened c d next last) Wrong
 
 -- `1H` stands at p
-abbrev pub oneH : List ℕ → ℕ → Bool
-oneH t p = eqb (get_or t p 0) digit1 && eqb (get_or t (p + 1) 0) letterH
+abbrev pub one_h : List ℕ → ℕ → Bool
+one_h t p = eqb (get_or t p 0) digit1 && eqb (get_or t (p + 1) 0) letter_h
 
 -- from p on: c or ; (record delimiter semicolon), or 1H, d, and c or d
-unfoldable pub recordDelimiter : ℕ → List ℕ → ℕ → Opening
-recordDelimiter c t p =
+unfoldable pub record_delimiter : ℕ → List ℕ → ℕ → Opening
+record_delimiter c t p =
     let x = get_or t p 0 in
     let d = get_or t (p + 2) 0 in
     let y = get_or t (p + 3) 0 in
     cond (eqb x c) (opened c semicolon (p + 1) false)
     (cond (eqb x semicolon) (opened c semicolon (p + 1) true)
-    (cond (oneH t p) (cond (eqb y c) (opened c d (p + 4) false) (cond (eqb y d) (opened c d (p + 4) true) Wrong)) Wrong))
+    (cond (one_h t p) (cond (eqb y c) (opened c d (p + 4) false) (cond (eqb y d) (opened c d (p + 4) true) Wrong)) Wrong))
 
 -- `,` (delimiter comma) or `1H`, c, c; then the record delimiter
-unfoldable pub openingOf : List ℕ → Opening
-openingOf t =
+unfoldable pub opening_of : List ℕ → Opening
+opening_of t =
     let c = get_or t 2 0 in
-    cond (eqb (get_or t 0 0) comma) (recordDelimiter comma t 1)
-    (cond (oneH t 0 && eqb (get_or t 3 0) c) (recordDelimiter c t 4) Wrong)
+    cond (eqb (get_or t 0 0) comma) (record_delimiter comma t 1)
+    (cond (one_h t 0 && eqb (get_or t 3 0) c) (record_delimiter c t 4) Wrong)
 
 -- the opening as it is written: `1H,,1H;,`, or `1H,,1H;;` if all else is default
-unfoldable pub canonicalOpening : Bool → List ℕ
-canonicalOpening last = codes "1H,,1H;" ++ (delimiter last ∷ [])
+unfoldable pub canonical_opening : Bool → List ℕ
+canonical_opening last = codes "1H,,1H;" ++ (delimiter last ∷ [])
 
 -- ---- kinds and ranges
 
 -- the fields that follow the delimiters
-abbrev pub firstField : ℕ
-firstField = 3
+abbrev pub first_field : ℕ
+first_field = 3
 
 -- more than 24 fields are refused
-abbrev pub lastField : ℕ
-lastField = 24
+abbrev pub last_field : ℕ
+last_field = 24
 
 -- from low to high
 abbrev pub within : ℕ → ℕ → ℕ → Bool
@@ -75,20 +75,20 @@ unfoldable pub in_range : ℕ → Bool → ℕ → Bool
 in_range n neg size = cond (eqb n 14) (up_to 11 neg size) (cond (eqb n 23) (up_to 6 neg size) true)
 
 -- a default fits every kind; a real's field takes an integer too; where an integer is asked for, it keeps to its range
-abbrev pub isKind : GlobalKind → ℕ → Value → Bool
-isKind String n Default = true
-isKind String n (Whole neg size) = false
-isKind String n (Real neg m eneg e double) = false
-isKind String n (Text start count) = true
-isKind RealKind n Default = true
-isKind RealKind n (Whole neg size) = true
-isKind RealKind n (Real neg m eneg e double) = true
-isKind RealKind n (Text start count) = false
-isKind Integer n Default = true
-isKind Integer n (Whole neg size) = in_range n neg size
-isKind Integer n (Real neg m eneg e double) = false
-isKind Integer n (Text start count) = false
+abbrev pub is_kind : GlobalKind → ℕ → Value → Bool
+is_kind String n Default = true
+is_kind String n (Whole neg size) = false
+is_kind String n (Real neg m eneg e double) = false
+is_kind String n (Text start count) = true
+is_kind RealKind n Default = true
+is_kind RealKind n (Whole neg size) = true
+is_kind RealKind n (Real neg m eneg e double) = true
+is_kind RealKind n (Text start count) = false
+is_kind Integer n Default = true
+is_kind Integer n (Whole neg size) = in_range n neg size
+is_kind Integer n (Real neg m eneg e double) = false
+is_kind Integer n (Text start count) = false
 
 -- field n may hold this value; there is no field past the last
-unfoldable pub globalFits : ℕ → Value → Bool
-globalFits n v = leb n lastField && isKind (kind_of n) n v
+unfoldable pub global_fits : ℕ → Value → Bool
+global_fits n v = leb n last_field && is_kind (kind_of n) n v

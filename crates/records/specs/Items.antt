@@ -6,11 +6,11 @@ use Rattle.records.specs.declared.Got.TheVariants.{Found, Refused}
 use Rattle.records.specs.Record.{value_at, behind}
 
 -- a value that was read (a refused one stands for nothing)
-abbrev pub gotItem : List ℕ → Got → Item
-gotItem t (Found v s next last) = item_of t v
-gotItem t (Refused n s at) = default
+abbrev pub got_item : List ℕ → Got → Item
+got_item t (Found v s next last) = item_of t v
+got_item t (Refused n s at) = default
 
 -- n values from position p on
-unfoldable pub itemsFrom : ℕ → ℕ → ℕ → List ℕ → ℕ → ℕ → List Item
-itemsFrom w c d t p zero = []
-itemsFrom w c d t p (suc n) = gotItem t (value_at w c d t p) ∷ itemsFrom w c d t (behind (value_at w c d t p)) n
+unfoldable pub items_from : ℕ → ℕ → ℕ → List ℕ → ℕ → ℕ → List Item
+items_from w c d t p zero = []
+items_from w c d t p (suc n) = got_item t (value_at w c d t p) ∷ items_from w c d t (behind (value_at w c d t p)) n

@@ -1,11 +1,11 @@
 -- The code's form: what the code knows besides: where a record stands in its file, the bounds of what is read, and a record's check as the
 -- code counts it.
 use Rattle.std.specs.Prelude.{◌≡◌, Bool, not, ◌&&◌, List, [], ◌∷◌, ℕ, ◌+◌, ◌*◌, ◌^◌, ◌≤◌, ◌<◌, length, leb}
-use Rattle.columns.specs.Format.{lineColumns, lineBytes, mostBytes, mostInteger}
+use Rattle.columns.specs.Format.{line_columns, line_bytes, most_bytes, most_integer}
 use Rattle.columns.specs.Letters.{space}
 use Rattle.values.specs.declared.Value.{Value}
 use Rattle.values.specs.declared.Value.TheVariants.{Default, Whole, Real, Text}
-use Rattle.values.specs.Number.{isDigit}
+use Rattle.values.specs.Number.{is_digit}
 use Rattle.values.specs.Value.{Item}
 use Rattle.records.specs.declared.Next.{Next}
 use Rattle.records.specs.declared.Next.TheVariants.{Delimiter, Other}
@@ -20,9 +20,9 @@ use Rattle.records.specs.Record.{Values, values, wrong, trimmed, kept}
 -- the first w columns of so many lines stand in the file from base on
 pub record Stands (file : List ℕ) (base w lines : ℕ) : Type 0 where
   pub wide : 1 ≤ w
-  pub narrow : w ≤ lineColumns
-  pub size : length file ≤ mostBytes
-  pub inside : base + lines * lineBytes ≤ length file
+  pub narrow : w ≤ line_columns
+  pub size : length file ≤ most_bytes
+  pub inside : base + lines * line_bytes ≤ length file
 
 -- where what stands behind the blanks is
 abbrev pub place : Next → ℕ
@@ -34,7 +34,7 @@ place (Other at) = at
 -- a value keeps its limits; a string's characters are among the first m of a text
 abbrev pub Writable : ℕ → Value → Type 0
 Writable m Default = Unit {0}
-Writable m (Whole neg size) = size ≤ mostInteger
+Writable m (Whole neg size) = size ≤ most_integer
 Writable m (Real neg k eneg e double) = (k < 10 ^ 17) × (e ≤ 400)
 Writable m (Text start count) = (start + count ≤ m) × (1 ≤ count) × (count ≤ 999)
 
@@ -54,8 +54,8 @@ Delimits m (Opened c d next last) = (space < c) × (space < d) × (c ≡ d → �
 Delimits m WrongOpening = Unit {0}
 
 -- no blank (a line's bytes are 32 to 126) and no digit
-abbrev pub setsApart : ℕ → Bool
-setsApart x = leb 33 x && not (isDigit x)
+abbrev pub sets_apart : ℕ → Bool
+sets_apart x = leb 33 x && not (is_digit x)
 
 -- ---- a record's check
 
@@ -65,18 +65,18 @@ checked (values vs end) = Done (length vs) (kept vs) end
 checked (wrong fault s at) = Wrong fault s at
 
 -- value n comes behind k kept ones
-abbrev pub keptAfter : Value → ℕ → ℕ → ℕ
-keptAfter Default k n = k
-keptAfter (Whole neg size) k n = n
-keptAfter (Real neg m eneg e double) k n = n
-keptAfter (Text start count) k n = n
+abbrev pub kept_after : Value → ℕ → ℕ → ℕ
+kept_after Default k n = k
+kept_after (Whole neg size) k n = n
+kept_after (Real neg m eneg e double) k n = n
+kept_after (Text start count) k n = n
 
 -- how many are kept of n values, k of them so far, and those of vs, which are trimmed
-abbrev pub keptFrom : ℕ → ℕ → List Item → ℕ
-keptFrom n k [] = k
-keptFrom n k (v ∷ vs) = n + length (v ∷ vs)
+abbrev pub kept_from : ℕ → ℕ → List Item → ℕ
+kept_from n k [] = k
+kept_from n k (v ∷ vs) = n + length (v ∷ vs)
 
 -- the same behind n values, k of them kept
-abbrev pub checkFrom : ℕ → ℕ → Values → Check
-checkFrom n k (values vs end) = Done (n + length vs) (keptFrom n k (trimmed vs)) end
-checkFrom n k (wrong fault s at) = Wrong fault s at
+abbrev pub check_from : ℕ → ℕ → Values → Check
+check_from n k (values vs end) = Done (n + length vs) (kept_from n k (trimmed vs)) end
+check_from n k (wrong fault s at) = Wrong fault s at

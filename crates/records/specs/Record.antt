@@ -3,7 +3,7 @@
 use Rattle.std.specs.Prelude.{true, false, cond, List, [], ◌∷◌, ℕ, zero, suc, ◌+◌, ◌-◌, ◌%◌, length, get_or, take, drop, leb, eqb}
 use Rattle.columns.specs.declared.Fault.{Fault}
 use Rattle.columns.specs.declared.Fault.TheVariants.{Spelling, Limit}
-use Rattle.columns.specs.Trim.{trimOnto, trimEnd}
+use Rattle.columns.specs.Trim.{trim_onto, trim_end}
 use Rattle.columns.specs.Letters.{space}
 use Rattle.values.specs.declared.Value.{Value}
 use Rattle.values.specs.declared.Value.TheVariants.{Default, Whole, Real, Text}
@@ -58,13 +58,13 @@ headed c d t s (Count count len) =
 headed c d t s (Plain k) = let end = s + k.len in plain s end (next_at c d t end) k.number
 
 -- nothing before a delimiter is a default; a value's head is read in the rest of its line
-abbrev pub byNext : ℕ → ℕ → ℕ → List ℕ → Next → Got
-byNext w c d t (Delimiter at last) = Found Default at (at + 1) last
-byNext w c d t (Other s) = headed c d t s (head_of (take (w - s % w) (drop s t)))
+abbrev pub by_next : ℕ → ℕ → ℕ → List ℕ → Next → Got
+by_next w c d t (Delimiter at last) = Found Default at (at + 1) last
+by_next w c d t (Other s) = headed c d t s (head_of (take (w - s % w) (drop s t)))
 
 -- the value from position p on
 unfoldable pub value_at : ℕ → ℕ → ℕ → List ℕ → ℕ → Got
-value_at w c d t p = byNext w c d t (next_at c d t p)
+value_at w c d t p = by_next w c d t (next_at c d t p)
 
 -- ---- all of a record
 
@@ -86,21 +86,21 @@ after t rest (Found v s next false) = more (item_of t v) (rest next)
 after t rest (Refused n s at) = wrong n s at
 
 -- at most `fuel` values
-unfoldable pub valuesFrom : ℕ → ℕ → ℕ → ℕ → List ℕ → ℕ → Values
-valuesFrom zero w c d t p = wrong Spelling p p
-valuesFrom (suc fuel) w c d t p = after t (valuesFrom fuel w c d t) (value_at w c d t p)
+unfoldable pub values_from : ℕ → ℕ → ℕ → ℕ → List ℕ → ℕ → Values
+values_from zero w c d t p = wrong Spelling p p
+values_from (suc fuel) w c d t p = after t (values_from fuel w c d t) (value_at w c d t p)
 
 -- all from p on: each takes a character at least
-unfoldable pub valuesAt : ℕ → ℕ → ℕ → List ℕ → ℕ → Values
-valuesAt w c d t p = valuesFrom (suc (length t)) w c d t p
+unfoldable pub values_at : ℕ → ℕ → ℕ → List ℕ → ℕ → Values
+values_at w c d t p = values_from (suc (length t)) w c d t p
 
 -- v before values of which none at the end is a default
 abbrev pub trim : Item → List Item → List Item
-trim v vs = trimOnto is_default v vs
+trim v vs = trim_onto is_default v vs
 
 -- the values without the defaults at the end
 abbrev pub trimmed : List Item → List Item
-trimmed vs = trimEnd is_default vs
+trimmed vs = trim_end is_default vs
 
 -- how many values there are up to the last that is no default
 abbrev pub kept : List Item → ℕ

@@ -1,7 +1,7 @@
 -- The code's form: text laid into a file: position p of the text whose first line begins at base stands in the file at base + p / w * 81 +
 -- p % w. A store past the file's end changes nothing.
 use Rattle.std.specs.Prelude.{◌≡◌, List, [], ◌∷◌, ℕ, suc, ◌+◌, ◌*◌, ◌/◌, ◌%◌, ◌^◌, ◌≤◌, length, set}
-use Rattle.columns.specs.Format.{lineColumns, lineBytes}
+use Rattle.columns.specs.Format.{line_columns, line_bytes}
 use Rattle.values.specs.declared.Value.{Value}
 use Rattle.values.specs.declared.Value.TheVariants.{Default, Whole, Real, Text}
 use Rattle.values.specs.Writing.{front}
@@ -9,7 +9,7 @@ use Rattle.records.specs.Flow.{gap}
 
 -- where position p stands in the file
 abbrev pub index_of : ℕ → ℕ → ℕ → ℕ
-index_of base w p = base + p / w * lineBytes + p % w
+index_of base w p = base + p / w * line_bytes + p % w
 
 -- the characters bs laid over the file o from position p on
 unfoldable pub over : ℕ → ℕ → List ℕ → ℕ → List ℕ → List ℕ
@@ -26,7 +26,7 @@ pub record Room (base w p : ℕ) : Type 0 where
   pub low : base ≤ 2 ^ 40
   pub here : p ≤ 2 ^ 40
   pub wide : 1 ≤ w
-  pub narrow : w ≤ lineColumns
+  pub narrow : w ≤ line_columns
 
 -- how many characters of a string are copied
 abbrev pub copied : Value → ℕ
@@ -36,5 +36,5 @@ copied (Real neg m eneg e double) = 0
 copied (Text start count) = count
 
 -- the position behind a value's piece at p, of the value alone
-unfoldable pub pieceEnd : ℕ → ℕ → Value → ℕ
-pieceEnd w p v = p + gap w p (length (front v) + 1) + length (front v) + copied v + 1
+unfoldable pub piece_end : ℕ → ℕ → Value → ℕ
+piece_end w p v = p + gap w p (length (front v) + 1) + length (front v) + copied v + 1

@@ -1,11 +1,11 @@
 // The canonical flow: values written into the columns of a file's lines. With an empty buffer nothing is written, and the answer measures.
 ghost use Rattle.std.specs.Prelude.{◌≡◌, [], ◌∷◌, ◌++◌, ◌+◌, ◌*◌, ◌^◌, ◌≤◌, ◌<◌, length, replicate};
-ghost use Rattle.columns.specs.Format.{lineColumns, lineBytes};
+ghost use Rattle.columns.specs.Format.{line_columns, line_bytes};
 ghost use Rattle.values.specs.Value.{item_of};
 ghost use Rattle.values.specs.Writing.{front, chars};
-ghost use Rattle.records.specs.Flow.{gap, delimiter, piece, lineCount};
+ghost use Rattle.records.specs.Flow.{gap, delimiter, piece, line_count};
 ghost use Rattle.records.specs.Reading.{Writable};
-ghost use Rattle.records.specs.Written.{Put, Room, copied, pieceEnd};
+ghost use Rattle.records.specs.Written.{Put, Room, copied, piece_end};
 
 use records::position::{column_of, index_of};
 use values::Value;
@@ -15,7 +15,7 @@ pub fn put_char(out: &mut [u8], base: usize, w: usize, p: usize, b: u8) -> usize
     requires base_bound { base ≤ 2 ^ 40 }
     requires p_bound { p ≤ 2 ^ 41 }
     requires le_w { 1 ≤ w }
-    requires w_le_line_columns { w ≤ lineColumns }
+    requires w_le_line_columns { w ≤ line_columns }
     ensures put { Put base w out.old p (b ∷ []) out.new result }
     ensures value { result ≡ p + 1 }
 {
@@ -32,7 +32,7 @@ fn put_each(out: &mut [u8], base: usize, w: usize, p: usize, s: &[u8]) -> usize
     requires base_bound { base ≤ 2 ^ 40 }
     requires s_bound { p + length s.now ≤ 2 ^ 41 }
     requires le_w { 1 ≤ w }
-    requires w_le_line_columns { w ≤ lineColumns }
+    requires w_le_line_columns { w ≤ line_columns }
     ensures put { Put base w out.old p s.now out.new result }
     ensures value { result ≡ p + length s.now }
 {
@@ -50,7 +50,7 @@ pub fn put_all(out: &mut [u8], base: usize, w: usize, p: usize, s: &[u8]) -> usi
     requires base_bound { base ≤ 2 ^ 40 }
     requires s_bound { p + length s.now ≤ 2 ^ 41 }
     requires le_w { 1 ≤ w }
-    requires w_le_line_columns { w ≤ lineColumns }
+    requires w_le_line_columns { w ≤ line_columns }
     ensures put { Put base w out.old p s.now out.new result }
     ensures value { result ≡ p + length s.now }
 {
@@ -70,7 +70,7 @@ fn put_times(out: &mut [u8], base: usize, w: usize, p: usize, b: u8, count: usiz
     requires base_bound { base ≤ 2 ^ 40 }
     requires count_bound { p + count ≤ 2 ^ 41 }
     requires le_w { 1 ≤ w }
-    requires w_le_line_columns { w ≤ lineColumns }
+    requires w_le_line_columns { w ≤ line_columns }
     ensures put { Put base w out.old p (replicate count b) out.new result }
     ensures value { result ≡ p + count }
 {
@@ -88,7 +88,7 @@ pub fn put_run(out: &mut [u8], base: usize, w: usize, p: usize, b: u8, count: us
     requires base_bound { base ≤ 2 ^ 40 }
     requires count_bound { p + count ≤ 2 ^ 41 }
     requires le_w { 1 ≤ w }
-    requires w_le_line_columns { w ≤ lineColumns }
+    requires w_le_line_columns { w ≤ line_columns }
     ensures put { Put base w out.old p (replicate count b) out.new result }
     ensures value { result ≡ p + count }
 {
@@ -108,9 +108,9 @@ pub fn put_run(out: &mut [u8], base: usize, w: usize, p: usize, b: u8, count: us
 // The blanks before n characters that have to stand on one line.
 pub fn gap_of(w: usize, p: usize, n: usize) -> usize
     requires le_w { 1 ≤ w }
-    requires w_le_line_columns { w ≤ lineColumns }
+    requires w_le_line_columns { w ≤ line_columns }
     requires n_bound { n ≤ 2 ^ 40 }
-    ensures { (result ≡ gap w p n) × (result ≤ lineColumns) }
+    ensures { (result ≡ gap w p n) × (result ≤ line_columns) }
 {
     let j = column_of(w, p);
     if j + n <= w { 0 } else { w - j }
@@ -135,7 +135,7 @@ fn put_tail(
     requires base_bound { base ≤ 2 ^ 40 }
     requires p_bound { p ≤ 2 ^ 40 + 200 }
     requires le_w { 1 ≤ w }
-    requires w_le_line_columns { w ≤ lineColumns }
+    requires w_le_line_columns { w ≤ line_columns }
     requires writable { Writable (length src.now) v }
     ensures put { Put base w out.old p (chars src.now v ++ (delimiter last ∷ [])) out.new result }
     ensures lower_bound { (p < result) × (result ≤ p + 1000) }
@@ -191,9 +191,9 @@ fn copied_of(v: Value) -> usize
 pub fn piece_end(w: usize, p: usize, v: Value) -> usize
     requires p_bound { p ≤ 2 ^ 40 }
     requires le_w { 1 ≤ w }
-    requires w_le_line_columns { w ≤ lineColumns }
+    requires w_le_line_columns { w ≤ line_columns }
     requires v_bound { copied v ≤ 999 }
-    ensures value { result ≡ pieceEnd w p v }
+    ensures value { result ≡ piece_end w p v }
     ensures lower_bound { (p < result) × (result ≤ p + 1200) }
 {
     let n = values_spell::front_len(v);
@@ -206,11 +206,11 @@ pub fn piece_end(w: usize, p: usize, v: Value) -> usize
 pub fn spelled_end(w: usize, p: usize, n: usize, v: Value) -> usize
     requires p_bound { p ≤ 2 ^ 40 }
     requires le_w { 1 ≤ w }
-    requires w_le_line_columns { w ≤ lineColumns }
+    requires w_le_line_columns { w ≤ line_columns }
     requires n_bound { n < 2 ^ 40 }
     requires n_value { n ≡ length (front v) + copied v }
-    ensures value { result ≡ pieceEnd w p v }
-    ensures upper_bound { result ≤ p + n + lineBytes }
+    ensures value { result ≡ piece_end w p v }
+    ensures upper_bound { result ≤ p + n + line_bytes }
 {
     let k = copied_of(v);
     let g = gap_of(w, p, n - k + 1);
@@ -220,9 +220,9 @@ pub fn spelled_end(w: usize, p: usize, n: usize, v: Value) -> usize
 // How many lines of w columns p characters take.
 pub fn line_count(w: usize, p: usize) -> usize
     requires le_w { 1 ≤ w }
-    requires w_le_line_columns { w ≤ lineColumns }
+    requires w_le_line_columns { w ≤ line_columns }
     requires p_bound { p ≤ 2 ^ 40 }
-    ensures value { result ≡ lineCount w p }
+    ensures value { result ≡ line_count w p }
     ensures p_bound_2 { (p ≤ result * w) × (result * w < p + w) }
 {
     (p + (w - 1)) / w

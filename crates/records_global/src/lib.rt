@@ -1,10 +1,10 @@
 // The Global section's opening, and what its fields may hold.
 ghost use Rattle.std.specs.Prelude.{◌≡◌, ◌+◌, ◌*◌, ◌≤◌, drop};
 ghost use Rattle.columns.specs.Columns.{text_of};
-ghost use Rattle.columns.specs.Format.{textColumns};
+ghost use Rattle.columns.specs.Format.{text_columns};
 ghost use Rattle.records.specs.Record.{blanks};
-ghost use Rattle.records.specs.Global.{mayDelimit, opened, recordDelimiter, openingOf, kind_of, up_to, in_range, isKind, globalFits};
-ghost use Rattle.records.specs.Reading.{Stands, Delimits, setsApart};
+ghost use Rattle.records.specs.Global.{may_delimit, opened, record_delimiter, opening_of, kind_of, up_to, in_range, is_kind, global_fits};
+ghost use Rattle.records.specs.Reading.{Stands, Delimits, sets_apart};
 
 use columns::format::TEXT_COLUMNS;
 use records::{GlobalKind, Opening};
@@ -12,7 +12,7 @@ use values::Value;
 
 // Neither a blank nor a digit.
 fn sets_apart(x: u8) -> bool
-    ensures { result ≡ setsApart x }
+    ensures { result ≡ sets_apart x }
 {
     if x < 33 {
         return false;
@@ -24,7 +24,7 @@ fn sets_apart(x: u8) -> bool
 }
 
 fn may_delimit(x: u8) -> bool
-    ensures { result ≡ mayDelimit x }
+    ensures { result ≡ may_delimit x }
 {
     match x {
         b'+' => false,
@@ -59,9 +59,9 @@ fn opened_of(c: u8, d: u8, next: usize, last: bool) -> Opening
 
 // The record delimiter and what stands behind it, from position p on.
 fn record_delimiter(file: &[u8], base: usize, lines: usize, c: u8, p: usize) -> Opening
-    requires stands { Stands file.now base textColumns lines }
+    requires stands { Stands file.now base text_columns lines }
     requires p_bound { p ≤ 4 }
-    ensures { result ≡ recordDelimiter c (text_of file.now base textColumns lines) p }
+    ensures { result ≡ record_delimiter c (text_of file.now base text_columns lines) p }
 {
     let x = records_read::char_at(file, base, TEXT_COLUMNS, lines, p);
     if x == c {
@@ -90,8 +90,8 @@ fn record_delimiter(file: &[u8], base: usize, lines: usize, c: u8, p: usize) -> 
 
 // The opening of the Global text, which stands from base on.
 pub fn opening_of(file: &[u8], base: usize, lines: usize) -> Opening
-    requires { Stands file.now base textColumns lines }
-    ensures value { result ≡ openingOf (text_of file.now base textColumns lines) }
+    requires { Stands file.now base text_columns lines }
+    ensures value { result ≡ opening_of (text_of file.now base text_columns lines) }
     ensures delimits { Delimits 8 result }
 {
     let x = records_read::char_at(file, base, TEXT_COLUMNS, lines, 0);
@@ -168,7 +168,7 @@ fn in_range(n: u32, neg: bool, size: u32) -> bool
 }
 
 fn is_kind(k: GlobalKind, n: u32, v: Value) -> bool
-    ensures { result ≡ isKind k n v }
+    ensures { result ≡ is_kind k n v }
 {
     match v {
         Value::Default => true,
@@ -192,7 +192,7 @@ fn is_kind(k: GlobalKind, n: u32, v: Value) -> bool
 
 // Whether Global field n may hold this value.
 pub fn global_fits(n: u32, v: Value) -> bool
-    ensures { result ≡ globalFits n v }
+    ensures { result ≡ global_fits n v }
 {
     if 24 < n {
         return false;

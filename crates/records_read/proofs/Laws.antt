@@ -16,7 +16,7 @@ use Rattle.values.specs.declared.Number.TheVariants.{Whole as WholeOf, Real as R
 use Rattle.values.specs.Head.{head_of}
 use Rattle.values.specs.Number.{number_of}
 use Rattle.values.specs.Reading.{Within}
-use Rattle.values.proofs.Heads.{count-few, count-in, plain_in}
+use Rattle.values.proofs.Heads.{count_few, count_in_lem, plain_in}
 use Rattle.columns.specs.declared.Fault.TheVariants.{Spelling, Limit}
 use Rattle.values.specs.declared.Value.{Value}
 use Rattle.values.specs.declared.Value.TheVariants.{Default, Whole, Real, Text}
@@ -28,61 +28,61 @@ use Rattle.records.specs.declared.Next.{Next}
 use Rattle.records.specs.declared.Next.TheVariants.{Delimiter, Other}
 use Rattle.columns.specs.Columns.{text_of}
 use Rattle.records.specs.Reading.{Stands, place, Sane}
-use Rattle.records.specs.Record.{blanks, mark, next_at, found, beyond, plain, headed, byNext, value_at}
+use Rattle.records.specs.Record.{blanks, mark, next_at, found, beyond, plain, headed, by_next, value_at}
 use Rattle.records.proofs.Bounds.{within, sane}
-use Rattle.records.proofs.Texts.{length-text, small, column, index, char_of, char-end, rest_of, rest_in}
+use Rattle.records.proofs.Texts.{length-text, small, column, index, char_of, char_end, rest_of, rest_in}
 
 module _ {file : List ℕ} {base w lines : ℕ} (st : Stands file base w lines) where
-  pub product-fits : lines * w < 2 ^ 64
-  product-fits = omega (arith, small file base w lines st)
+  pub product_fits : lines * w < 2 ^ 64
+  product_fits = omega (arith, small file base w lines st)
 
   module _ {p : ℕ} (h : p < lines * w) where
-    pub turn-fits : p + 1 < 2 ^ 64
-    turn-fits = omega (arith, small file base w lines st)
+    pub turn_fits : p + 1 < 2 ^ 64
+    turn_fits = omega (arith, small file base w lines st)
 
-    pub index-fits : base + p / w * 81 + p % w < 2 ^ 64
-    index-fits = omega (arith, index file base w lines st p h)
+    pub index_fits : base + p / w * 81 + p % w < 2 ^ 64
+    index_fits = omega (arith, index file base w lines st p h)
 
     module _ {i : ℕ} (e : i ≡ base + p / w * 81 + p % w) where
       pub index_in : i < length file
       index_in = omega (arith, index file base w lines st p h, column file base w lines st p h)
 
-      pub char-in : get_or file i 0 ≡ get_or (text_of file base w lines) p 0
-      char-in = ap (λ (n : ℕ). get_or file n 0) e ∙ sym (char_of file base w lines st p h)
+      pub char_in : get_or file i 0 ≡ get_or (text_of file base w lines) p 0
+      char_in = ap (λ (n : ℕ). get_or file n 0) e ∙ sym (char_of file base w lines st p h)
 
     -- the rest of its line
     module _ {j : ℕ} (ej : j ≡ p % w) where
-      pub column-in : j ≤ w
-      column-in = omega (arith, column file base w lines st p h)
+      pub column_in : j ≤ w
+      column_in = omega (arith, column file base w lines st p h)
 
       module _ {a : ℕ} (ea : a ≡ base + p / w * 81 + p % w) where
         pub end_fits : a + (w - j) < 2 ^ 64
         end_fits = omega (arith, index file base w lines st p h)
 
-        pub end-in : a + (w - j) ≤ length file
-        end-in = omega (arith, index file base w lines st p h)
+        pub end_in : a + (w - j) ≤ length file
+        end_in = omega (arith, index file base w lines st p h)
 
-  pub char-out : {p : ℕ} → lines * w ≤ p → 0 ≡ get_or (text_of file base w lines) p 0
-  char-out {p} h = sym (char-end file base w lines st p h)
+  pub char_out : {p : ℕ} → lines * w ≤ p → 0 ≡ get_or (text_of file base w lines) p 0
+  char_out {p} h = sym (char_end file base w lines st p h)
 
   -- a turn of the loop over blanks
   module _ (q r : ℕ) (e : r ≡ q + blanks (drop q (text_of file base w lines))) where
-    pub skip-ink : {x : ℕ} → x ≡ get_or (text_of file base w lines) q 0 → (x ≡ 32 → ⊥) → q < lines * w → q ≡ r
-    skip-ink g n h =
+    pub skip_ink : {x : ℕ} → x ≡ get_or (text_of file base w lines) q 0 → (x ≡ 32 → ⊥) → q < lines * w → q ≡ r
+    skip_ink g n h =
         let t = text_of file base w lines in
         let k : q < length t = omega (arith, length-text file base w lines st) in
         let z : blanks (drop q t) ≡ 0 = rw (drop-cons t q 0 k, ← g) (simp (ne_eqb _ 32 n)) in
         omega arith
 
-    pub skip-blank : {x : ℕ} → x ≡ get_or (text_of file base w lines) q 0 → x ≡ 32 → q < lines * w → r ≡ q + 1 + blanks (drop (q + 1) (text_of file base w lines))
-    skip-blank g n h =
+    pub skip_blank : {x : ℕ} → x ≡ get_or (text_of file base w lines) q 0 → x ≡ 32 → q < lines * w → r ≡ q + 1 + blanks (drop (q + 1) (text_of file base w lines))
+    skip_blank g n h =
         let t = text_of file base w lines in
         let k : q < length t = omega (arith, length-text file base w lines st) in
         let z : blanks (drop q t) ≡ suc (blanks (drop (q + 1) t)) = rw (drop-cons t q 0 k, ← g, n, add-one) in
         omega arith
 
-    pub skip-end : lines * w ≤ q → q ≡ r
-    skip-end h =
+    pub skip_end : lines * w ≤ q → q ≡ r
+    skip_end h =
         let t = text_of file base w lines in
         let k : length t ≤ q = omega (arith, length-text file base w lines st) in
         let z : blanks (drop q t) ≡ 0 = rw (drop_of_length-le t k) in
@@ -90,25 +90,25 @@ module _ {file : List ℕ} {base w lines : ℕ} (st : Stands file base w lines) 
 
   -- what stands at p is no blank, or it is one and p stands in the text
   module _ {x : ℕ} (p : ℕ) (g : x ≡ get_or (text_of file base w lines) p 0) where
-    ink-none : (x ≡ 32 → ⊥) → p ≡ p + blanks (drop p (text_of file base w lines))
-    ink-none n = pick (leb (lines * w) p) refl
+    ink_none : (x ≡ 32 → ⊥) → p ≡ p + blanks (drop p (text_of file base w lines))
+    ink_none n = pick (leb (lines * w) p) refl
       where
         pick : (b : Bool) → leb (lines * w) p ≡ b → p ≡ p + blanks (drop p (text_of file base w lines))
-        pick true e = skip-end p (p + blanks (drop p (text_of file base w lines))) refl (leb-true (lines * w) p e)
-        pick false e = skip-ink p (p + blanks (drop p (text_of file base w lines))) refl g n (leb-false (lines * w) p e)
+        pick true e = skip_end p (p + blanks (drop p (text_of file base w lines))) refl (leb-true (lines * w) p e)
+        pick false e = skip_ink p (p + blanks (drop p (text_of file base w lines))) refl g n (leb-false (lines * w) p e)
 
-    blank-in : x ≡ 32 → p < lines * w
-    blank-in n = pick (leb (lines * w) p) refl
+    blank_in : x ≡ 32 → p < lines * w
+    blank_in n = pick (leb (lines * w) p) refl
       where
         pick : (b : Bool) → leb (lines * w) p ≡ b → p < lines * w
-        pick true e = absurd (omega (arith, g, n, char-end file base w lines st p (leb-true (lines * w) p e)))
+        pick true e = absurd (omega (arith, g, n, char_end file base w lines st p (leb-true (lines * w) p e)))
         pick false e = leb-false (lines * w) p e
 
     pub blank-fits : x ≡ 32 → p + 1 < 2 ^ 64
-    blank-fits n = turn-fits (blank-in n)
+    blank-fits n = turn_fits (blank_in n)
 
     pub blank_turn : x ≡ 32 → p + 1 ≤ lines * w
-    blank_turn n = omega (arith, blank-in n)
+    blank_turn n = omega (arith, blank_in n)
 
 -- ---- marks
 
@@ -137,13 +137,13 @@ next-parts c d x q t p en ex eq = rw (en, ex, eq)
 -- at p itself, or behind the blank there
 module _ {file : List ℕ} {base w lines : ℕ} (st : Stands file base w lines) (c d : ℕ) {x : ℕ} (p : ℕ) (g : x ≡ get_or (text_of file base w lines) p 0) where
   pub next_here : {n : Next} → (x ≡ 32 → ⊥) → n ≡ mark c d x p → n ≡ next_at c d (text_of file base w lines) p
-  next_here k en = next-parts c d x p (text_of file base w lines) p en g (ink-none st p g k)
+  next_here k en = next-parts c d x p (text_of file base w lines) p en g (ink_none st p g k)
 
   pub next-on : {n : Next} {y q : ℕ} → x ≡ 32 → q ≡ p + 1 + blanks (drop (p + 1) (text_of file base w lines)) → y ≡ get_or (text_of file base w lines) q 0 → n ≡ mark c d y q
       → n ≡ next_at c d (text_of file base w lines) p
   next-on {y = y} {q = q} k eq ey en =
       let t = text_of file base w lines in
-      next-parts c d y q t p en ey (eq ∙ sym (skip-blank st p (p + blanks (drop p t)) refl g k (blank-in st p g k)))
+      next-parts c d y q t p en ey (eq ∙ sym (skip_blank st p (p + blanks (drop p t)) refl g k (blank_in st p g k)))
 
 pub next_place : (c d x q : ℕ) {m : ℕ} {n : Next} → n ≡ mark c d x q → q ≤ m → place n ≤ m
 next_place c d x q en h = rw (en, place-mark c d x q) h
@@ -158,8 +158,8 @@ module _ (v : Value) (s : ℕ) (n : Next) where
   found_none e = rw e
 
 module _ (s : ℕ) (n : Next) where
-  pub beyond-some : {at : ℕ} {last : Bool} → n ≡ Delimiter at last → Refused Limit s at ≡ beyond s n
-  beyond-some e = rw e
+  pub beyond_some : {at : ℕ} {last : Bool} → n ≡ Delimiter at last → Refused Limit s at ≡ beyond s n
+  beyond_some e = rw e
 
   pub beyond-none : {at : ℕ} → n ≡ Other at → Refused Spelling s at ≡ beyond s n
   beyond-none e = rw e
@@ -168,28 +168,28 @@ pub place-fits : {n : Next} {at : ℕ} {last : Bool} → n ≡ Delimiter at last
 place-fits e h = omega (arith, rw e at h)
 
 module _ (s end : ℕ) (n : Next) {k : Number} {r : Got} where
-  pub plain-whole : {neg : Bool} {size : ℕ} → k ≡ WholeOf neg size → r ≡ found (Whole neg size) s n → r ≡ plain s end n k
-  plain-whole e q = q ∙ rw e
+  pub plain_whole : {neg : Bool} {size : ℕ} → k ≡ WholeOf neg size → r ≡ found (Whole neg size) s n → r ≡ plain s end n k
+  plain_whole e q = q ∙ rw e
 
-  pub plain-real : {neg : Bool} {m : ℕ} {eneg : Bool} {x : ℕ} {double : Bool} → k ≡ RealOf neg m eneg x double → r ≡ found (Real neg m eneg x double) s n → r ≡ plain s end n k
-  plain-real e q = q ∙ rw e
+  pub plain_real : {neg : Bool} {m : ℕ} {eneg : Bool} {x : ℕ} {double : Bool} → k ≡ RealOf neg m eneg x double → r ≡ found (Real neg m eneg x double) s n → r ≡ plain s end n k
+  plain_real e q = q ∙ rw e
 
   pub plain-beyond : k ≡ Beyond → r ≡ beyond s n → r ≡ plain s end n k
   plain-beyond e q = q ∙ rw e
 
-pub plain-bad : (s end : ℕ) (n : Next) {k : Number} → k ≡ Bad → Refused Spelling s end ≡ plain s end n k
-plain-bad s end n e = rw e
+pub plain_bad : (s end : ℕ) (n : Next) {k : Number} → k ≡ Bad → Refused Spelling s end ≡ plain s end n k
+plain_bad s end n e = rw e
 
 -- ---- heads
 
 -- the rest of p's line, as a part of the file
 module _ {file : List ℕ} {base w lines : ℕ} (st : Stands file base w lines) {p a j : ℕ} {h : Head} (l : p < lines * w) (ea : a ≡ base + p / w * 81 + p % w) (ej : j ≡ p % w)
     (e : h ≡ head_of (take (a + (w - j) - a) (drop a file))) where
-  rest-length : a + (w - j) - a ≡ w - p % w
-  rest-length = omega arith
+  rest_length : a + (w - j) - a ≡ w - p % w
+  rest_length = omega arith
 
   head-here : h ≡ head_of (take (w - p % w) (drop p (text_of file base w lines)))
-  head-here = e ∙ ap (λ (k : ℕ). head_of (take k (drop a file))) rest-length ∙ ap (λ (i : ℕ). head_of (take (w - p % w) (drop i file))) ea ∙ ap head_of (sym (rest_of file base w lines st p l))
+  head-here = e ∙ ap (λ (k : ℕ). head_of (take k (drop a file))) rest_length ∙ ap (λ (i : ℕ). head_of (take (w - p % w) (drop i file))) ea ∙ ap head_of (sym (rest_of file base w lines st p l))
 
   within-here : Within (lines * w - p) h
   within-here =
@@ -201,33 +201,33 @@ module _ {file : List ℕ} {base w lines : ℕ} (st : Stands file base w lines) 
     pub count-within : Within (lines * w - p) (Count count len)
     count-within = rw eh at within-here
 
-    pub given-count : {r : Got} (c d : ℕ) → r ≡ headed c d (text_of file base w lines) p (Count count len) → r ≡ byNext w c d (text_of file base w lines) (Other p)
+    pub given-count : {r : Got} (c d : ℕ) → r ≡ headed c d (text_of file base w lines) p (Count count len) → r ≡ by_next w c d (text_of file base w lines) (Other p)
     given-count c d q = q ∙ ap (headed c d (text_of file base w lines) p) (sym eh ∙ head-here)
 
   module _ {k : Token} (eh : h ≡ Plain k) where
     pub plain-within : Within (lines * w - p) (Plain k)
     plain-within = rw eh at within-here
 
-    pub given-plain : {r : Got} (c d : ℕ) → r ≡ headed c d (text_of file base w lines) p (Plain k) → r ≡ byNext w c d (text_of file base w lines) (Other p)
+    pub given-plain : {r : Got} (c d : ℕ) → r ≡ headed c d (text_of file base w lines) p (Plain k) → r ≡ by_next w c d (text_of file base w lines) (Other p)
     given-plain c d q = q ∙ ap (headed c d (text_of file base w lines) p) (sym eh ∙ head-here)
 
 -- past the text's end there is nothing to read
-no-head : head_of [] ≡ Plain (record { number = Bad; len = 0 })
+no_head : head_of [] ≡ Plain (record { number = Bad; len = 0 })
 unfolding head_of number_of
-no-head = refl
+no_head = refl
 
-pub given-none : {file : List ℕ} {base w lines : ℕ} → Stands file base w lines → (c d s : ℕ) → lines * w ≤ s → Refused Spelling s s ≡ byNext w c d (text_of file base w lines) (Other s)
+pub given-none : {file : List ℕ} {base w lines : ℕ} → Stands file base w lines → (c d s : ℕ) → lines * w ≤ s → Refused Spelling s s ≡ by_next w c d (text_of file base w lines) (Other s)
 given-none {file} {base} {w} {lines} st c d s l =
     let t = text_of file base w lines in
     let k : length t ≤ s = omega (arith, length-text file base w lines st) in
-    let e : head_of (take (w - s % w) (drop s t)) ≡ Plain (record { number = Bad; len = 0 }) = ap (λ (y : List ℕ). head_of (take (w - s % w) y)) (drop_of_length-le t k) ∙ ap head_of (take-nil (w - s % w)) ∙ no-head in
+    let e : head_of (take (w - s % w) (drop s t)) ≡ Plain (record { number = Bad; len = 0 }) = ap (λ (y : List ℕ). head_of (take (w - s % w) y)) (drop_of_length-le t k) ∙ ap head_of (take-nil (w - s % w)) ∙ no_head in
     ap (Refused Spelling s) (sym (add-zero s)) ∙ ap (headed c d t s) (sym e)
 
 -- ---- put together
 
 module _ {file : List ℕ} {base w lines : ℕ} (st : Stands file base w lines) where
-  pub place-small : (n : Next) → place n ≤ lines * w → place n ≤ 16000000
-  place-small n h = omega (arith, small file base w lines st)
+  pub place_small : (n : Next) → place n ≤ lines * w → place n ≤ 16000000
+  place_small n h = omega (arith, small file base w lines st)
 
   pub place_in : {n : Next} {at : ℕ} {last : Bool} → n ≡ Delimiter at last → place n ≤ lines * w → at + 1 < 2 ^ 64
   place_in e h = omega (arith, small file base w lines st, rw e at h)
@@ -235,50 +235,50 @@ module _ {file : List ℕ} {base w lines : ℕ} (st : Stands file base w lines) 
   pub sum_fits : (s a : ℕ) → s ≤ lines * w → a ≤ lines * w - s → s + a < 2 ^ 64
   sum_fits s a h k = omega (arith, small file base w lines st)
 
-  pub end-of-count : (s a n : ℕ) → s ≤ lines * w → a ≤ lines * w - s → n ≤ 999 → s + a + n < 2 ^ 64
-  end-of-count s a n h k l = omega (arith, small file base w lines st)
+  pub end_of_count : (s a n : ℕ) → s ≤ lines * w → a ≤ lines * w - s → n ≤ 999 → s + a + n < 2 ^ 64
+  end_of_count s a n h k l = omega (arith, small file base w lines st)
 
   module _ (c d s : ℕ) where
-    pub count-short : (count len : ℕ) → lines * w < s + len + count → Refused Spelling s (lines * w) ≡ headed c d (text_of file base w lines) s (Count count len)
-    count-short count len h = rw (length-text file base w lines st) (simp (lt-leb (s + len + count) (lines * w) h))
+    pub count_short : (count len : ℕ) → lines * w < s + len + count → Refused Spelling s (lines * w) ≡ headed c d (text_of file base w lines) s (Count count len)
+    count_short count len h = rw (length-text file base w lines st) (simp (lt-leb (s + len + count) (lines * w) h))
 
     pub count_long : (count len : ℕ) {n : Next} {r : Got} → s + len + count ≤ lines * w → n ≡ next_at c d (text_of file base w lines) (s + len + count) → r ≡ found (Text (s + len) count) s n
         → r ≡ headed c d (text_of file base w lines) s (Count count len)
     count_long count len h en er = er ∙ rw (length-text file base w lines st, en) (simp (le-leb (s + len + count) (lines * w) h))
 
-pub sum-in : (s a m : ℕ) → s ≤ m → a ≤ m - s → s + a ≤ m
-sum-in s a m h k = omega arith
+pub sum_in : (s a m : ℕ) → s ≤ m → a ≤ m - s → s + a ≤ m
+sum_in s a m h k = omega arith
 
 pub plain-parts : (c d s : ℕ) (t : List ℕ) (k : Token) {n : Next} {r : Got} → n ≡ next_at c d t (s + k.len) → r ≡ plain s (s + k.len) n k.number → r ≡ headed c d t s (Plain k)
 plain-parts c d s t k en er = er ∙ rw en
 
-pub other-in : (m : ℕ) {n : Next} {at : ℕ} → n ≡ Other at → place n ≤ m → at ≤ m
-other-in m e h = rw e at h
+pub other_in : (m : ℕ) {n : Next} {at : ℕ} → n ≡ Other at → place n ≤ m → at ≤ m
+other_in m e h = rw e at h
 
 module _ (w c d p : ℕ) (t : List ℕ) {n : Next} (en : n ≡ next_at c d t p) where
-  pub value-default : {at : ℕ} {last : Bool} → n ≡ Delimiter at last → Found Default at (at + 1) last ≡ value_at w c d t p
+  pub value_default : {at : ℕ} {last : Bool} → n ≡ Delimiter at last → Found Default at (at + 1) last ≡ value_at w c d t p
   unfolding value_at
-  value-default e = ap (byNext w c d t) (sym e ∙ en)
+  value_default e = ap (by_next w c d t) (sym e ∙ en)
 
-  pub value-given : {at : ℕ} {r : Got} → n ≡ Other at → r ≡ byNext w c d t (Other at) → r ≡ value_at w c d t p
+  pub value-given : {at : ℕ} {r : Got} → n ≡ Other at → r ≡ by_next w c d t (Other at) → r ≡ value_at w c d t p
   unfolding value_at
-  value-given e q = q ∙ ap (byNext w c d t) (sym e ∙ en)
+  value-given e q = q ∙ ap (by_next w c d t) (sym e ∙ en)
 
 -- a value that is read is sane
 module _ {file : List ℕ} {base w lines : ℕ} (st : Stands file base w lines) {c d : ℕ} (pc : 0 < c) (pd : 0 < d) {p : ℕ} (h : p ≤ lines * w) where
-  value-sane : {r : Got} → r ≡ value_at w c d (text_of file base w lines) p → Sane p (lines * w) r
-  value-sane e =
+  value_sane : {r : Got} → r ≡ value_at w c d (text_of file base w lines) p → Sane p (lines * w) r
+  value_sane e =
       let t = text_of file base w lines in
       let k : p ≤ length t = omega (arith, length-text file base w lines st) in
       rw (e, ← (length-text file base w lines st)) (sane w c d t pc pd p k)
 
   module _ {n : Next} (en : n ≡ next_at c d (text_of file base w lines) p) where
-    pub sane-default : {at : ℕ} {last : Bool} → n ≡ Delimiter at last → Sane p (lines * w) (Found Default at (at + 1) last)
-    sane-default e = value-sane (value-default w c d p (text_of file base w lines) en e)
+    pub sane_default : {at : ℕ} {last : Bool} → n ≡ Delimiter at last → Sane p (lines * w) (Found Default at (at + 1) last)
+    sane_default e = value_sane (value_default w c d p (text_of file base w lines) en e)
 
-    pub sane-given : {at : ℕ} {r : Got} → n ≡ Other at → r ≡ byNext w c d (text_of file base w lines) (Other at) → Sane p (lines * w) r
-    sane-given e q = value-sane (value-given w c d p (text_of file base w lines) en e q)
+    pub sane_given : {at : ℕ} {r : Got} → n ≡ Other at → r ≡ by_next w c d (text_of file base w lines) (Other at) → Sane p (lines * w) r
+    sane_given e q = value_sane (value-given w c d p (text_of file base w lines) en e q)
 
-pub ruleset ends-laws = (product-fits, place-small, place_in, sum_fits, end-of-count, count-short, count_long, sum-in, plain-parts, given-none, given-count, given-plain, count-within, plain-within, index-fits, column-in, end_fits, end-in, count-few, count-in, plain_in, other-in, value-default, value-given, sane-default, sane-given)
+pub ruleset ends_laws = (product_fits, place_small, place_in, sum_fits, end_of_count, count_short, count_long, sum_in, plain-parts, given-none, given-count, given-plain, count-within, plain-within, index_fits, column_in, end_fits, end_in, count_few, count_in_lem, plain_in, other_in, value_default, value-given, sane_default, sane_given)
 
-pub ruleset laws = (product-fits, turn-fits, index-fits, index_in, char-in, char-out, skip-ink, skip-blank, skip-end, blank-fits, blank_turn, mark-part, mark-end, mark-other, next_here, next-on, next_place, found_some, found_none, beyond-some, beyond-none, place-fits, plain-whole, plain-real, plain-beyond, plain-bad)
+pub ruleset laws = (product_fits, turn_fits, index_fits, index_in, char_in, char_out, skip_ink, skip_blank, skip_end, blank-fits, blank_turn, mark-part, mark-end, mark-other, next_here, next-on, next_place, found_some, found_none, beyond_some, beyond-none, place-fits, plain_whole, plain_real, plain-beyond, plain_bad)

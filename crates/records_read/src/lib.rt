@@ -2,8 +2,8 @@
 ghost use Rattle.std.specs.Prelude.{◌≡◌, ◌+◌, ◌-◌, ◌*◌, ◌≤◌, ◌<◌, get_or, drop};
 ghost use Rattle.columns.specs.Columns.{text_of};
 ghost use Rattle.values.specs.Reading.{Within};
-ghost use Rattle.records.specs.Record.{blanks, mark, next_at, found, beyond, plain, headed, byNext, value_at, valuesAt};
-ghost use Rattle.records.specs.Reading.{Stands, place, Sane, keptAfter, checked, SaneCheck};
+ghost use Rattle.records.specs.Record.{blanks, mark, next_at, found, beyond, plain, headed, by_next, value_at, values_at};
+ghost use Rattle.records.specs.Reading.{Stands, place, Sane, kept_after, checked, SaneCheck};
 
 use columns::Fault;
 use records::position::{column_of, index_of};
@@ -192,7 +192,7 @@ fn count_at(
 fn given_at(file: &[u8], base: usize, w: usize, lines: usize, c: u8, d: u8, s: usize) -> Got
     requires stands { Stands file.now base w lines }
     requires s_bound { s ≤ lines * w }
-    ensures { result ≡ byNext w c d (text_of file.now base w lines) (Next.Other s) }
+    ensures { result ≡ by_next w c d (text_of file.now base w lines) (Next.Other s) }
 {
     if lines * w <= s {
         return Got::Refused {
@@ -234,7 +234,7 @@ pub fn value_at(file: &[u8], base: usize, w: usize, lines: usize, c: u8, d: u8, 
 // Behind value n, k of the values before it kept: how many are kept now.
 fn kept_after(v: Value, k: usize, n: usize) -> usize
     requires { k ≤ n }
-    ensures { (result ≡ keptAfter v k n) × (result ≤ n) }
+    ensures { (result ≡ kept_after v k n) × (result ≤ n) }
 {
     match v {
         Value::Default => k,
@@ -250,7 +250,7 @@ pub fn check_from(file: &[u8], base: usize, w: usize, lines: usize, c: u8, d: u8
     requires p_bound { p ≤ lines * w }
     requires c_nonzero { 0 < c }
     requires d_nonzero { 0 < d }
-    ensures value { result ≡ checked (valuesAt w c d (text_of file.now base w lines) p) }
+    ensures value { result ≡ checked (values_at w c d (text_of file.now base w lines) p) }
     ensures sane_check { SaneCheck p (lines * w) result }
 {
     let mut q = p;

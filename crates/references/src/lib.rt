@@ -1,6 +1,6 @@
 // What a reference may ask of the entry that it names: that it is there, and of which type it is.
 ghost use Rattle.std.specs.Prelude.{◌≡◌, ◌≤◌};
-ghost use Rattle.references.specs.References.{otherEntry, entry142, class_of, fits};
+ghost use Rattle.references.specs.References.{other_entry, entry142, class_of, fits};
 
 // What wants any entry.
 pub const ANY: u8 = 0;
@@ -21,7 +21,7 @@ pub const ENTRY_142: u8 = 5;
 // The class of an entry of this type.
 pub fn class_of(typ: u32) -> u8
     ensures value { result ≡ class_of typ }
-    ensures lower_bound { (otherEntry ≤ result) × (result ≤ entry142) }
+    ensures lower_bound { (other_entry ≤ result) × (result ≤ entry142) }
 {
     if typ == 124 {
         return ENTRY_124;

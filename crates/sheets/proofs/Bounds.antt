@@ -10,21 +10,21 @@ use Rattle.columns.proofs.Tests.{cond_cases, both_left}
 use Rattle.columns.proofs.Columns.{length-columns}
 use Rattle.values.specs.declared.Strict.{Strict}
 use Rattle.values.specs.declared.Strict.TheVariants.{Is, Not}
-use Rattle.values.specs.Value.{isMissing}
+use Rattle.values.specs.Value.{is_missing}
 use Rattle.values.specs.Writing.{Inside, Placed}
-use Rattle.values.specs.Strict.{strictOf}
-use Rattle.values.proofs.Backs.{strict-inside}
+use Rattle.values.specs.Strict.{strict_of}
+use Rattle.values.proofs.Backs.{strict_inside}
 use Rattle.sheets.specs.declared.EntryLine.{EntryLine}
 use Rattle.sheets.specs.declared.EntryLine.TheVariants.{Got, Wrong as WrongEntry}
 use Rattle.sheets.specs.declared.Said.{Said}
 use Rattle.sheets.specs.declared.Said.TheVariants.{Global, Nothing}
 use Rattle.sheets.specs.Plain.{plain_of}
 use Rattle.sheets.specs.Line.{run, entry_of, label_of}
-use Rattle.sheets.specs.Sheet.{global_of, isNumbered, globalLine, entryLineOf, value_of, says_of}
+use Rattle.sheets.specs.Sheet.{global_of, is_numbered, global_line, entry_line_of, value_of, says_of}
 use Rattle.sheets.specs.Reading.{Within}
-use Rattle.sheets.proofs.Marks.{says-each, marked-long}
-use Rattle.sheets.proofs.Machine.{HasNumber, has-number}
-use Rattle.sheets.proofs.Round.{entry-back, label-eight}
+use Rattle.sheets.proofs.Marks.{says_each, marked_long}
+use Rattle.sheets.proofs.Machine.{HasNumber, has_number}
+use Rattle.sheets.proofs.Round.{entry_back, label_eight}
 
 -- ---- a line
 
@@ -32,27 +32,27 @@ length_label : (l : List ℕ) → length (label_of l) ≡ length l - (length l -
 unfolding label_of
 length_label l = length-drop (length l - 8) l
 
-entry-within : (l : List ℕ) → Within (length l) (entryLineOf (entry_of l))
+entry-within : (l : List ℕ) → Within (length l) (entry_line_of (entry_of l))
 entry-within l = pick (entry_of l) refl
   where
-    pick : (r : EntryLine) → entry_of l ≡ r → Within (length l) (entryLineOf r)
-    pick (Got known n x) h = omega (arith, label-eight (label_of l) (entry-back l known n x h).label, length_label l)
+    pick : (r : EntryLine) → entry_of l ≡ r → Within (length l) (entry_line_of r)
+    pick (Got known n x) h = omega (arith, label_eight (label_of l) (entry_back l known n x h).label, length_label l)
     pick WrongEntry h = tt
 
 module _ (l : List ℕ) (two : 2 ≤ length l) where
   rest : length (drop 2 l) ≡ length l - 2
   rest = length-drop 2 l
 
-  value-within : (reference : Bool) → Within (length l) (value_of reference (strictOf (drop 2 l)))
-  value-within reference = pick (strictOf (drop 2 l)) (strict-inside (drop 2 l))
+  value-within : (reference : Bool) → Within (length l) (value_of reference (strict_of (drop 2 l)))
+  value-within reference = pick (strict_of (drop 2 l)) (strict_inside (drop 2 l))
     where
       pick : (x : Strict) → Placed (length (drop 2 l)) x → Within (length l) (value_of reference x)
       pick (Is v) h = (two, rw rest at h)
       pick Not h = tt
 
-  global-within : Within (length l) (globalLine (drop 2 l))
-  unfolding globalLine
-  global-within = pick (strictOf (drop (suc (run 9 t)) t)) (strict-inside (drop (suc (run 9 t)) t))
+  global_within : Within (length l) (global_line (drop 2 l))
+  unfolding global_line
+  global_within = pick (strict_of (drop (suc (run 9 t)) t)) (strict_inside (drop (suc (run 9 t)) t))
     where
       t : List ℕ
       t = drop 2 l
@@ -60,10 +60,10 @@ module _ (l : List ℕ) (two : 2 ≤ length l) where
       n : ℕ
       n = plain_of (take (run 9 t) t)
 
-      pick : (x : Strict) → Placed (length (drop (suc (run 9 t)) t)) x → Within (length l) (global_of (isNumbered t) n (2 + suc (run 9 t)) x)
+      pick : (x : Strict) → Placed (length (drop (suc (run 9 t)) t)) x → Within (length l) (global_of (is_numbered t) n (2 + suc (run 9 t)) x)
       pick (Is v) h =
-          cond_cases (Within (length l)) (isNumbered t && not (isMissing v)) (Global n (2 + suc (run 9 t)) v) (Nothing false)
-          (λ e. inside (has-number t (both_left (isNumbered t) (not (isMissing v)) e))) (λ e. tt)
+          cond_cases (Within (length l)) (is_numbered t && not (is_missing v)) (Global n (2 + suc (run 9 t)) v) (Nothing false)
+          (λ e. inside (has_number t (both_left (is_numbered t) (not (is_missing v)) e))) (λ e. tt)
         where
           inside : HasNumber t → (3 ≤ n) × (n ≤ 24) × (2 + suc (run 9 t) ≤ length l) × Inside (length l - (2 + suc (run 9 t))) v
           inside k =
@@ -71,15 +71,15 @@ module _ (l : List ℕ) (two : 2 ≤ length l) where
               (k.low, k.high, omega (arith, rest, k.tab), rw a at h)
       pick Not h = tt
 
-pub says-within : (l : List ℕ) → Within (length l) (says_of l)
-says-within l =
-    says-each (Within (length l)) l (λ b. tt) (λ m s. marked-long l m) (λ m. global-within l (marked-long l m)) (λ known m. entry-within l)
-    (λ reference m. value-within l (marked-long l m) reference) (λ m e. tt)
+pub says_within : (l : List ℕ) → Within (length l) (says_of l)
+says_within l =
+    says_each (Within (length l)) l (λ b. tt) (λ m s. marked_long l m) (λ m. global_within l (marked_long l m)) (λ known m. entry-within l)
+    (λ reference m. value-within l (marked_long l m) reference) (λ m e. tt)
 
 pub line-within : (s : List ℕ) (at end : ℕ) (r : Said) → r ≡ says_of (columns s at end) → at ≤ end → end ≤ length s → Within (end - at) r
-line-within s at end r e h k = rw (e, ← length-columns s at end h k) (says-within (columns s at end))
+line-within s at end r e h k = rw (e, ← length-columns s at end h k) (says_within (columns s at end))
 
-pub strict-placed : (s : List ℕ) (at end : ℕ) (r : Strict) → at ≤ end → end ≤ length s → r ≡ strictOf (columns s at end) → Placed (end - at) r
-strict-placed s at end r h k e = rw (e, ← length-columns s at end h k) (strict-inside (columns s at end))
+pub strict_placed : (s : List ℕ) (at end : ℕ) (r : Strict) → at ≤ end → end ≤ length s → r ≡ strict_of (columns s at end) → Placed (end - at) r
+strict_placed s at end r h k e = rw (e, ← length-columns s at end h k) (strict_inside (columns s at end))
 
-pub ruleset within = (line-within, strict-placed)
+pub ruleset within = (line-within, strict_placed)

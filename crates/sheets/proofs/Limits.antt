@@ -10,18 +10,18 @@ use borrow.Author.Tests.{leb-true}
 use Rattle.columns.proofs.Tests.{cond_cases, both_left}
 use Rattle.values.specs.declared.Strict.{Strict}
 use Rattle.values.specs.declared.Strict.TheVariants.{Is, Not}
-use Rattle.values.specs.Value.{isMissing}
-use Rattle.values.specs.Strict.{strictOf}
+use Rattle.values.specs.Value.{is_missing}
+use Rattle.values.specs.Strict.{strict_of}
 use Rattle.records.specs.Reading.{Writable}
-use Rattle.records.proofs.Fine.{strict-writable}
+use Rattle.records.proofs.Fine.{strict_writable}
 use Rattle.sheets.specs.declared.EntryLine.{EntryLine}
 use Rattle.sheets.specs.declared.EntryLine.TheVariants.{Got, Wrong}
 use Rattle.sheets.specs.declared.Said.{Said}
 use Rattle.sheets.specs.declared.Said.TheVariants.{Start, Global, Entry, Value as Given, Last, Nothing}
 use Rattle.sheets.specs.Plain.{plain_of}
 use Rattle.sheets.specs.Line.{run, entry_of}
-use Rattle.sheets.specs.Sheet.{isStart, global_of, isNumbered, globalLine, entryLineOf, value_of, says_of}
-use Rattle.sheets.proofs.Marks.{says-each}
+use Rattle.sheets.specs.Sheet.{is_start, global_of, is_numbered, global_line, entry_line_of, value_of, says_of}
+use Rattle.sheets.proofs.Marks.{says_each}
 
 -- what is read of a line: a text of at most 72 bytes, an entry line, a value within its limits
 abbrev pub Can : List ℕ → Said → Type 0
@@ -33,37 +33,37 @@ Can l (Last n) = Unit {0}
 Can l (Nothing b) = Unit {0}
 
 module _ (l : List ℕ) where
-  value-can : (reference : Bool) → Can l (value_of reference (strictOf (drop 2 l)))
-  value-can reference = pick (strictOf (drop 2 l)) refl
+  value_can : (reference : Bool) → Can l (value_of reference (strict_of (drop 2 l)))
+  value_can reference = pick (strict_of (drop 2 l)) refl
     where
-      pick : (x : Strict) → strictOf (drop 2 l) ≡ x → Can l (value_of reference x)
-      pick (Is v) e = strict-writable (drop 2 l) v e
+      pick : (x : Strict) → strict_of (drop 2 l) ≡ x → Can l (value_of reference x)
+      pick (Is v) e = strict_writable (drop 2 l) v e
       pick Not e = tt
 
-  global-can : Can l (globalLine (drop 2 l))
-  unfolding globalLine
-  global-can = pick (strictOf (drop (suc (run 9 t)) t)) refl
+  global_can : Can l (global_line (drop 2 l))
+  unfolding global_line
+  global_can = pick (strict_of (drop (suc (run 9 t)) t)) refl
     where
       t : List ℕ
       t = drop 2 l
 
-      pick : (x : Strict) → strictOf (drop (suc (run 9 t)) t) ≡ x
-          → Can l (global_of (isNumbered t) (plain_of (take (run 9 t) t)) (2 + suc (run 9 t)) x)
+      pick : (x : Strict) → strict_of (drop (suc (run 9 t)) t) ≡ x
+          → Can l (global_of (is_numbered t) (plain_of (take (run 9 t) t)) (2 + suc (run 9 t)) x)
       pick (Is v) e =
-          cond_cases (Can l) (isNumbered t && not (isMissing v)) (Global (plain_of (take (run 9 t) t)) (2 + suc (run 9 t)) v) (Nothing false)
-          (λ _. rw (drop-drop (suc (run 9 t)) 2 l) at (strict-writable (drop (suc (run 9 t)) t) v e)) (λ _. tt)
+          cond_cases (Can l) (is_numbered t && not (is_missing v)) (Global (plain_of (take (run 9 t) t)) (2 + suc (run 9 t)) v) (Nothing false)
+          (λ _. rw (drop-drop (suc (run 9 t)) 2 l) at (strict_writable (drop (suc (run 9 t)) t) v e)) (λ _. tt)
       pick Not e = tt
 
-  entry-can : Can l (entryLineOf (entry_of l))
-  entry-can = pick (entry_of l) refl
+  entry_can : Can l (entry_line_of (entry_of l))
+  entry_can = pick (entry_of l) refl
     where
-      pick : (r : EntryLine) → entry_of l ≡ r → Can l (entryLineOf r)
+      pick : (r : EntryLine) → entry_of l ≡ r → Can l (entry_line_of r)
       pick (Got known n x) e = e
       pick Wrong e = tt
 
-  start-can : isStart (drop 2 l) ≡ true → length (drop 2 l) ≤ 72
-  unfolding isStart
-  start-can e = leb-true (length (drop 2 l)) 72 (both_left (leb (length (drop 2 l)) 72) _ e)
+  start_can : is_start (drop 2 l) ≡ true → length (drop 2 l) ≤ 72
+  unfolding is_start
+  start_can e = leb-true (length (drop 2 l)) 72 (both_left (leb (length (drop 2 l)) 72) _ e)
 
-pub says-can : (l : List ℕ) → Can l (says_of l)
-says-can l = says-each (Can l) l (λ b. tt) (λ m e. start-can l e) (λ m. global-can l) (λ known m. entry-can l) (λ reference m. value-can l reference) (λ m e. tt)
+pub says_can : (l : List ℕ) → Can l (says_of l)
+says_can l = says_each (Can l) l (λ b. tt) (λ m e. start_can l e) (λ m. global_can l) (λ known m. entry_can l) (λ reference m. value_can l reference) (λ m e. tt)

@@ -9,11 +9,11 @@ use lib.Seq.{drop-drop, take-take}
 use borrow.Author.Tests.{le-leb, lt-leb, lt-ltb, le-ltb, eq-eqb, ne_eqb}
 use Rattle.columns.specs.declared.Signed.{Signed}
 use Rattle.columns.specs.Columns.{columns}
-use Rattle.columns.specs.Format.{mostInteger}
+use Rattle.columns.specs.Format.{most_integer}
 use Rattle.columns.proofs.Columns.{column, columns-none, length-columns, drop-take}
 use Rattle.sheets.specs.Plain.{sized}
 use Rattle.sheets.specs.Line.{run}
-use Rattle.sheets.specs.Folds.{misspelt, unread, digitAfter, sizeFrom, plainFold, minusOf, signedFold, statusFrom, statusFold, entryFold}
+use Rattle.sheets.specs.Folds.{misspelt, unread, digit_after, size_from, plain_fold, minus_of, signed_fold, status_from, status_fold, entry_fold}
 
 -- columns of columns
 pub columns-take : (s : List ℕ) (i e end : ℕ) → i ≤ e → e ≤ end → take (e - i) (columns s i end) ≡ columns s i e
@@ -28,62 +28,62 @@ columns-drop s i k end =
 
 -- ---- one more byte of a number
 module _ (n b : ℕ) where
-  pub step-low : b < 48 → misspelt ≡ digitAfter n b
-  unfolding digitAfter
-  step-low h = simp (lt-leb _ _ h)
+  pub step_low : b < 48 → misspelt ≡ digit_after n b
+  unfolding digit_after
+  step_low h = simp (lt-leb _ _ h)
 
   module _ (lo : 48 ≤ b) where
-    pub step-high : 57 < b → misspelt ≡ digitAfter n b
-    unfolding digitAfter
-    step-high h = simp (le-leb _ _ lo, lt-leb _ _ h)
+    pub step_high : 57 < b → misspelt ≡ digit_after n b
+    unfolding digit_after
+    step_high h = simp (le-leb _ _ lo, lt-leb _ _ h)
 
     module _ (hi : b ≤ 57) where
-      pub step-first : (r : ℕ) → r ≡ b - 48 → n ≡ unread → r ≡ digitAfter n b
-      unfolding digitAfter
-      step-first r e h = rw e (simp (le-leb _ _ lo, le-leb _ _ hi, eq-eqb _ _ h))
+      pub step_first : (r : ℕ) → r ≡ b - 48 → n ≡ unread → r ≡ digit_after n b
+      unfolding digit_after
+      step_first r e h = rw e (simp (le-leb _ _ lo, le-leb _ _ hi, eq-eqb _ _ h))
 
-      pub step-nought : n ≡ 0 → misspelt ≡ digitAfter n b
-      unfolding digitAfter
+      pub step-nought : n ≡ 0 → misspelt ≡ digit_after n b
+      unfolding digit_after
       step-nought h = rw h (simp (le-leb _ _ lo, le-leb _ _ hi))
 
       module _ (d : ℕ) (e : d ≡ b - 48) (some : n ≡ unread → ⊥) (pos : n ≡ 0 → ⊥) where
-        pub step-big : mostInteger < n * 10 + d → misspelt ≡ digitAfter n b
-        unfolding digitAfter
-        step-big h = simp (le-leb _ _ lo, le-leb _ _ hi, ne_eqb _ _ some, lt-ltb 0 n (omega arith), ← e, lt-leb _ _ h)
+        pub step_big : most_integer < n * 10 + d → misspelt ≡ digit_after n b
+        unfolding digit_after
+        step_big h = simp (le-leb _ _ lo, le-leb _ _ hi, ne_eqb _ _ some, lt-ltb 0 n (omega arith), ← e, lt-leb _ _ h)
 
-        pub step-more : n * 10 + d ≤ mostInteger → n * 10 + d ≡ digitAfter n b
-        unfolding digitAfter
+        pub step-more : n * 10 + d ≤ most_integer → n * 10 + d ≡ digit_after n b
+        unfolding digit_after
         step-more h = simp (le-leb _ _ lo, le-leb _ _ hi, ne_eqb _ _ some, lt-ltb 0 n (omega arith), ← e, le-leb _ _ h)
 
-pub ruleset step = (step-low, step-high, step-first, step-nought, step-big, step-more)
+pub ruleset step = (step_low, step_high, step_first, step-nought, step_big, step-more)
 
 -- ---- a number at an index of the text: f is the answer
-module _ (f : ℕ) (s : List ℕ) (i end n : ℕ) (inv : sizeFrom n (columns s i end) ≡ f) where
-  pub size-more : (m : ℕ) → i < end → end ≤ length s → m ≡ digitAfter n (get_or s i 0) → sizeFrom m (columns s (i + 1) end) ≡ f
-  unfolding sizeFrom
+module _ (f : ℕ) (s : List ℕ) (i end n : ℕ) (inv : size_from n (columns s i end) ≡ f) where
+  pub size-more : (m : ℕ) → i < end → end ≤ length s → m ≡ digit_after n (get_or s i 0) → size_from m (columns s (i + 1) end) ≡ f
+  unfolding size_from
   size-more m lt le e = rw e (rw (column s i end lt le) at inv)
 
   pub size-end : i ≤ end → end ≤ i → n ≡ f
-  unfolding sizeFrom
+  unfolding size_from
   size-end le ge =
       let e : i ≡ end = omega arith in
       rw (e, columns-none) at inv
 
-pub minus-nought : (n : ℕ) → n ≡ 0 → sized true misspelt ≡ minusOf n
-unfolding minusOf
+pub minus-nought : (n : ℕ) → n ≡ 0 → sized true misspelt ≡ minus_of n
+unfolding minus_of
 minus-nought n h = rw h
 
-pub minus-some : (n : ℕ) → (n ≡ 0 → ⊥) → sized true n ≡ minusOf n
-unfolding minusOf
-minus-some n h = simp (ne_eqb _ _ h)
+pub minus_some : (n : ℕ) → (n ≡ 0 → ⊥) → sized true n ≡ minus_of n
+unfolding minus_of
+minus_some n h = simp (ne_eqb _ _ h)
 
-pub minus-low : (n : ℕ) → n ≤ 0 → sized true misspelt ≡ minusOf n
-minus-low n h = minus-nought n (omega arith)
+pub minus_low : (n : ℕ) → n ≤ 0 → sized true misspelt ≡ minus_of n
+minus_low n h = minus-nought n (omega arith)
 
-pub minus-high : (n : ℕ) → 0 < n → sized true n ≡ minusOf n
-minus-high n h =
+pub minus_high : (n : ℕ) → 0 < n → sized true n ≡ minus_of n
+minus_high n h =
     let some : n ≡ 0 → ⊥ = omega arith in
-    minus-some n some
+    minus_some n some
 
 pub first_byte : (s : List ℕ) (i end : ℕ) → i < end → end ≤ length s → get_or (columns s i end) 0 0 ≡ get_or s i 0
 first_byte s i end lt le = rw (column s i end lt le)
@@ -92,42 +92,42 @@ first_byte s i end lt le = rw (column s i end lt le)
 pub no_second : (s : List ℕ) (at end : ℕ) → at ≤ end → end ≤ length s → end - at < 2 → get_or (columns s at end) 1 0 ≡ 0
 no_second s at end lo hi h = get_or-eq_default (columns s at end) 0 {n = 1} (rw (length-columns s at end lo hi) (omega arith))
 
-pub signed-minus : (s : List ℕ) (i end n : ℕ) (r : Signed) → i < end → end ≤ length s → get_or s i 0 ≡ 45 → n ≡ plainFold (columns s (i + 1) end) → r ≡ minusOf n
-    → r ≡ signedFold (columns s i end)
-unfolding signedFold
+pub signed-minus : (s : List ℕ) (i end n : ℕ) (r : Signed) → i < end → end ≤ length s → get_or s i 0 ≡ 45 → n ≡ plain_fold (columns s (i + 1) end) → r ≡ minus_of n
+    → r ≡ signed_fold (columns s i end)
+unfolding signed_fold
 signed-minus s i end n r lt le h e p = p ∙ rw (e, column s i end lt le, h)
 
-pub signed-plain : (s : List ℕ) (i end n : ℕ) → i < end → end ≤ length s → (get_or s i 0 ≡ 45 → ⊥) → n ≡ plainFold (columns s i end) → sized false n ≡ signedFold (columns s i end)
-unfolding signedFold
+pub signed-plain : (s : List ℕ) (i end n : ℕ) → i < end → end ≤ length s → (get_or s i 0 ≡ 45 → ⊥) → n ≡ plain_fold (columns s i end) → sized false n ≡ signed_fold (columns s i end)
+unfolding signed_fold
 signed-plain s i end n lt le h e = rw (e, first_byte s i end lt le) (simp (ne_eqb _ _ h))
 
-pub signed-none : (s : List ℕ) (i end : ℕ) → i ≤ end → end ≤ i → sized false unread ≡ signedFold (columns s i end)
-unfolding signedFold sizeFrom
+pub signed-none : (s : List ℕ) (i end : ℕ) → i ≤ end → end ≤ i → sized false unread ≡ signed_fold (columns s i end)
+unfolding signed_fold size_from
 signed-none s i end le ge =
     let e : i ≡ end = omega arith in
     rw (e, columns-none)
 
-pub status-low : (n : ℕ) → n < 100000000 → sized false misspelt ≡ statusFrom n
-unfolding statusFrom
-status-low n h = simp (lt-ltb _ _ h)
+pub status_low : (n : ℕ) → n < 100000000 → sized false misspelt ≡ status_from n
+unfolding status_from
+status_low n h = simp (lt-ltb _ _ h)
 
-pub status-some : (n : ℕ) → 100000000 ≤ n → n < 200000000 → sized false (n - 100000000) ≡ statusFrom n
-unfolding statusFrom
-status-some n l h = simp (le-ltb _ _ l, lt-ltb _ _ h)
+pub status_some : (n : ℕ) → 100000000 ≤ n → n < 200000000 → sized false (n - 100000000) ≡ status_from n
+unfolding status_from
+status_some n l h = simp (le-ltb _ _ l, lt-ltb _ _ h)
 
-pub status-high : (n : ℕ) → 100000000 ≤ n → 200000000 ≤ n → sized false misspelt ≡ statusFrom n
-unfolding statusFrom
-status-high n l h = simp (le-ltb _ _ l, le-ltb _ _ h)
+pub status_high : (n : ℕ) → 100000000 ≤ n → 200000000 ≤ n → sized false misspelt ≡ status_from n
+unfolding status_from
+status_high n l h = simp (le-ltb _ _ l, le-ltb _ _ h)
 
-pub num-status : (left n : ℕ) (f : List ℕ) (r : Signed) → left ≡ 3 → n ≡ sizeFrom 1 f → r ≡ statusFrom n → r ≡ entryFold left f
-unfolding entryFold statusFold
-num-status left n f r h e p = p ∙ rw (e, h)
+pub num_status : (left n : ℕ) (f : List ℕ) (r : Signed) → left ≡ 3 → n ≡ size_from 1 f → r ≡ status_from n → r ≡ entry_fold left f
+unfolding entry_fold status_fold
+num_status left n f r h e p = p ∙ rw (e, h)
 
-pub num-signed : (left : ℕ) (f : List ℕ) (r : Signed) → (left ≡ 3 → ⊥) → r ≡ signedFold f → r ≡ entryFold left f
-unfolding entryFold
-num-signed left f r h e = simp (ne_eqb _ _ h) e
+pub num_signed : (left : ℕ) (f : List ℕ) (r : Signed) → (left ≡ 3 → ⊥) → r ≡ signed_fold f → r ≡ entry_fold left f
+unfolding entry_fold
+num_signed left f r h e = simp (ne_eqb _ _ h) e
 
-pub ruleset numbers = (size-more, size-end, minus-low, minus-high, signed-minus, signed-plain, signed-none, status-low, status-some, status-high, num-status, num-signed)
+pub ruleset numbers = (size-more, size-end, minus_low, minus_high, signed-minus, signed-plain, signed-none, status_low, status_some, status_high, num_status, num_signed)
 
 -- ---- the first of a byte
 pub run-here : (c b : ℕ) (bs : List ℕ) → b ≡ c → run c (b ∷ bs) ≡ 0
@@ -162,49 +162,49 @@ module _ (f c : ℕ) (s : List ℕ) (i end : ℕ) (inv : i + run c (columns s i 
 
   -- four bytes of one turn
   module _ (h : 4 ≤ end - i) (le : end ≤ length s) where
-    pub end-0 : get_or s i 0 ≡ c → i ≡ f
-    end-0 e = end-here (omega arith) le e
+    pub end_0 : get_or s i 0 ≡ c → i ≡ f
+    end_0 e = end-here (omega arith) le e
 
     module _ (n0 : get_or s i 0 ≡ c → ⊥) where
-      on-1 : i + 1 + run c (columns s (i + 1) end) ≡ f
-      on-1 = end_on (omega arith) le n0
+      on_1 : i + 1 + run c (columns s (i + 1) end) ≡ f
+      on_1 = end_on (omega arith) le n0
 
-      pub end-1 : get_or s (i + 1) 0 ≡ c → i + 1 ≡ f
-      end-1 e = end-at c s end (i + 1) on-1 (omega arith) le e
+      pub end_1 : get_or s (i + 1) 0 ≡ c → i + 1 ≡ f
+      end_1 e = end-at c s end (i + 1) on_1 (omega arith) le e
 
       module _ (n1 : get_or s (i + 1) 0 ≡ c → ⊥) where
-        on-2 : i + 2 + run c (columns s (i + 2) end) ≡ f
-        on-2 = on-at c s end (i + 1) (i + 2) (omega arith) on-1 (omega arith) le n1
+        on_2 : i + 2 + run c (columns s (i + 2) end) ≡ f
+        on_2 = on-at c s end (i + 1) (i + 2) (omega arith) on_1 (omega arith) le n1
 
-        pub end-2 : get_or s (i + 2) 0 ≡ c → i + 2 ≡ f
-        end-2 e = end-at c s end (i + 2) on-2 (omega arith) le e
+        pub end_2 : get_or s (i + 2) 0 ≡ c → i + 2 ≡ f
+        end_2 e = end-at c s end (i + 2) on_2 (omega arith) le e
 
         module _ (n2 : get_or s (i + 2) 0 ≡ c → ⊥) where
-          on-3 : i + 3 + run c (columns s (i + 3) end) ≡ f
-          on-3 = on-at c s end (i + 2) (i + 3) (omega arith) on-2 (omega arith) le n2
+          on_3 : i + 3 + run c (columns s (i + 3) end) ≡ f
+          on_3 = on-at c s end (i + 2) (i + 3) (omega arith) on_2 (omega arith) le n2
 
-          pub end-3 : get_or s (i + 3) 0 ≡ c → i + 3 ≡ f
-          end-3 e = end-at c s end (i + 3) on-3 (omega arith) le e
+          pub end_3 : get_or s (i + 3) 0 ≡ c → i + 3 ≡ f
+          end_3 e = end-at c s end (i + 3) on_3 (omega arith) le e
 
-          pub on-4 : (get_or s (i + 3) 0 ≡ c → ⊥) → i + 4 + run c (columns s (i + 4) end) ≡ f
-          on-4 n3 = on-at c s end (i + 3) (i + 4) (omega arith) on-3 (omega arith) le n3
+          pub on_4 : (get_or s (i + 3) 0 ≡ c → ⊥) → i + 4 + run c (columns s (i + 4) end) ≡ f
+          on_4 n3 = on-at c s end (i + 3) (i + 4) (omega arith) on_3 (omega arith) le n3
 
 pub ruleset fields = (end-here, end_on, end_none)
 
 -- ---- one digit and a tab
-digit-size : (s : List ℕ) (at d : ℕ) → at + 1 ≤ length s → 48 ≤ get_or s at 0 → get_or s at 0 ≤ 57 → d ≡ get_or s at 0 - 48 → d ≡ plainFold (columns s at (at + 1))
-unfolding sizeFrom
-digit-size s at d le lo hi e = rw (column s at (at + 1) (omega arith) le, columns-none s (at + 1)) (step-first unread (get_or s at 0) lo hi d e refl)
+digit_size : (s : List ℕ) (at d : ℕ) → at + 1 ≤ length s → 48 ≤ get_or s at 0 → get_or s at 0 ≤ 57 → d ≡ get_or s at 0 - 48 → d ≡ plain_fold (columns s at (at + 1))
+unfolding size_from
+digit_size s at d le lo hi e = rw (column s at (at + 1) (omega arith) le, columns-none s (at + 1)) (step_first unread (get_or s at 0) lo hi d e refl)
 
 module _ (s : List ℕ) (at end : ℕ) (two : 2 ≤ end - at) (le : end ≤ length s) (t : get_or s (at + 1) 0 ≡ 9) (lo : 48 ≤ get_or s at 0) where
-  pub digit-end : at + 1 ≡ at + run 9 (columns s at end)
-  digit-end =
+  pub digit_end : at + 1 ≡ at + run 9 (columns s at end)
+  digit_end =
       let n : get_or s at 0 ≡ 9 → ⊥ = omega arith in
       rw (column s at end (omega arith) le, run_on 9 (get_or s at 0) _ n, column s (at + 1) end (omega arith) le, run-here 9 (get_or s (at + 1) 0) _ t)
 
-  pub digit-number : (left d : ℕ) → (left ≡ 3 → ⊥) → get_or s at 0 ≤ 57 → d ≡ get_or s at 0 - 48 → sized false d ≡ entryFold left (columns s at (at + 1))
-  digit-number left d n hi e =
+  pub digit_number : (left d : ℕ) → (left ≡ 3 → ⊥) → get_or s at 0 ≤ 57 → d ≡ get_or s at 0 - 48 → sized false d ≡ entry_fold left (columns s at (at + 1))
+  digit_number left d n hi e =
       let m : get_or s at 0 ≡ 45 → ⊥ = omega arith in
-      num-signed left (columns s at (at + 1)) (sized false d) n (signed-plain s at (at + 1) d (omega arith) (omega arith) m (digit-size s at d (omega arith) lo hi e))
+      num_signed left (columns s at (at + 1)) (sized false d) n (signed-plain s at (at + 1) d (omega arith) (omega arith) m (digit_size s at d (omega arith) lo hi e))
 
-pub ruleset tabs = (digit-end, digit-number)
+pub ruleset tabs = (digit_end, digit_number)

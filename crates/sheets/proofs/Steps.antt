@@ -10,151 +10,151 @@ use Rattle.sheets.specs.declared.SheetState.{SheetState}
 use Rattle.sheets.specs.declared.SheetStep.{SheetStep}
 use Rattle.sheets.specs.declared.SheetStep.TheVariants.{On, Off}
 use Rattle.values.specs.declared.Value.{Value}
-use Rattle.values.specs.Value.{isMissing}
+use Rattle.values.specs.Value.{is_missing}
 use Rattle.directory.specs.declared.Fields.{Fields}
-use Rattle.sheets.specs.Order.{sheetLine, next, closed, startStep, globalStep, entryStep, valueStep, lastStep, noneStep}
-use Rattle.sheets.specs.Reading.{stepSaid}
+use Rattle.sheets.specs.Order.{sheet_line, next, closed, start_step, global_step, entry_step, value_step, last_step, none_step}
+use Rattle.sheets.specs.Reading.{step_said}
 
 -- values that end with a default are wrong before anything else
 module _ (st : SheetState) (some : st.run.0 ≡ 0 → ⊥) where
-  pub start-run : Off st.run ≡ startStep st
-  unfolding startStep closed
+  pub start-run : Off st.run ≡ start_step st
+  unfolding start_step closed
   start-run = simp (ne_eqb _ _ some)
 
-  pub global-run : (n : ℕ) → Off st.run ≡ globalStep st n
-  unfolding globalStep closed
-  global-run n = simp (ne_eqb _ _ some)
+  pub global_run : (n : ℕ) → Off st.run ≡ global_step st n
+  unfolding global_step closed
+  global_run n = simp (ne_eqb _ _ some)
 
-  pub entry-run : (x : Signed) → Off st.run ≡ entryStep st x
-  unfolding entryStep closed
+  pub entry-run : (x : Signed) → Off st.run ≡ entry_step st x
+  unfolding entry_step closed
   entry-run x = simp (ne_eqb _ _ some)
 
-  pub last-run : (n : ℕ) → Off st.run ≡ lastStep st n
-  unfolding lastStep closed
-  last-run n = simp (ne_eqb _ _ some)
+  pub last_run : (n : ℕ) → Off st.run ≡ last_step st n
+  unfolding last_step closed
+  last_run n = simp (ne_eqb _ _ some)
 
-  pub none-run : (b : Bool) → b ≡ false → Off st.run ≡ noneStep st b
-  unfolding noneStep closed
+  pub none-run : (b : Bool) → b ≡ false → Off st.run ≡ none_step st b
+  unfolding none_step closed
   none-run b e = rw e (simp (ne_eqb _ _ some))
 
 module _ (st : SheetState) (no : st.run.0 ≡ 0) where
-  pub start-late : 1 < st.section → Off (sheetLine (st.line + 1)) ≡ startStep st
-  unfolding startStep closed
-  start-late h = simp (eq-eqb _ _ no, lt-leb _ _ h)
+  pub start_late : 1 < st.section → Off (sheet_line (st.line + 1)) ≡ start_step st
+  unfolding start_step closed
+  start_late h = simp (eq-eqb _ _ no, lt-leb _ _ h)
 
-  pub start-good : st.section ≤ 1 → On (next st 1 st.field st.entries 0) ≡ startStep st
-  unfolding startStep closed
-  start-good h = simp (eq-eqb _ _ no, le-leb _ _ h)
+  pub start_good : st.section ≤ 1 → On (next st 1 st.field st.entries 0) ≡ start_step st
+  unfolding start_step closed
+  start_good h = simp (eq-eqb _ _ no, le-leb _ _ h)
 
-  pub none-none : (b : Bool) → b ≡ false → Off (sheetLine (st.line + 1)) ≡ noneStep st b
-  unfolding noneStep closed
+  pub none-none : (b : Bool) → b ≡ false → Off (sheet_line (st.line + 1)) ≡ none_step st b
+  unfolding none_step closed
   none-none b e = rw e (simp (eq-eqb _ _ no))
 
-  pub global-early : (n : ℕ) → st.section < 1 → Off (sheetLine (st.line + 1)) ≡ globalStep st n
-  unfolding globalStep closed
-  global-early n h = simp (eq-eqb _ _ no, lt-leb _ _ h)
+  pub global_early : (n : ℕ) → st.section < 1 → Off (sheet_line (st.line + 1)) ≡ global_step st n
+  unfolding global_step closed
+  global_early n h = simp (eq-eqb _ _ no, lt-leb _ _ h)
 
-  pub entry-early : (x : Signed) → st.section < 1 → Off (sheetLine (st.line + 1)) ≡ entryStep st x
-  unfolding entryStep closed
-  entry-early x h = simp (eq-eqb _ _ no, lt-leb _ _ h)
+  pub entry_early : (x : Signed) → st.section < 1 → Off (sheet_line (st.line + 1)) ≡ entry_step st x
+  unfolding entry_step closed
+  entry_early x h = simp (eq-eqb _ _ no, lt-leb _ _ h)
 
-  pub last-early : (n : ℕ) → st.section < 1 → Off (sheetLine (st.line + 1)) ≡ lastStep st n
-  unfolding lastStep closed
-  last-early n h = simp (eq-eqb _ _ no, lt-leb _ _ h)
+  pub last_early : (n : ℕ) → st.section < 1 → Off (sheet_line (st.line + 1)) ≡ last_step st n
+  unfolding last_step closed
+  last_early n h = simp (eq-eqb _ _ no, lt-leb _ _ h)
 
   module _ (begun : 1 ≤ st.section) where
-    pub global-late : (n : ℕ) → 2 < st.section → Off (sheetLine (st.line + 1)) ≡ globalStep st n
-    unfolding globalStep closed
-    global-late n h = simp (eq-eqb _ _ no, le-leb _ _ begun, lt-leb _ _ h)
+    pub global_late : (n : ℕ) → 2 < st.section → Off (sheet_line (st.line + 1)) ≡ global_step st n
+    unfolding global_step closed
+    global_late n h = simp (eq-eqb _ _ no, le-leb _ _ begun, lt-leb _ _ h)
 
-    pub global-low : (n : ℕ) → st.section ≤ 2 → n ≤ st.field → Off (sheetLine (st.line + 1)) ≡ globalStep st n
-    unfolding globalStep closed
-    global-low n h k = simp (eq-eqb _ _ no, le-leb _ _ begun, le-leb _ _ h, le-ltb _ _ k)
+    pub global_low : (n : ℕ) → st.section ≤ 2 → n ≤ st.field → Off (sheet_line (st.line + 1)) ≡ global_step st n
+    unfolding global_step closed
+    global_low n h k = simp (eq-eqb _ _ no, le-leb _ _ begun, le-leb _ _ h, le-ltb _ _ k)
 
-    pub global-good : (n : ℕ) → st.section ≤ 2 → st.field < n → On (next st 2 n st.entries 0) ≡ globalStep st n
-    unfolding globalStep closed
-    global-good n h k = simp (eq-eqb _ _ no, le-leb _ _ begun, le-leb _ _ h, lt-ltb _ _ k)
+    pub global_good : (n : ℕ) → st.section ≤ 2 → st.field < n → On (next st 2 n st.entries 0) ≡ global_step st n
+    unfolding global_step closed
+    global_good n h k = simp (eq-eqb _ _ no, le-leb _ _ begun, le-leb _ _ h, lt-ltb _ _ k)
 
-    pub entry-late : (x : Signed) → 3 < st.section → Off (sheetLine (st.line + 1)) ≡ entryStep st x
-    unfolding entryStep closed
-    entry-late x h = simp (eq-eqb _ _ no, le-leb _ _ begun, lt-leb _ _ h)
+    pub entry_late : (x : Signed) → 3 < st.section → Off (sheet_line (st.line + 1)) ≡ entry_step st x
+    unfolding entry_step closed
+    entry_late x h = simp (eq-eqb _ _ no, le-leb _ _ begun, lt-leb _ _ h)
 
-    pub entry-minus : (x : Signed) → st.section ≤ 3 → x.neg ≡ true → Off (sheetLine (st.line + 1)) ≡ entryStep st x
-    unfolding entryStep closed
+    pub entry-minus : (x : Signed) → st.section ≤ 3 → x.neg ≡ true → Off (sheet_line (st.line + 1)) ≡ entry_step st x
+    unfolding entry_step closed
     entry-minus x h k = simp (eq-eqb _ _ no, le-leb _ _ begun, le-leb _ _ h, k)
 
-    pub entry_other : (x : Signed) → st.section ≤ 3 → x.neg ≡ false → (x.size ≡ 2 * st.entries + 1 → ⊥) → Off (sheetLine (st.line + 1)) ≡ entryStep st x
-    unfolding entryStep closed
+    pub entry_other : (x : Signed) → st.section ≤ 3 → x.neg ≡ false → (x.size ≡ 2 * st.entries + 1 → ⊥) → Off (sheet_line (st.line + 1)) ≡ entry_step st x
+    unfolding entry_step closed
     entry_other x h k d = simp (eq-eqb _ _ no, le-leb _ _ begun, le-leb _ _ h, k, ne_eqb _ _ d)
 
-    pub entry-good : (x : Signed) → st.section ≤ 3 → x.neg ≡ false → x.size ≡ 2 * st.entries + 1 → On (next st 3 st.field (st.entries + 1) 0) ≡ entryStep st x
-    unfolding entryStep closed
-    entry-good x h k d = simp (eq-eqb _ _ no, le-leb _ _ begun, le-leb _ _ h, k, eq-eqb _ _ d)
+    pub entry_good : (x : Signed) → st.section ≤ 3 → x.neg ≡ false → x.size ≡ 2 * st.entries + 1 → On (next st 3 st.field (st.entries + 1) 0) ≡ entry_step st x
+    unfolding entry_step closed
+    entry_good x h k d = simp (eq-eqb _ _ no, le-leb _ _ begun, le-leb _ _ h, k, eq-eqb _ _ d)
 
-    pub last-late : (n : ℕ) → 3 < st.section → Off (sheetLine (st.line + 1)) ≡ lastStep st n
-    unfolding lastStep closed
-    last-late n h = simp (eq-eqb _ _ no, le-leb _ _ begun, lt-leb _ _ h)
+    pub last_late : (n : ℕ) → 3 < st.section → Off (sheet_line (st.line + 1)) ≡ last_step st n
+    unfolding last_step closed
+    last_late n h = simp (eq-eqb _ _ no, le-leb _ _ begun, lt-leb _ _ h)
 
-    pub last-other : (n : ℕ) → st.section ≤ 3 → (n ≡ st.entries → ⊥) → Off (sheetLine (st.line + 1)) ≡ lastStep st n
-    unfolding lastStep closed
-    last-other n h d = simp (eq-eqb _ _ no, le-leb _ _ begun, le-leb _ _ h, ne_eqb _ _ d)
+    pub last_other : (n : ℕ) → st.section ≤ 3 → (n ≡ st.entries → ⊥) → Off (sheet_line (st.line + 1)) ≡ last_step st n
+    unfolding last_step closed
+    last_other n h d = simp (eq-eqb _ _ no, le-leb _ _ begun, le-leb _ _ h, ne_eqb _ _ d)
 
-    pub last-good : (n : ℕ) → st.section ≤ 3 → n ≡ st.entries → On (next st 4 st.field st.entries 0) ≡ lastStep st n
-    unfolding lastStep closed
-    last-good n h d = simp (eq-eqb _ _ no, le-leb _ _ begun, le-leb _ _ h, eq-eqb _ _ d)
+    pub last_good : (n : ℕ) → st.section ≤ 3 → n ≡ st.entries → On (next st 4 st.field st.entries 0) ≡ last_step st n
+    unfolding last_step closed
+    last_good n h d = simp (eq-eqb _ _ no, le-leb _ _ begun, le-leb _ _ h, eq-eqb _ _ d)
 
 module _ (st : SheetState) where
-  pub none-value : (b : Bool) → b ≡ true → Off (sheetLine (st.line + 1)) ≡ noneStep st b
-  unfolding noneStep
+  pub none-value : (b : Bool) → b ≡ true → Off (sheet_line (st.line + 1)) ≡ none_step st b
+  unfolding none_step
   none-value b e = rw e
 
-  pub value_out : (b : Bool) → (st.section ≡ 3 → ⊥) → Off (sheetLine (st.line + 1)) ≡ valueStep st b
-  unfolding valueStep
+  pub value_out : (b : Bool) → (st.section ≡ 3 → ⊥) → Off (sheet_line (st.line + 1)) ≡ value_step st b
+  unfolding value_step
   value_out b h = simp (ne_eqb _ _ h)
 
   module _ (b : Bool) (h : st.section ≡ 3) where
-    pub value-first : b ≡ true → st.run.0 ≡ 0 → On (next st 3 st.field st.entries (st.line + 1)) ≡ valueStep st b
-    unfolding valueStep
-    value-first e r = simp (eq-eqb _ _ h, e, eq-eqb _ _ r)
+    pub value_first : b ≡ true → st.run.0 ≡ 0 → On (next st 3 st.field st.entries (st.line + 1)) ≡ value_step st b
+    unfolding value_step
+    value_first e r = simp (eq-eqb _ _ h, e, eq-eqb _ _ r)
 
-    pub value-again : b ≡ true → (st.run.0 ≡ 0 → ⊥) → On (next st 3 st.field st.entries st.run.0) ≡ valueStep st b
-    unfolding valueStep
-    value-again e r = simp (eq-eqb _ _ h, e, ne_eqb _ _ r)
+    pub value_again : b ≡ true → (st.run.0 ≡ 0 → ⊥) → On (next st 3 st.field st.entries st.run.0) ≡ value_step st b
+    unfolding value_step
+    value_again e r = simp (eq-eqb _ _ h, e, ne_eqb _ _ r)
 
-    pub value-given : b ≡ false → On (next st 3 st.field st.entries 0) ≡ valueStep st b
-    unfolding valueStep
+    pub value-given : b ≡ false → On (next st 3 st.field st.entries 0) ≡ value_step st b
+    unfolding value_step
     value-given e = simp (eq-eqb _ _ h, e)
 
-pub ruleset starts = (start-run, start-late, start-good)
+pub ruleset starts = (start-run, start_late, start_good)
 
-pub ruleset globals = (global-run, global-early, global-late, global-low, global-good)
+pub ruleset globals = (global_run, global_early, global_late, global_low, global_good)
 
-pub ruleset entries = (entry-run, entry-early, entry-late, entry-minus, entry_other, entry-good)
+pub ruleset entries = (entry-run, entry_early, entry_late, entry-minus, entry_other, entry_good)
 
-pub ruleset values = (value_out, value-first, value-again, value-given)
+pub ruleset values = (value_out, value_first, value_again, value-given)
 
-pub ruleset lasts = (last-run, last-early, last-late, last-other, last-good)
+pub ruleset lasts = (last_run, last_early, last_late, last_other, last_good)
 
 pub ruleset nones = (none-run, none-none, none-value)
 
 -- ---- the step by what the line says
 module _ (st : SheetState) (x : Said) (r : SheetStep) where
-  pub step_start : x ≡ Start → r ≡ startStep st → r ≡ stepSaid st x
+  pub step_start : x ≡ Start → r ≡ start_step st → r ≡ step_said st x
   step_start e q = rw e q
 
-  pub step-global : (n at : ℕ) (v : Value) → x ≡ Global n at v → r ≡ globalStep st n → r ≡ stepSaid st x
-  step-global n at v e q = rw e q
+  pub step_global : (n at : ℕ) (v : Value) → x ≡ Global n at v → r ≡ global_step st n → r ≡ step_said st x
+  step_global n at v e q = rw e q
 
-  pub step-entry : (known : Bool) (n : Signed) (d : Fields) → x ≡ Entry known n d → r ≡ entryStep st n → r ≡ stepSaid st x
+  pub step-entry : (known : Bool) (n : Signed) (d : Fields) → x ≡ Entry known n d → r ≡ entry_step st n → r ≡ step_said st x
   step-entry known n d e q = rw e q
 
-  pub step_value : (reference m : Bool) (v : Value) → x ≡ Given reference v → m ≡ isMissing v → r ≡ valueStep st m → r ≡ stepSaid st x
+  pub step_value : (reference m : Bool) (v : Value) → x ≡ Given reference v → m ≡ is_missing v → r ≡ value_step st m → r ≡ step_said st x
   step_value reference m v e p q = rw (e, ← p) q
 
-  pub step-last : (n : ℕ) → x ≡ Last n → r ≡ lastStep st n → r ≡ stepSaid st x
-  step-last n e q = rw e q
+  pub step_last : (n : ℕ) → x ≡ Last n → r ≡ last_step st n → r ≡ step_said st x
+  step_last n e q = rw e q
 
-  pub step-none : (b : Bool) → x ≡ Nothing b → r ≡ noneStep st b → r ≡ stepSaid st x
+  pub step-none : (b : Bool) → x ≡ Nothing b → r ≡ none_step st b → r ≡ step_said st x
   step-none b e q = rw e q
 
-pub ruleset steps = (step_start, step-global, step-entry, step_value, step-last, step-none)
+pub ruleset steps = (step_start, step_global, step-entry, step_value, step_last, step-none)

@@ -15,9 +15,9 @@ use Rattle.sheets.specs.declared.SheetStep.TheVariants.{On, Off}
 use Rattle.sheets.specs.declared.SheetVerdict.TheVariants.{Good, Wrong}
 use Rattle.sheets.specs.Plain.{sized}
 use Rattle.values.specs.Value.{Item, is_default}
-use Rattle.sheets.specs.Sheet.{Line, start, global, entry, value, last, none, startLines, globalLines, valueLines, row_lines, lines_of, Parts, parts, with, parts_of, sheetOf}
-use Rattle.sheets.specs.Order.{sheetLine, begin, next, closed, startStep, globalStep, entryStep, valueStep, lastStep, noneStep, stepLine, verdict, finish, goLines}
-use Rattle.sheets.specs.WellFormed.{endsDefault, Rising, no_more, higher, Closed, no_rows, a-row, Ordered}
+use Rattle.sheets.specs.Sheet.{Line, start, global, entry, value, last, none, start_lines, global_lines, value_lines, row_lines, lines_of, Parts, parts, with, parts_of, sheet_of}
+use Rattle.sheets.specs.Order.{sheet_line, begin, next, closed, start_step, global_step, entry_step, value_step, last_step, none_step, step_line, verdict, finish, go_lines}
+use Rattle.sheets.specs.WellFormed.{ends_default, Rising, no_more, higher, Closed, no_rows, a-row, Ordered}
 use Rattle.sheets.proofs.Says.{Says, AllSaid, none_said, one-said}
 use Rattle.columns.proofs.Tests.{both_left, both_right}
 use Rattle.columns.specs.declared.SheetLine.{SheetLine}
@@ -26,43 +26,43 @@ use Rattle.columns.specs.declared.SheetLine.{SheetLine}
 never_on : {A : Type 0} {n : SheetLine} {st : SheetState} → Off n ≡ On st → A
 never_on e = absurd (let z : ◌≡◌ {A = ℕ} 0 1 = cc in omega arith)
 
-never-good : {A : Type 0} {n : SheetLine} {k : ℕ} → Wrong n ≡ Good k → A
-never-good e = absurd (let z : ◌≡◌ {A = ℕ} 0 1 = cc in omega arith)
+never_good : {A : Type 0} {n : SheetLine} {k : ℕ} → Wrong n ≡ Good k → A
+never_good e = absurd (let z : ◌≡◌ {A = ℕ} 0 1 = cc in omega arith)
 
-closed-inv : (st st' : SheetState) (x : SheetStep) → closed st x ≡ On st' → (st.run.0 ≡ 0) × (x ≡ On st')
+closed_inv : (st st' : SheetState) (x : SheetStep) → closed st x ≡ On st' → (st.run.0 ≡ 0) × (x ≡ On st')
 unfolding closed
-closed-inv st st' x h = pick (eqb st.run.0 0) refl h
+closed_inv st st' x h = pick (eqb st.run.0 0) refl h
   where
     pick : (b : Bool) → eqb st.run.0 0 ≡ b → cond b x (Off st.run) ≡ On st' → (st.run.0 ≡ 0) × (x ≡ On st')
     pick true e h = (eqb-true st.run.0 0 e, h)
     pick false e h = never_on h
 
-cond-inv : (c : Bool) (a st' : SheetState) (n : SheetLine) → cond c (On a) (Off n) ≡ On st' → (c ≡ true) × (st' ≡ a)
-cond-inv true a st' n h = (refl, cc)
-cond-inv false a st' n h = never_on h
+cond_inv : (c : Bool) (a st' : SheetState) (n : SheetLine) → cond c (On a) (Off n) ≡ On st' → (c ≡ true) × (st' ≡ a)
+cond_inv true a st' n h = (refl, cc)
+cond_inv false a st' n h = never_on h
 
 module _ (st st' : SheetState) where
-  pub start-inv : startStep st ≡ On st' → (st.run.0 ≡ 0) × (st.section ≤ 1) × (st' ≡ next st 1 st.field st.entries 0)
-  unfolding startStep
-  start-inv h =
-      let c = closed-inv st st' _ h in
-      let d = cond-inv (leb st.section 1) _ st' _ c.1 in
+  pub start_inv : start_step st ≡ On st' → (st.run.0 ≡ 0) × (st.section ≤ 1) × (st' ≡ next st 1 st.field st.entries 0)
+  unfolding start_step
+  start_inv h =
+      let c = closed_inv st st' _ h in
+      let d = cond_inv (leb st.section 1) _ st' _ c.1 in
       (c.0, leb-true _ _ d.0, d.1)
 
-  pub global-inv : (n : ℕ) → globalStep st n ≡ On st' → (st.run.0 ≡ 0) × (1 ≤ st.section) × (st.section ≤ 2) × (st.field < n) × (st' ≡ next st 2 n st.entries 0)
-  unfolding globalStep
-  global-inv n h =
-      let c = closed-inv st st' _ h in
-      let d = cond-inv (leb 1 st.section && (leb st.section 2 && ltb st.field n)) _ st' _ c.1 in
+  pub global_inv : (n : ℕ) → global_step st n ≡ On st' → (st.run.0 ≡ 0) × (1 ≤ st.section) × (st.section ≤ 2) × (st.field < n) × (st' ≡ next st 2 n st.entries 0)
+  unfolding global_step
+  global_inv n h =
+      let c = closed_inv st st' _ h in
+      let d = cond_inv (leb 1 st.section && (leb st.section 2 && ltb st.field n)) _ st' _ c.1 in
       let e = both_right (leb 1 st.section) (leb st.section 2 && ltb st.field n) d.0 in
       (c.0, leb-true _ _ (both_left (leb 1 st.section) (leb st.section 2 && ltb st.field n) d.0), leb-true _ _ (both_left (leb st.section 2) (ltb st.field n) e), ltb-true _ _ (both_right (leb st.section 2) (ltb st.field n) e), d.1)
 
-  pub entry-inv : (x : Signed) → entryStep st x ≡ On st' → (st.run.0 ≡ 0) × (1 ≤ st.section) × (st.section ≤ 3) × (x ≡ sized false (2 * st.entries + 1)) × (st' ≡ next st 3 st.field (st.entries + 1) 0)
-  unfolding entryStep
-  entry-inv x h =
-      let c = closed-inv st st' _ h in
+  pub entry_inv : (x : Signed) → entry_step st x ≡ On st' → (st.run.0 ≡ 0) × (1 ≤ st.section) × (st.section ≤ 3) × (x ≡ sized false (2 * st.entries + 1)) × (st' ≡ next st 3 st.field (st.entries + 1) 0)
+  unfolding entry_step
+  entry_inv x h =
+      let c = closed_inv st st' _ h in
       let N = not x.neg && eqb x.size (2 * st.entries + 1) in
-      let d = cond-inv (leb 1 st.section && (leb st.section 3 && N)) _ st' _ c.1 in
+      let d = cond_inv (leb 1 st.section && (leb st.section 3 && N)) _ st' _ c.1 in
       let e = both_right (leb 1 st.section) (leb st.section 3 && N) d.0 in
       (c.0, leb-true _ _ (both_left (leb 1 st.section) (leb st.section 3 && N) d.0), leb-true _ _ (both_left (leb st.section 3) N e), number x.neg x.size (both_right (leb st.section 3) N e), d.1)
     where
@@ -70,88 +70,88 @@ module _ (st st' : SheetState) where
       number true m e = absurd (let z : ◌≡◌ {A = ℕ} 0 1 = cc in omega arith)
       number false m e = ap (sized false) (eqb-true m (2 * st.entries + 1) e)
 
-  pub value-inv : (b : Bool) → valueStep st b ≡ On st' → (st.section ≡ 3) × (st' ≡ next st 3 st.field st.entries (cond b (cond (eqb st.run.0 0) (st.line + 1) st.run.0) 0))
-  unfolding valueStep
-  value-inv b h =
-      let d = cond-inv (eqb st.section 3) _ st' _ h in
+  pub value_inv : (b : Bool) → value_step st b ≡ On st' → (st.section ≡ 3) × (st' ≡ next st 3 st.field st.entries (cond b (cond (eqb st.run.0 0) (st.line + 1) st.run.0) 0))
+  unfolding value_step
+  value_inv b h =
+      let d = cond_inv (eqb st.section 3) _ st' _ h in
       (eqb-true _ _ d.0, d.1)
 
-  pub last-inv : (n : ℕ) → lastStep st n ≡ On st' → (st.run.0 ≡ 0) × (1 ≤ st.section) × (st.section ≤ 3) × (n ≡ st.entries) × (st' ≡ next st 4 st.field st.entries 0)
-  unfolding lastStep
-  last-inv n h =
-      let c = closed-inv st st' _ h in
-      let d = cond-inv (leb 1 st.section && (leb st.section 3 && eqb n st.entries)) _ st' _ c.1 in
+  pub last_inv : (n : ℕ) → last_step st n ≡ On st' → (st.run.0 ≡ 0) × (1 ≤ st.section) × (st.section ≤ 3) × (n ≡ st.entries) × (st' ≡ next st 4 st.field st.entries 0)
+  unfolding last_step
+  last_inv n h =
+      let c = closed_inv st st' _ h in
+      let d = cond_inv (leb 1 st.section && (leb st.section 3 && eqb n st.entries)) _ st' _ c.1 in
       let e = both_right (leb 1 st.section) (leb st.section 3 && eqb n st.entries) d.0 in
       (c.0, leb-true _ _ (both_left (leb 1 st.section) (leb st.section 3 && eqb n st.entries) d.0), leb-true _ _ (both_left (leb st.section 3) (eqb n st.entries) e), eqb-true _ _ (both_right (leb st.section 3) (eqb n st.entries) e), d.1)
 
-  pub none-inv : (b : Bool) → noneStep st b ≡ On st' → ⊥
-  unfolding noneStep
-  none-inv true h = never_on h
-  none-inv false h = never_on (closed-inv st st' _ h).1
+  pub none_inv : (b : Bool) → none_step st b ≡ On st' → ⊥
+  unfolding none_step
+  none_inv true h = never_on h
+  none_inv false h = never_on (closed_inv st st' _ h).1
 
-pub go-inv : (st : SheetState) (i : Line) (is : List Line) (n : ℕ) → goLines st (i ∷ is) ≡ Good n → (st' : SheetState) × (stepLine st i ≡ On st') × (goLines st' is ≡ Good n)
-unfolding goLines
-go-inv st i is n h = pick (stepLine st i) refl h
+pub go_inv : (st : SheetState) (i : Line) (is : List Line) (n : ℕ) → go_lines st (i ∷ is) ≡ Good n → (st' : SheetState) × (step_line st i ≡ On st') × (go_lines st' is ≡ Good n)
+unfolding go_lines
+go_inv st i is n h = pick (step_line st i) refl h
   where
-    pick : (x : SheetStep) → stepLine st i ≡ x → elim x [ On st' ↦ goLines st' is | Off m ↦ Wrong m ] ≡ Good n → (st' : SheetState) × (stepLine st i ≡ On st') × (goLines st' is ≡ Good n)
+    pick : (x : SheetStep) → step_line st i ≡ x → elim x [ On st' ↦ go_lines st' is | Off m ↦ Wrong m ] ≡ Good n → (st' : SheetState) × (step_line st i ≡ On st') × (go_lines st' is ≡ Good n)
     pick (On st') e h = (st', e, h)
-    pick (Off m) e h = never-good h
+    pick (Off m) e h = never_good h
 
-end-inv : (st : SheetState) (n : ℕ) → goLines st [] ≡ Good n → (st.section ≡ 4) × (n ≡ st.entries)
-unfolding goLines finish closed
-end-inv st n h = pick (eqb st.section 4) refl (eqb st.run.0 0) h
+end_inv : (st : SheetState) (n : ℕ) → go_lines st [] ≡ Good n → (st.section ≡ 4) × (n ≡ st.entries)
+unfolding go_lines finish closed
+end_inv st n h = pick (eqb st.section 4) refl (eqb st.run.0 0) h
   where
-    pick : (a : Bool) → eqb st.section 4 ≡ a → (b : Bool) → cond a (Good st.entries) (verdict (cond b (Off (sheetLine (st.line + 1))) (Off st.run))) ≡ Good n → (st.section ≡ 4) × (n ≡ st.entries)
+    pick : (a : Bool) → eqb st.section 4 ≡ a → (b : Bool) → cond a (Good st.entries) (verdict (cond b (Off (sheet_line (st.line + 1))) (Off st.run))) ≡ Good n → (st.section ≡ 4) × (n ≡ st.entries)
     pick true e b h = (eqb-true _ _ e, cc)
-    pick false e true h = never-good h
-    pick false e false h = never-good h
+    pick false e true h = never_good h
+    pick false e false h = never_good h
 
-says : (st : SheetState) (i : Line) (st' : SheetState) → stepLine st i ≡ On st' → Says i
+says : (st : SheetState) (i : Line) (st' : SheetState) → step_line st i ≡ On st' → Says i
 says st (start t) st' e = tt
 says st (global m v) st' e = tt
-says st (entry known x d label) st' e = ap (λ (y : Signed). y.neg) (entry-inv st st' x e).3
+says st (entry known x d label) st' e = ap (λ (y : Signed). y.neg) (entry_inv st st' x e).3
 says st (value r v) st' e = tt
 says st (last m) st' e = tt
-says st (none b) st' e = none-inv st st' b e
+says st (none b) st' e = none_inv st st' b e
 
 -- every line says something
-pub all_said : (is : List Line) (st : SheetState) (n : ℕ) → goLines st is ≡ Good n → AllSaid is
+pub all_said : (is : List Line) (st : SheetState) (n : ℕ) → go_lines st is ≡ Good n → AllSaid is
 all_said [] st n h = none_said
 all_said (i ∷ is) st n h =
-    let g = go-inv st i is n h in
+    let g = go_inv st i is n h in
     one-said (says st i g.0 g.1) (all_said is g.0 n g.2)
 
 -- after Z nothing comes
-four : (is : List Line) (st : SheetState) (n : ℕ) → goLines st is ≡ Good n → st.section ≡ 4 → (is ≡ []) × (n ≡ st.entries)
-four [] st n h s = (refl, (end-inv st n h).1)
+four : (is : List Line) (st : SheetState) (n : ℕ) → go_lines st is ≡ Good n → st.section ≡ 4 → (is ≡ []) × (n ≡ st.entries)
+four [] st n h s = (refl, (end_inv st n h).1)
 four (i ∷ is) st n h s =
-    let g = go-inv st i is n h in
+    let g = go_inv st i is n h in
     pick i g.0 g.1
   where
-    pick : (i : Line) (st' : SheetState) → stepLine st i ≡ On st' → (i ∷ is ≡ []) × (n ≡ st.entries)
-    pick (start t) st' e = absurd (omega (arith, (start-inv st st' e).1))
-    pick (global m v) st' e = absurd (omega (arith, (global-inv st st' m e).2))
-    pick (entry known x d label) st' e = absurd (omega (arith, (entry-inv st st' x e).2))
-    pick (value r v) st' e = absurd (omega (arith, (value-inv st st' (is_default v) e).0))
-    pick (last m) st' e = absurd (omega (arith, (last-inv st st' m e).2))
-    pick (none b) st' e = absurd (none-inv st st' b e)
+    pick : (i : Line) (st' : SheetState) → step_line st i ≡ On st' → (i ∷ is ≡ []) × (n ≡ st.entries)
+    pick (start t) st' e = absurd (omega (arith, (start_inv st st' e).1))
+    pick (global m v) st' e = absurd (omega (arith, (global_inv st st' m e).2))
+    pick (entry known x d label) st' e = absurd (omega (arith, (entry_inv st st' x e).2))
+    pick (value r v) st' e = absurd (omega (arith, (value_inv st st' (is_default v) e).0))
+    pick (last m) st' e = absurd (omega (arith, (last_inv st st' m e).2))
+    pick (none b) st' e = absurd (none_inv st st' b e)
 
 -- ---- the parts of what is taken from a state on
-abbrev linesAt : ℕ → Parts → List Line
-linesAt k p = startLines p.starts (globalLines p.globals (valueLines p.values (row_lines k p.rows)))
+abbrev lines_at : ℕ → Parts → List Line
+lines_at k p = start_lines p.starts (global_lines p.globals (value_lines p.values (row_lines k p.rows)))
 
 abbrev pending : SheetState → Bool
 pending st = cond (eqb st.run.0 0) false true
 
 record Whole (st : SheetState) (is : List Line) (n : ℕ) (p : Parts) : Type 0 where
-  text : linesAt st.entries p ≡ is
+  text : lines_at st.entries p ≡ is
   count : n ≡ st.entries + length p.rows
   starts : 2 ≤ st.section → p.starts ≡ []
   globals : 3 ≤ st.section → p.globals ≡ []
   values : st.section ≤ 2 → p.values ≡ []
   some : st.section ≡ 0 → 0 < length p.starts
   rising : Rising st.field p.globals
-  ends : endsDefault (pending st) p.values ≡ false
+  ends : ends_default (pending st) p.values ≡ false
   rows : Closed p.rows
 
 pending-none : (st : SheetState) → st.run.0 ≡ 0 → pending st ≡ false
@@ -166,9 +166,9 @@ pending-value true run line = pick (eqb run 0) refl
     pick false e = rw e
 
 module _ (st : SheetState) (is : List Line) (n : ℕ) (p : Parts) where
-  start-whole : (t : List ℕ) → st.run.0 ≡ 0 → st.section ≤ 1 → Whole (next st 1 st.field st.entries 0) is n p → Whole st (start t ∷ is) n (with (start t) p)
-  unfolding startLines
-  start-whole t r s w = record {
+  start_whole : (t : List ℕ) → st.run.0 ≡ 0 → st.section ≤ 1 → Whole (next st 1 st.field st.entries 0) is n p → Whole st (start t ∷ is) n (with (start t) p)
+  unfolding start_lines
+  start_whole t r s w = record {
     text = ap (λ (x : List Line). start t ∷ x) w.text;
     count = w.count;
     starts = λ h. absurd (omega arith);
@@ -180,9 +180,9 @@ module _ (st : SheetState) (is : List Line) (n : ℕ) (p : Parts) where
     rows = w.rows;
   }
 
-  global-whole : (m : ℕ) (v : Item) → st.run.0 ≡ 0 → 1 ≤ st.section → st.section ≤ 2 → st.field < m → Whole (next st 2 m st.entries 0) is n p → Whole st (global m v ∷ is) n (with (global m v) p)
-  unfolding startLines globalLines
-  global-whole m v r s u g w =
+  global_whole : (m : ℕ) (v : Item) → st.run.0 ≡ 0 → 1 ≤ st.section → st.section ≤ 2 → st.field < m → Whole (next st 2 m st.entries 0) is n p → Whole st (global m v ∷ is) n (with (global m v) p)
+  unfolding start_lines global_lines
+  global_whole m v r s u g w =
       let ss : p.starts ≡ [] = w.starts (omega arith) in
       record {
         text = rw ss (ap (λ (x : List Line). global m v ∷ x) (rw ss at w.text));
@@ -198,7 +198,7 @@ module _ (st : SheetState) (is : List Line) (n : ℕ) (p : Parts) where
 
   entry_whole : (known : Bool) (x : Signed) (e : Fields) (label : List ℕ) → st.run.0 ≡ 0 → 1 ≤ st.section → st.section ≤ 3 → x ≡ sized false (2 * st.entries + 1)
       → Whole (next st 3 st.field (st.entries + 1) 0) is n p → Whole st (entry known x e label ∷ is) n (with (entry known x e label) p)
-  unfolding startLines globalLines valueLines row_lines endsDefault
+  unfolding start_lines global_lines value_lines row_lines ends_default
   entry_whole known x e label r s u d w =
       let ss : p.starts ≡ [] = w.starts (omega arith) in
       let gs : p.globals ≡ [] = w.globals (omega arith) in
@@ -214,10 +214,10 @@ module _ (st : SheetState) (is : List Line) (n : ℕ) (p : Parts) where
         rows = a-row w.ends w.rows;
       }
 
-  value-whole : (b : Bool) (v : Item) → st.section ≡ 3 → Whole (next st 3 st.field st.entries (cond (is_default v) (cond (eqb st.run.0 0) (st.line + 1) st.run.0) 0)) is n p
+  value_whole : (b : Bool) (v : Item) → st.section ≡ 3 → Whole (next st 3 st.field st.entries (cond (is_default v) (cond (eqb st.run.0 0) (st.line + 1) st.run.0) 0)) is n p
       → Whole st (value b v ∷ is) n (with (value b v) p)
-  unfolding startLines globalLines valueLines endsDefault
-  value-whole b v s w =
+  unfolding start_lines global_lines value_lines ends_default
+  value_whole b v s w =
       let ss : p.starts ≡ [] = w.starts (omega arith) in
       let gs : p.globals ≡ [] = w.globals (omega arith) in
       record {
@@ -232,9 +232,9 @@ module _ (st : SheetState) (is : List Line) (n : ℕ) (p : Parts) where
         rows = w.rows;
       }
 
-last-whole : (st : SheetState) (n m : ℕ) → st.run.0 ≡ 0 → 1 ≤ st.section → m ≡ st.entries → n ≡ st.entries → Whole st (last m ∷ []) n (parts [] [] [] [])
-unfolding startLines globalLines valueLines row_lines endsDefault
-last-whole st n m r s e d = record {
+last_whole : (st : SheetState) (n m : ℕ) → st.run.0 ≡ 0 → 1 ≤ st.section → m ≡ st.entries → n ≡ st.entries → Whole st (last m ∷ []) n (parts [] [] [] [])
+unfolding start_lines global_lines value_lines row_lines ends_default
+last_whole st n m r s e d = record {
   text = rw e;
   count = d ∙ omega arith;
   starts = λ h. refl;
@@ -246,36 +246,36 @@ last-whole st n m r s e d = record {
   rows = no_rows;
 }
 
-whole : (is : List Line) (st : SheetState) (n : ℕ) → goLines st is ≡ Good n → st.section ≤ 3 → Whole st is n (parts_of is)
+whole : (is : List Line) (st : SheetState) (n : ℕ) → go_lines st is ≡ Good n → st.section ≤ 3 → Whole st is n (parts_of is)
 unfolding parts_of
-whole [] st n h s = absurd (omega (arith, (end-inv st n h).0))
+whole [] st n h s = absurd (omega (arith, (end_inv st n h).0))
 whole (i ∷ is) st n h s =
-    let g = go-inv st i is n h in
+    let g = go_inv st i is n h in
     pick i g.0 g.1 g.2 (λ a. whole is a n)
   where
-    pick : (i : Line) (st' : SheetState) → stepLine st i ≡ On st' → goLines st' is ≡ Good n → ((a : SheetState) → goLines a is ≡ Good n → a.section ≤ 3 → Whole a is n (parts_of is)) → Whole st (i ∷ is) n (with i (parts_of is))
+    pick : (i : Line) (st' : SheetState) → step_line st i ≡ On st' → go_lines st' is ≡ Good n → ((a : SheetState) → go_lines a is ≡ Good n → a.section ≤ 3 → Whole a is n (parts_of is)) → Whole st (i ∷ is) n (with i (parts_of is))
     pick (start t) st' e q ih =
-        let v = start-inv st st' e in
-        start-whole st is n (parts_of is) t v.0 v.1 (ih _ (rw v.2 at q) (omega arith))
+        let v = start_inv st st' e in
+        start_whole st is n (parts_of is) t v.0 v.1 (ih _ (rw v.2 at q) (omega arith))
     pick (global m u) st' e q ih =
-        let v = global-inv st st' m e in
-        global-whole st is n (parts_of is) m u v.0 v.1 v.2 v.3 (ih _ (rw v.4 at q) (omega arith))
+        let v = global_inv st st' m e in
+        global_whole st is n (parts_of is) m u v.0 v.1 v.2 v.3 (ih _ (rw v.4 at q) (omega arith))
     pick (entry known x d label) st' e q ih =
-        let v = entry-inv st st' x e in
+        let v = entry_inv st st' x e in
         entry_whole st is n (parts_of is) known x d label v.0 v.1 v.2 v.3 (ih _ (rw v.4 at q) (omega arith))
     pick (value b u) st' e q ih =
-        let v = value-inv st st' (is_default u) e in
-        value-whole st is n (parts_of is) b u v.0 (ih _ (rw v.1 at q) (omega arith))
+        let v = value_inv st st' (is_default u) e in
+        value_whole st is n (parts_of is) b u v.0 (ih _ (rw v.1 at q) (omega arith))
     pick (last m) st' e q ih =
-        let v = last-inv st st' m e in
+        let v = last_inv st st' m e in
         let f = four is (next st 4 st.field st.entries 0) n (rw v.4 at q) refl in
-        rw f.0 (last-whole st n m v.0 v.1 v.3 f.1)
-    pick (none b) st' e q ih = absurd (none-inv st st' b e)
+        rw f.0 (last_whole st n m v.0 v.1 v.3 f.1)
+    pick (none b) st' e q ih = absurd (none_inv st st' b e)
 
 -- what is taken from the start is the lines of its model
-pub order-back : (is : List Line) (n : ℕ) → goLines begin is ≡ Good n → (lines_of (sheetOf is) ≡ is) × Ordered (sheetOf is) × (n ≡ length (sheetOf is).rows)
-unfolding lines_of sheetOf valueLines
-order-back is n h = named (parts_of is) (whole is begin n h (omega arith))
+pub order_back : (is : List Line) (n : ℕ) → go_lines begin is ≡ Good n → (lines_of (sheet_of is) ≡ is) × Ordered (sheet_of is) × (n ≡ length (sheet_of is).rows)
+unfolding lines_of sheet_of value_lines
+order_back is n h = named (parts_of is) (whole is begin n h (omega arith))
   where
-    named : (p : Parts) → Whole begin is n p → (startLines p.starts (globalLines p.globals (row_lines 0 p.rows)) ≡ is) × Ordered (record { starts = p.starts; globals = p.globals; rows = p.rows }) × (n ≡ length p.rows)
+    named : (p : Parts) → Whole begin is n p → (start_lines p.starts (global_lines p.globals (row_lines 0 p.rows)) ≡ is) × Ordered (record { starts = p.starts; globals = p.globals; rows = p.rows }) × (n ≡ length p.rows)
     named p w = (rw (w.values (omega arith)) at w.text, record { some = w.some refl; rising = w.rising; closed = w.rows }, w.count ∙ omega arith)

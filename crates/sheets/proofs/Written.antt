@@ -9,19 +9,19 @@ use lib.ListN.{length, get_or, drop}
 use lib.Seq.{drop-cons}
 use borrow.Author.Tests.{ne_eqb}
 use Rattle.columns.specs.declared.Signed.{Signed}
-use Rattle.columns.specs.Decimal.{dec, signedDec, toRight}
+use Rattle.columns.specs.Decimal.{dec, signed_dec, to_right}
 use Rattle.columns.specs.Laid.{Wrote, Owes}
-use Rattle.columns.proofs.Writes.{then, wrote-same, owes-all, owes-less, owes-none}
+use Rattle.columns.proofs.Writes.{then, wrote_same, owes_all, owes_less, owes_none}
 use Rattle.values.specs.declared.Value.{Value}
 use Rattle.values.specs.Value.{item_of}
 use Rattle.values.specs.Writing.{front, chars, Inside}
 use Rattle.values.proofs.Spells.{front-chars}
 use Rattle.directory.specs.declared.Fields.{Fields}
-use Rattle.directory.specs.Fields.{nought, inOrder}
+use Rattle.directory.specs.Fields.{nought, in_order}
 use Rattle.sheets.specs.Plain.{sized}
-use Rattle.sheets.specs.Line.{spell, spells, entryLine}
+use Rattle.sheets.specs.Line.{spell, spells, entry_line}
 use Rattle.sheets.specs.Sheet.{start, global, entry, value, last, line_of}
-use Rattle.sheets.specs.Writing.{globalHead, valueHead}
+use Rattle.sheets.specs.Writing.{global_head, value_head}
 
 pub two : {o o₁ o₂ : List ℕ} {at a b r₁ r₂ : ℕ} → Wrote o at (a ∷ []) o₁ r₁ → Wrote o₁ r₁ (b ∷ []) o₂ r₂ → Wrote o at (a ∷ b ∷ []) o₂ r₂
 two p q = then p q
@@ -39,38 +39,38 @@ pub ruleset puts = (then, two, put-start, put_last)
 -- ---- a value
 
 -- a line with a value: its head, a string's characters, LF
-pub global-line : (n : ℕ) (t : List ℕ) (v : Value) → Inside (length t) v → globalHead n v ++ (chars t v ++ (10 ∷ [])) ≡ line_of (global n (item_of t v)) ++ (10 ∷ [])
-unfolding globalHead line_of
-global-line n t v h =
+pub global_line_lem : (n : ℕ) (t : List ℕ) (v : Value) → Inside (length t) v → global_head n v ++ (chars t v ++ (10 ∷ [])) ≡ line_of (global n (item_of t v)) ++ (10 ∷ [])
+unfolding global_head line_of
+global_line_lem n t v h =
     rw (front-chars t v h) (ap (λ (x : List ℕ). 71 ∷ (9 ∷ x))
     (append_assoc (dec n) (9 ∷ front v) (chars t v ++ (10 ∷ [])) ∙ ap (λ (x : List ℕ). dec n ++ (9 ∷ x)) (sym (append_assoc (front v) (chars t v) (10 ∷ [])))
     ∙ sym (append_assoc (dec n) (9 ∷ (front v ++ chars t v)) (10 ∷ []))))
 
-pub value_line : (reference : Bool) (t : List ℕ) (v : Value) → Inside (length t) v → valueHead reference v ++ (chars t v ++ (10 ∷ [])) ≡ line_of (value reference (item_of t v)) ++ (10 ∷ [])
-unfolding valueHead line_of
+pub value_line : (reference : Bool) (t : List ℕ) (v : Value) → Inside (length t) v → value_head reference v ++ (chars t v ++ (10 ∷ [])) ≡ line_of (value reference (item_of t v)) ++ (10 ∷ [])
+unfolding value_head line_of
 value_line reference t v h = rw (front-chars t v h) (simp append_assoc)
 
-pub put-global-head : {o o₁ o₂ o₃ o₄ : List ℕ} {at r₁ r₂ r₃ r₄ : ℕ} (n : ℕ) (v : Value) → Wrote o at (71 ∷ 9 ∷ []) o₁ r₁ → Wrote o₁ r₁ (dec n) o₂ r₂ → Wrote o₂ r₂ (9 ∷ []) o₃ r₃
-    → Wrote o₃ r₃ (front v) o₄ r₄ → Wrote o at (globalHead n v) o₄ r₄
-unfolding globalHead
-put-global-head n v p q r s = then p (then q (then r s))
+pub put_global_head : {o o₁ o₂ o₃ o₄ : List ℕ} {at r₁ r₂ r₃ r₄ : ℕ} (n : ℕ) (v : Value) → Wrote o at (71 ∷ 9 ∷ []) o₁ r₁ → Wrote o₁ r₁ (dec n) o₂ r₂ → Wrote o₂ r₂ (9 ∷ []) o₃ r₃
+    → Wrote o₃ r₃ (front v) o₄ r₄ → Wrote o at (global_head n v) o₄ r₄
+unfolding global_head
+put_global_head n v p q r s = then p (then q (then r s))
 
-pub put-value-head : {o o₁ o₂ : List ℕ} {at m r₁ r₂ : ℕ} (reference : Bool) (v : Value) → m ≡ cond reference 82 86 → Wrote o at (m ∷ 9 ∷ []) o₁ r₁ → Wrote o₁ r₁ (front v) o₂ r₂
-    → Wrote o at (valueHead reference v) o₂ r₂
-unfolding valueHead
-put-value-head reference v e p q = rw (← e) (then p q)
+pub put_value_head : {o o₁ o₂ : List ℕ} {at m r₁ r₂ : ℕ} (reference : Bool) (v : Value) → m ≡ cond reference 82 86 → Wrote o at (m ∷ 9 ∷ []) o₁ r₁ → Wrote o₁ r₁ (front v) o₂ r₂
+    → Wrote o at (value_head reference v) o₂ r₂
+unfolding value_head
+put_value_head reference v e p q = rw (← e) (then p q)
 
-pub ruleset heads = (put-global-head, put-value-head)
+pub ruleset heads = (put_global_head, put_value_head)
 
 -- ---- the numbers of an entry line
 
-pub num-status : {o o' : List ℕ} {at r : ℕ} (left : ℕ) (x : Signed) → Wrote o at (toRight 48 8 (dec x.size)) o' r → left ≡ 3 → Wrote o at (spell left x) o' r
+pub num_status : {o o' : List ℕ} {at r : ℕ} (left : ℕ) (x : Signed) → Wrote o at (to_right 48 8 (dec x.size)) o' r → left ≡ 3 → Wrote o at (spell left x) o' r
 unfolding spell
-num-status left x p e = rw e p
+num_status left x p e = rw e p
 
-pub num-plain : {o o' : List ℕ} {at r : ℕ} (left : ℕ) (x : Signed) → Wrote o at (signedDec x) o' r → (left ≡ 3 → ⊥) → Wrote o at (spell left x) o' r
+pub num_plain : {o o' : List ℕ} {at r : ℕ} (left : ℕ) (x : Signed) → Wrote o at (signed_dec x) o' r → (left ≡ 3 → ⊥) → Wrote o at (spell left x) o' r
 unfolding spell
-num-plain left x p e = simp (ne_eqb _ _ e) p
+num_plain left x p e = simp (ne_eqb _ _ e) p
 
 -- one turn: a number and a tab
 pub turn : {o bs o₁ o₂ o₃ : List ℕ} {at r₁ r₂ r₃ : ℕ} (xs : List Signed) (left k : ℕ) → 0 < left → k + left ≡ 13 → length xs ≡ 13
@@ -80,17 +80,17 @@ unfolding spells
 turn xs left k h c l p q t =
     let m : left ≡ suc (left - 1) = omega arith in
     let d : drop k xs ≡ get_or xs k nought ∷ drop (k + 1) xs = rw add-one (drop-cons xs k nought (omega arith)) in
-    owes-less (owes-less (rw (m, d) at p) q) t
+    owes_less (owes_less (rw (m, d) at p) q) t
 
-pub turns-end : {o bs o' : List ℕ} {at r : ℕ} (xs : List Signed) (left k : ℕ) → left ≤ 0 → Owes o at bs o' r (spells left (drop k xs)) → Wrote o at bs o' r
+pub turns_end : {o bs o' : List ℕ} {at r : ℕ} (xs : List Signed) (left k : ℕ) → left ≤ 0 → Owes o at bs o' r (spells left (drop k xs)) → Wrote o at bs o' r
 unfolding spells
-turns-end xs left k h p =
+turns_end xs left k h p =
     let m : left ≡ 0 = omega arith in
-    owes-none (rw m at p)
+    owes_none (rw m at p)
 
-pub wrote-entry : {o o₁ o₂ o₃ : List ℕ} {at r₁ r₂ r₃ m : ℕ} (label : List ℕ) (known : Bool) (n : ℕ) (x : Fields) (xs : List Signed) → m ≡ cond known 69 85 → xs ≡ sized false n ∷ inOrder x
+pub wrote_entry : {o o₁ o₂ o₃ : List ℕ} {at r₁ r₂ r₃ m : ℕ} (label : List ℕ) (known : Bool) (n : ℕ) (x : Fields) (xs : List Signed) → m ≡ cond known 69 85 → xs ≡ sized false n ∷ in_order x
     → Wrote o at (m ∷ 9 ∷ []) o₁ r₁ → Wrote o₁ r₁ (spells 13 xs) o₂ r₂ → Wrote o₂ r₂ (label ++ (10 ∷ [])) o₃ r₃ → Wrote o at (line_of (entry known (sized false n) x label) ++ (10 ∷ [])) o₃ r₃
-unfolding line_of entryLine
-wrote-entry label known n x xs a b p q s = wrote-same (then p (then q s)) (rw (a, b) (simp append_assoc))
+unfolding line_of entry_line
+wrote_entry label known n x xs a b p q s = wrote_same (then p (then q s)) (rw (a, b) (simp append_assoc))
 
-pub ruleset written = (owes-all, num-status, num-plain, turn, turns-end, wrote-entry)
+pub ruleset written = (owes_all, num_status, num_plain, turn, turns_end, wrote_entry)

@@ -2,23 +2,23 @@
 use Rattle.std.specs.Prelude.{◌≡◌, refl, true, false, cond, List, [], ◌∷◌, map, ℕ, eqb}
 use Prim.Native.Char.{code}
 use Prim.Native.String.{String, [] as []ˢ, ◌∷◌ as ◌∷ˢ◌}
-use Rattle.columns.specs.Columns.{printable, sameBytes}
-use Rattle.columns.specs.Decimal.{lastDigits, dec, signedDec, toRight}
+use Rattle.columns.specs.Columns.{printable, same_bytes}
+use Rattle.columns.specs.Decimal.{last_digits, dec, signed_dec, to_right}
 use Rattle.columns.specs.Refusal.{accepted}
-use Rattle.values.specs.Number.{power, powerAt, number_of}
+use Rattle.values.specs.Number.{power, power_at, number_of}
 use Rattle.values.specs.Head.{head_of}
 use Rattle.values.specs.Value.{real, text, spelled}
-use Rattle.values.specs.Strict.{strictOf}
+use Rattle.values.specs.Strict.{strict_of}
 use Rattle.directory.specs.Fields.{nought, fields_of}
 use Rattle.sheets.specs.declared.SheetVerdict.{SheetVerdict}
 use Rattle.sheets.specs.declared.SheetVerdict.TheVariants.{Good, Wrong}
-use Rattle.sheets.specs.Plain.{sized, is_plain, is_signed, signedNumber, allDigits, isStatus, statusNumber}
-use Rattle.sheets.specs.Line.{run, isLabel, isEntryNumber, entryNumber, numbersOf, entry_of, label_of, spell, spells, entryLine}
-use Rattle.sheets.specs.Sheet.{row, Sheet, startLines, globalLines, valueLines, row_lines, lines_of, line_of, text_of, sheetText}
-use Rattle.sheets.specs.Sheet.{isMark, isStart, startLine, isFieldNumber, isNumbered, globalLine, lastLine, byMark, says_of, saidBy}
-use Rattle.sheets.specs.Sheet.{into, pieces_of, lastPiece, saidByAll, linesIn, parts_of, sheetOf}
-use Rattle.sheets.specs.Order.{sheetLine, closed, startStep, globalStep, entryStep, valueStep, lastStep, noneStep, finish, goLines}
-use Rattle.sheets.specs.Order.{verdictOf, readSheet}
+use Rattle.sheets.specs.Plain.{sized, is_plain, is_signed, signed_number, all_digits, is_status, status_number}
+use Rattle.sheets.specs.Line.{run, is_label, is_entry_number, entry_number, numbers_of, entry_of, label_of, spell, spells, entry_line}
+use Rattle.sheets.specs.Sheet.{row, Sheet, start_lines, global_lines, value_lines, row_lines, lines_of, line_of, text_of, sheet_text}
+use Rattle.sheets.specs.Sheet.{is_mark, is_start, start_line, is_field_number, is_numbered, global_line, last_line, by_mark, says_of, said_by}
+use Rattle.sheets.specs.Sheet.{into, pieces_of, last_piece, said_by_all, lines_in, parts_of, sheet_of}
+use Rattle.sheets.specs.Order.{sheet_line, closed, start_step, global_step, entry_step, value_step, last_step, none_step, finish, go_lines}
+use Rattle.sheets.specs.Order.{verdict_of, read_sheet}
 
 abbrev byte : ℕ → ℕ
 byte c = cond (eqb c 62) 9 (cond (eqb c 124) 10 c)
@@ -32,15 +32,15 @@ plain []ˢ = []
 plain (c ∷ˢ s) = code c ∷ plain s
 
 abbrev wrong : ℕ → SheetVerdict
-wrong n = Wrong (sheetLine n)
+wrong n = Wrong (sheet_line n)
 
-abbrev chairText : String
-chairText = "S>SET PIECE|G>3>5HCHAIR|G>4>7Hset.igs|E>1>116>0>0>0>0>0>0>0>01000000>0>0>0>   PIN01|V>15.E-1|V>0.|V>2.|Z>1|"
+abbrev chair_text : String
+chair_text = "S>SET PIECE|G>3>5HCHAIR|G>4>7Hset.igs|E>1>116>0>0>0>0>0>0>0>01000000>0>0>0>   PIN01|V>15.E-1|V>0.|V>2.|Z>1|"
 
 -- a text and its verdict: the entry count, or the first wrong line
 abbrev table : List (String × SheetVerdict)
 table =
-    (chairText, Good 1)
+    (chair_text, Good 1)
     -- at least one S line; S, tab, nothing is good; a trailing blank is wrong; one past the last if the sheet ends too soon
     ∷ ("S>|Z>0|", Good 0)
     ∷ ("", wrong 1)
@@ -90,11 +90,11 @@ table =
     ∷ ("S>A|V>1|Z>0|", wrong 2)
     ∷ []
 
-pub examples : map (λ (e : String × SheetVerdict). verdictOf (bytes e.0)) table ≡ map (λ (e : String × SheetVerdict). e.1) table
-unfolding printable sameBytes lastDigits dec power powerAt number_of head_of spelled strictOf is_plain is_signed signedNumber allDigits isStatus
-    statusNumber run isLabel isEntryNumber entryNumber numbersOf entry_of label_of isMark isStart startLine isFieldNumber isNumbered
-    globalLine lastLine byMark says_of saidBy into pieces_of lastPiece saidByAll linesIn closed startStep globalStep entryStep valueStep
-    lastStep noneStep finish goLines verdictOf
+pub examples : map (λ (e : String × SheetVerdict). verdict_of (bytes e.0)) table ≡ map (λ (e : String × SheetVerdict). e.1) table
+unfolding printable same_bytes last_digits dec power power_at number_of head_of spelled strict_of is_plain is_signed signed_number all_digits is_status
+    status_number run is_label is_entry_number entry_number numbers_of entry_of label_of is_mark is_start start_line is_field_number is_numbered
+    global_line last_line by_mark says_of said_by into pieces_of last_piece said_by_all lines_in closed start_step global_step entry_step value_step
+    last_step none_step finish go_lines verdict_of
 examples = refl
 
 -- the chair's sheet: one entry of type 116
@@ -109,14 +109,14 @@ chair = record {
       ∷ [];
 }
 
-pub chair-text : sheetText chair ≡ bytes chairText
-unfolding chair lastDigits dec signedDec toRight spelled spell spells entryLine startLines globalLines valueLines row_lines lines_of line_of
-    text_of sheetText
+pub chair-text : sheet_text chair ≡ bytes chair_text
+unfolding chair last_digits dec signed_dec to_right spelled spell spells entry_line start_lines global_lines value_lines row_lines lines_of line_of
+    text_of sheet_text
 chair-text = refl
 
-pub chair-read : readSheet (bytes chairText) ≡ accepted chair
-unfolding chair printable sameBytes lastDigits dec power powerAt number_of head_of spelled strictOf is_plain is_signed signedNumber allDigits
-    isStatus statusNumber run isLabel isEntryNumber entryNumber numbersOf entry_of label_of isMark isStart startLine isFieldNumber isNumbered
-    globalLine lastLine byMark says_of saidBy into pieces_of lastPiece saidByAll linesIn parts_of sheetOf closed startStep globalStep entryStep
-    valueStep lastStep noneStep finish goLines verdictOf readSheet
+pub chair-read : read_sheet (bytes chair_text) ≡ accepted chair
+unfolding chair printable same_bytes last_digits dec power power_at number_of head_of spelled strict_of is_plain is_signed signed_number all_digits
+    is_status status_number run is_label is_entry_number entry_number numbers_of entry_of label_of is_mark is_start start_line is_field_number is_numbered
+    global_line last_line by_mark says_of said_by into pieces_of last_piece said_by_all lines_in parts_of sheet_of closed start_step global_step entry_step
+    value_step last_step none_step finish go_lines verdict_of read_sheet
 chair-read = refl

@@ -5,38 +5,38 @@ use Rattle.columns.specs.declared.Signed.{Signed}
 use Rattle.columns.specs.declared.SheetLine.{SheetLine}
 use Rattle.columns.specs.Refusal.{Outcome, accepted, refused}
 use Rattle.values.specs.Value.{is_default}
-use Rattle.records.specs.Global.{firstField}
+use Rattle.records.specs.Global.{first_field}
 use Rattle.sheets.specs.declared.SheetState.{SheetState}
 use Rattle.sheets.specs.declared.SheetStep.{SheetStep}
 use Rattle.sheets.specs.declared.SheetStep.TheVariants.{On, Off}
 use Rattle.sheets.specs.declared.SheetVerdict.{SheetVerdict}
 use Rattle.sheets.specs.declared.SheetVerdict.TheVariants.{Good, Wrong}
-use Rattle.sheets.specs.Sheet.{Line, start, global, entry, value, last, none, Sheet, linesIn, sheetOf}
+use Rattle.sheets.specs.Sheet.{Line, start, global, entry, value, last, none, Sheet, lines_in, sheet_of}
 
-abbrev pub sheetLine : ℕ → SheetLine
-sheetLine n = record { 0 = n }
+abbrev pub sheet_line : ℕ → SheetLine
+sheet_line n = record { 0 = n }
 
 -- ---- the state: how far the lines have come
 
 -- its section: no line yet, or that of the last line; they come in this order: S, G, the entries with their values, Z
-abbrev pub beforeStarts : ℕ
-beforeStarts = 0
+abbrev pub before_starts : ℕ
+before_starts = 0
 
-abbrev pub inStarts : ℕ
-inStarts = 1
+abbrev pub in_starts : ℕ
+in_starts = 1
 
-abbrev pub inGlobals : ℕ
-inGlobals = 2
+abbrev pub in_globals : ℕ
+in_globals = 2
 
-abbrev pub inEntries : ℕ
-inEntries = 3
+abbrev pub in_entries : ℕ
+in_entries = 3
 
-abbrev pub atEnd : ℕ
-atEnd = 4
+abbrev pub at_end : ℕ
+at_end = 4
 
 -- its field is the last G number: below all of them where there was none yet
 abbrev pub no_field : ℕ
-no_field = firstField - 1
+no_field = first_field - 1
 
 -- its run is the line of the first of the defaults that the values end with so far: lines count from 1, so nought says that there are none
 abbrev pub no_run : ℕ
@@ -44,61 +44,61 @@ no_run = 0
 
 -- and there are so many entries and lines so far
 abbrev pub begin : SheetState
-begin = record { section = beforeStarts; field = no_field; entries = 0; run = sheetLine no_run; line = 0 }
+begin = record { section = before_starts; field = no_field; entries = 0; run = sheet_line no_run; line = 0 }
 
 abbrev pub next : SheetState → ℕ → ℕ → ℕ → ℕ → SheetState
-next st section field entries run = record { section = section; field = field; entries = entries; run = sheetLine run; line = st.line + 1 }
+next st section field entries run = record { section = section; field = field; entries = entries; run = sheet_line run; line = st.line + 1 }
 
 -- ---- what a line does
 
 -- this line is the first wrong one
 abbrev pub off : SheetState → SheetStep
-off st = Off (sheetLine (st.line + 1))
+off st = Off (sheet_line (st.line + 1))
 
 -- a line that is no value line ends the values before it: they may not end with a default
 unfoldable pub closed : SheetState → SheetStep → SheetStep
 closed st x = cond (eqb st.run.0 no_run) x (Off st.run)
 
-unfoldable pub startStep : SheetState → SheetStep
-startStep st = closed st (cond (leb st.section inStarts) (On (next st inStarts st.field st.entries no_run)) (off st))
+unfoldable pub start_step : SheetState → SheetStep
+start_step st = closed st (cond (leb st.section in_starts) (On (next st in_starts st.field st.entries no_run)) (off st))
 
 -- G numbers rise
-unfoldable pub globalStep : SheetState → ℕ → SheetStep
-globalStep st n =
+unfoldable pub global_step : SheetState → ℕ → SheetStep
+global_step st n =
     closed st
-    (cond (leb inStarts st.section && (leb st.section inGlobals && ltb st.field n))
-    (On (next st inGlobals n st.entries no_run)) (off st))
+    (cond (leb in_starts st.section && (leb st.section in_globals && ltb st.field n))
+    (On (next st in_globals n st.entries no_run)) (off st))
 
 -- directory numbers are 1, 3, 5 on
-unfoldable pub entryStep : SheetState → Signed → SheetStep
-entryStep st x =
+unfoldable pub entry_step : SheetState → Signed → SheetStep
+entry_step st x =
     closed st
-    (cond (leb inStarts st.section && (leb st.section inEntries && (not x.neg && eqb x.size (2 * st.entries + 1))))
-    (On (next st inEntries st.field (st.entries + 1) no_run)) (off st))
+    (cond (leb in_starts st.section && (leb st.section in_entries && (not x.neg && eqb x.size (2 * st.entries + 1))))
+    (On (next st in_entries st.field (st.entries + 1) no_run)) (off st))
 
-unfoldable pub valueStep : SheetState → Bool → SheetStep
-valueStep st default =
-    cond (eqb st.section inEntries)
-    (On (next st inEntries st.field st.entries (cond default (cond (eqb st.run.0 no_run) (st.line + 1) st.run.0) no_run)))
+unfoldable pub value_step : SheetState → Bool → SheetStep
+value_step st default =
+    cond (eqb st.section in_entries)
+    (On (next st in_entries st.field st.entries (cond default (cond (eqb st.run.0 no_run) (st.line + 1) st.run.0) no_run)))
     (off st)
 
 -- the entry count
-unfoldable pub lastStep : SheetState → ℕ → SheetStep
-lastStep st n =
+unfoldable pub last_step : SheetState → ℕ → SheetStep
+last_step st n =
     closed st
-    (cond (leb inStarts st.section && (leb st.section inEntries && eqb n st.entries))
-    (On (next st atEnd st.field st.entries no_run)) (off st))
+    (cond (leb in_starts st.section && (leb st.section in_entries && eqb n st.entries))
+    (On (next st at_end st.field st.entries no_run)) (off st))
 
-unfoldable pub noneStep : SheetState → Bool → SheetStep
-noneStep st b = cond b (off st) (closed st (off st))
+unfoldable pub none_step : SheetState → Bool → SheetStep
+none_step st b = cond b (off st) (closed st (off st))
 
-abbrev pub stepLine : SheetState → Line → SheetStep
-stepLine st (start t) = startStep st
-stepLine st (global n v) = globalStep st n
-stepLine st (entry known n x label) = entryStep st n
-stepLine st (value reference v) = valueStep st (is_default v)
-stepLine st (last n) = lastStep st n
-stepLine st (none b) = noneStep st b
+abbrev pub step_line : SheetState → Line → SheetStep
+step_line st (start t) = start_step st
+step_line st (global n v) = global_step st n
+step_line st (entry known n x label) = entry_step st n
+step_line st (value reference v) = value_step st (is_default v)
+step_line st (last n) = last_step st n
+step_line st (none b) = none_step st b
 
 abbrev pub verdict : SheetStep → SheetVerdict
 verdict (On st) = Good st.entries
@@ -106,15 +106,15 @@ verdict (Off n) = Wrong n
 
 -- the sheet has ended: after Z it is good, else the line after the last is wrong
 unfoldable pub finish : SheetState → SheetVerdict
-finish st = cond (eqb st.section atEnd) (Good st.entries) (verdict (closed st (off st)))
+finish st = cond (eqb st.section at_end) (Good st.entries) (verdict (closed st (off st)))
 
 -- the entry count, or the first wrong line
-unfoldable pub goLines : SheetState → List Line → SheetVerdict
-goLines st [] = finish st
-goLines st (l ∷ ls) = elim (stepLine st l) [ On st' ↦ goLines st' ls | Off n ↦ Wrong n ]
+unfoldable pub go_lines : SheetState → List Line → SheetVerdict
+go_lines st [] = finish st
+go_lines st (l ∷ ls) = elim (step_line st l) [ On st' ↦ go_lines st' ls | Off n ↦ Wrong n ]
 
-unfoldable pub verdictOf : List ℕ → SheetVerdict
-verdictOf t = goLines begin (linesIn t)
+unfoldable pub verdict_of : List ℕ → SheetVerdict
+verdict_of t = go_lines begin (lines_in t)
 
 -- 17, at the first wrong line, one past the last if it ends too soon
 abbrev pub outcome : Sheet → SheetVerdict → Outcome Sheet
@@ -122,5 +122,5 @@ outcome s (Good n) = accepted s
 outcome s (Wrong n) = refused WrongSheet n.0
 
 -- what a text carries as a sheet
-unfoldable pub readSheet : List ℕ → Outcome Sheet
-readSheet t = outcome (sheetOf (linesIn t)) (verdictOf t)
+unfoldable pub read_sheet : List ℕ → Outcome Sheet
+read_sheet t = outcome (sheet_of (lines_in t)) (verdict_of t)

@@ -3,20 +3,20 @@ use Rattle.std.specs.Prelude.{Bool, true, false, cond, not, ◌&&◌, ◌||◌, 
 use Rattle.columns.specs.declared.Signed.{Signed}
 use Rattle.columns.specs.Columns.{printable}
 use Rattle.columns.specs.Decimal.{dec}
-use Rattle.columns.specs.Format.{textColumns}
-use Rattle.columns.specs.Letters.{tab, newline, space, letterE, letterG, letterR, letterS, letterU, letterV, letterZ}
+use Rattle.columns.specs.Format.{text_columns}
+use Rattle.columns.specs.Letters.{tab, newline, space, letter_e, letter_g, letter_r, letter_s, letter_u, letter_v, letter_z}
 use Rattle.values.specs.declared.Strict.{Strict}
 use Rattle.values.specs.declared.Strict.TheVariants.{Is, Not}
-use Rattle.values.specs.Value.{Item, item_of, spelled, isMissing}
-use Rattle.values.specs.Strict.{strictOf}
-use Rattle.records.specs.Global.{firstField, lastField}
+use Rattle.values.specs.Value.{Item, item_of, spelled, is_missing}
+use Rattle.values.specs.Strict.{strict_of}
+use Rattle.records.specs.Global.{first_field, last_field}
 use Rattle.directory.specs.declared.Fields.{Fields}
 use Rattle.sheets.specs.declared.EntryLine.{EntryLine}
 use Rattle.sheets.specs.declared.EntryLine.TheVariants.{Got, Wrong}
 use Rattle.sheets.specs.declared.Said.{Said}
 use Rattle.sheets.specs.declared.Said.TheVariants.{Start, Global, Entry, Value as Given, Last, Nothing}
 use Rattle.sheets.specs.Plain.{plain_of, is_plain, sized}
-use Rattle.sheets.specs.Line.{run, entry_of, label_of, entryLine}
+use Rattle.sheets.specs.Line.{run, entry_of, label_of, entry_line}
 
 -- ---- what a sheet carries
 
@@ -44,35 +44,35 @@ pub data Line : Type 0 where
   -- a line that says nothing, and whether it begins as a value line does
   none : Bool → Line
 
-unfoldable pub startLines : List (List ℕ) → List Line → List Line
-startLines [] rest = rest
-startLines (t ∷ ts) rest = start t ∷ startLines ts rest
+unfoldable pub start_lines : List (List ℕ) → List Line → List Line
+start_lines [] rest = rest
+start_lines (t ∷ ts) rest = start t ∷ start_lines ts rest
 
-unfoldable pub globalLines : List (ℕ × Item) → List Line → List Line
-globalLines [] rest = rest
-globalLines (g ∷ gs) rest = global g.0 g.1 ∷ globalLines gs rest
+unfoldable pub global_lines : List (ℕ × Item) → List Line → List Line
+global_lines [] rest = rest
+global_lines (g ∷ gs) rest = global g.0 g.1 ∷ global_lines gs rest
 
-unfoldable pub valueLines : List (Bool × Item) → List Line → List Line
-valueLines [] rest = rest
-valueLines (v ∷ vs) rest = value v.0 v.1 ∷ valueLines vs rest
+unfoldable pub value_lines : List (Bool × Item) → List Line → List Line
+value_lines [] rest = rest
+value_lines (v ∷ vs) rest = value v.0 v.1 ∷ value_lines vs rest
 
 -- the entries from the k-th on, and the Z line with the entry count
 unfoldable pub row_lines : ℕ → List Row → List Line
 row_lines k [] = last k ∷ []
-row_lines k (r ∷ rs) = entry r.known (sized false (2 * k + 1)) r.fields r.label ∷ valueLines r.values (row_lines (k + 1) rs)
+row_lines k (r ∷ rs) = entry r.known (sized false (2 * k + 1)) r.fields r.label ∷ value_lines r.values (row_lines (k + 1) rs)
 
 -- S, G, the entries with their values, Z
 unfoldable pub lines_of : Sheet → List Line
-lines_of s = startLines s.starts (globalLines s.globals (row_lines 0 s.rows))
+lines_of s = start_lines s.starts (global_lines s.globals (row_lines 0 s.rows))
 
 -- ---- their spelling
 
 unfoldable pub line_of : Line → List ℕ
-line_of (start t) = letterS ∷ (tab ∷ t)
-line_of (global n v) = letterG ∷ (tab ∷ (dec n ++ (tab ∷ spelled v)))
-line_of (entry known n x label) = entryLine known n.size x label
-line_of (value reference v) = cond reference letterR letterV ∷ (tab ∷ spelled v)
-line_of (last n) = letterZ ∷ (tab ∷ dec n)
+line_of (start t) = letter_s ∷ (tab ∷ t)
+line_of (global n v) = letter_g ∷ (tab ∷ (dec n ++ (tab ∷ spelled v)))
+line_of (entry known n x label) = entry_line known n.size x label
+line_of (value reference v) = cond reference letter_r letter_v ∷ (tab ∷ spelled v)
+line_of (last n) = letter_z ∷ (tab ∷ dec n)
 line_of (none b) = []
 
 unfoldable pub text_of : List Line → List ℕ
@@ -80,57 +80,57 @@ text_of [] = []
 text_of (l ∷ ls) = line_of l ++ (newline ∷ text_of ls)
 
 -- the sheet's bytes
-unfoldable pub sheetText : Sheet → List ℕ
-sheetText s = text_of (lines_of s)
+unfoldable pub sheet_text : Sheet → List ℕ
+sheet_text s = text_of (lines_of s)
 
 -- ---- what a line says: it has one spelling
 
 -- a byte is R or V
-unfoldable pub isMark : ℕ → Bool
-isMark b = eqb b letterR || eqb b letterV
+unfoldable pub is_mark : ℕ → Bool
+is_mark b = eqb b letter_r || eqb b letter_v
 
 -- a line begins with one of them and a tab
 unfoldable pub is_value : List ℕ → Bool
-is_value l = eqb (get_or l 1 0) tab && isMark (get_or l 0 0)
+is_value l = eqb (get_or l 1 0) tab && is_mark (get_or l 0 0)
 
 -- the line that is read of l: its text, its value or its label stand there
-abbrev pub lineFrom : List ℕ → Said → Line
-lineFrom l Start = start (drop 2 l)
-lineFrom l (Global n at v) = global n (item_of (drop at l) v)
-lineFrom l (Entry known n x) = entry known n x (label_of l)
-lineFrom l (Given reference v) = value reference (item_of (drop 2 l) v)
-lineFrom l (Last n) = last n
-lineFrom l (Nothing b) = none b
+abbrev pub line_from : List ℕ → Said → Line
+line_from l Start = start (drop 2 l)
+line_from l (Global n at v) = global n (item_of (drop at l) v)
+line_from l (Entry known n x) = entry known n x (label_of l)
+line_from l (Given reference v) = value reference (item_of (drop 2 l) v)
+line_from l (Last n) = last n
+line_from l (Nothing b) = none b
 
 -- a start text: plain, at most 72 bytes, no blank at its end
-unfoldable pub isStart : List ℕ → Bool
-isStart t = leb (length t) textColumns && (not (eqb (get_or t (length t - 1) 0) space) && printable t)
+unfoldable pub is_start : List ℕ → Bool
+is_start t = leb (length t) text_columns && (not (eqb (get_or t (length t - 1) 0) space) && printable t)
 
 -- S, tab, a start text
-unfoldable pub startLine : List ℕ → Said
-startLine t = cond (isStart t) Start (Nothing false)
+unfoldable pub start_line : List ℕ → Said
+start_line t = cond (is_start t) Start (Nothing false)
 
 -- a G value that is spelt, and no default
 abbrev pub global_of : Bool → ℕ → ℕ → Strict → Said
 global_of good n at Not = Nothing false
-global_of good n at (Is v) = cond (good && not (isMissing v)) (Global n at v) (Nothing false)
+global_of good n at (Is v) = cond (good && not (is_missing v)) (Global n at v) (Nothing false)
 
 -- a plain number from 3 to 24
-unfoldable pub isFieldNumber : List ℕ → Bool
-isFieldNumber t = is_plain t && (leb firstField (plain_of t) && leb (plain_of t) lastField)
+unfoldable pub is_field_number : List ℕ → Bool
+is_field_number t = is_plain t && (leb first_field (plain_of t) && leb (plain_of t) last_field)
 
 -- with a tab behind it
-unfoldable pub isNumbered : List ℕ → Bool
-isNumbered t = ltb (run tab t) (length t) && isFieldNumber (take (run tab t) t)
+unfoldable pub is_numbered : List ℕ → Bool
+is_numbered t = ltb (run tab t) (length t) && is_field_number (take (run tab t) t)
 
 -- G, tab, a field's number, tab, its value
-unfoldable pub globalLine : List ℕ → Said
-globalLine t = global_of (isNumbered t) (plain_of (take (run tab t) t)) (2 + suc (run tab t)) (strictOf (drop (suc (run tab t)) t))
+unfoldable pub global_line : List ℕ → Said
+global_line t = global_of (is_numbered t) (plain_of (take (run tab t) t)) (2 + suc (run tab t)) (strict_of (drop (suc (run tab t)) t))
 
 -- E or U, tab, the numbers and the label
-abbrev pub entryLineOf : EntryLine → Said
-entryLineOf (Got known n x) = Entry known n x
-entryLineOf Wrong = Nothing false
+abbrev pub entry_line_of : EntryLine → Said
+entry_line_of (Got known n x) = Entry known n x
+entry_line_of Wrong = Nothing false
 
 -- a default, or a value
 abbrev pub value_of : Bool → Strict → Said
@@ -138,26 +138,26 @@ value_of reference (Is v) = Given reference v
 value_of reference Not = Nothing true
 
 -- Z, tab, the entry count
-unfoldable pub lastLine : List ℕ → Said
-lastLine t = cond (is_plain t) (Last (plain_of t)) (Nothing false)
+unfoldable pub last_line : List ℕ → Said
+last_line t = cond (is_plain t) (Last (plain_of t)) (Nothing false)
 
 -- by the line's first byte, S G E U R V Z; the second is a tab, and t is what follows
-unfoldable pub byMark : ℕ → List ℕ → List ℕ → Said
-byMark b l t =
-    cond (eqb b letterS) (startLine t)
-    (cond (eqb b letterG) (globalLine t)
-    (cond (eqb b letterE || eqb b letterU) (entryLineOf (entry_of l))
-    (cond (eqb b letterR) (value_of true (strictOf t))
-    (cond (eqb b letterV) (value_of false (strictOf t))
-    (cond (eqb b letterZ) (lastLine t) (Nothing false))))))
+unfoldable pub by_mark : ℕ → List ℕ → List ℕ → Said
+by_mark b l t =
+    cond (eqb b letter_s) (start_line t)
+    (cond (eqb b letter_g) (global_line t)
+    (cond (eqb b letter_e || eqb b letter_u) (entry_line_of (entry_of l))
+    (cond (eqb b letter_r) (value_of true (strict_of t))
+    (cond (eqb b letter_v) (value_of false (strict_of t))
+    (cond (eqb b letter_z) (last_line t) (Nothing false))))))
 
 -- what is read of a line, with where its value stands
 unfoldable pub says_of : List ℕ → Said
-says_of l = cond (eqb (get_or l 1 0) tab) (byMark (get_or l 0 0) l (drop 2 l)) (Nothing (isMark (get_or l 0 0)))
+says_of l = cond (eqb (get_or l 1 0) tab) (by_mark (get_or l 0 0) l (drop 2 l)) (Nothing (is_mark (get_or l 0 0)))
 
 -- what a line says
-unfoldable pub saidBy : List ℕ → Line
-saidBy l = lineFrom l (says_of l)
+unfoldable pub said_by : List ℕ → Line
+said_by l = line_from l (says_of l)
 
 -- ---- the lines of a text
 
@@ -172,17 +172,17 @@ pieces_of [] = [] ∷ []
 pieces_of (b ∷ bs) = elim (eqb b newline) [ true ↦ [] ∷ pieces_of bs | false ↦ into b (pieces_of bs) ]
 
 -- behind the last LF nothing stands; a piece there says nothing
-unfoldable pub lastPiece : List ℕ → List Line
-lastPiece [] = []
-lastPiece (b ∷ bs) = none (isMark b) ∷ []
+unfoldable pub last_piece : List ℕ → List Line
+last_piece [] = []
+last_piece (b ∷ bs) = none (is_mark b) ∷ []
 
-unfoldable pub saidByAll : List (List ℕ) → List Line
-saidByAll [] = []
-saidByAll (l ∷ ls) = elim ls [ [] ↦ lastPiece l | ◌∷◌ m ms ↦ saidBy l ∷ saidByAll ls ]
+unfoldable pub said_by_all : List (List ℕ) → List Line
+said_by_all [] = []
+said_by_all (l ∷ ls) = elim ls [ [] ↦ last_piece l | ◌∷◌ m ms ↦ said_by l ∷ said_by_all ls ]
 
 -- what the lines of a text say
-unfoldable pub linesIn : List ℕ → List Line
-linesIn t = saidByAll (pieces_of t)
+unfoldable pub lines_in : List ℕ → List Line
+lines_in t = said_by_all (pieces_of t)
 
 -- ---- the sheet of some lines, from the last to the first; values wait for their entry
 
@@ -210,5 +210,5 @@ unfoldable pub parts_of : List Line → Parts
 parts_of [] = parts [] [] [] []
 parts_of (l ∷ ls) = with l (parts_of ls)
 
-unfoldable pub sheetOf : List Line → Sheet
-sheetOf ls = record { starts = (parts_of ls).starts; globals = (parts_of ls).globals; rows = (parts_of ls).rows }
+unfoldable pub sheet_of : List Line → Sheet
+sheet_of ls = record { starts = (parts_of ls).starts; globals = (parts_of ls).globals; rows = (parts_of ls).rows }

@@ -1,7 +1,7 @@
 // The order of a sheet's lines: what each line does to the state, and the verdict at the end.
 ghost use Rattle.std.specs.Prelude.{◌≡◌, ◌+◌, ◌*◌, ◌^◌, ◌≤◌, ◌<◌};
-ghost use Rattle.sheets.specs.Order.{startStep, globalStep, entryStep, valueStep, lastStep, noneStep, finish};
-ghost use Rattle.sheets.specs.Reading.{stepSaid, pieceVerdict};
+ghost use Rattle.sheets.specs.Order.{start_step, global_step, entry_step, value_step, last_step, none_step, finish};
+ghost use Rattle.sheets.specs.Reading.{step_said, piece_verdict};
 
 use crate::{
     AT_END, IN_ENTRIES, IN_GLOBALS, IN_STARTS, NO_RUN, Said, SheetState, SheetStep, SheetVerdict,
@@ -11,7 +11,7 @@ use values::{Value, is_missing};
 
 fn start_step(st: SheetState) -> SheetStep
     requires { st.line < 2 ^ 63 }
-    ensures { result ≡ startStep st }
+    ensures { result ≡ start_step st }
 {
     let run = st.run;
     if run.0 != NO_RUN {
@@ -32,7 +32,7 @@ fn start_step(st: SheetState) -> SheetStep
 // G numbers rise.
 fn global_step(st: SheetState, n: u32) -> SheetStep
     requires { st.line < 2 ^ 63 }
-    ensures { result ≡ globalStep st n }
+    ensures { result ≡ global_step st n }
 {
     let run = st.run;
     if run.0 != NO_RUN {
@@ -60,7 +60,7 @@ fn global_step(st: SheetState, n: u32) -> SheetStep
 fn entry_step(st: SheetState, x: Signed) -> SheetStep
     requires line_bound { st.line < 2 ^ 63 }
     requires entries_le_line { st.entries ≤ st.line }
-    ensures { result ≡ entryStep st x }
+    ensures { result ≡ entry_step st x }
 {
     let run = st.run;
     if run.0 != NO_RUN {
@@ -90,7 +90,7 @@ fn entry_step(st: SheetState, x: Signed) -> SheetStep
 // Values may not end with a default: the first of such a run is remembered.
 pub fn value_step(st: SheetState, default: bool) -> SheetStep
     requires { st.line < 2 ^ 63 }
-    ensures { result ≡ valueStep st default }
+    ensures { result ≡ value_step st default }
 {
     let run = st.run;
     let line = st.line + 1;
@@ -127,7 +127,7 @@ pub fn value_step(st: SheetState, default: bool) -> SheetStep
 // The Z line counts the entries.
 fn last_step(st: SheetState, n: usize) -> SheetStep
     requires { st.line < 2 ^ 63 }
-    ensures { result ≡ lastStep st n }
+    ensures { result ≡ last_step st n }
 {
     let run = st.run;
     if run.0 != NO_RUN {
@@ -153,7 +153,7 @@ fn last_step(st: SheetState, n: usize) -> SheetStep
 
 fn none_step(st: SheetState, b: bool) -> SheetStep
     requires { st.line < 2 ^ 63 }
-    ensures { result ≡ noneStep st b }
+    ensures { result ≡ none_step st b }
 {
     let line = st.line + 1;
     if b {
@@ -170,7 +170,7 @@ fn none_step(st: SheetState, b: bool) -> SheetStep
 pub fn step_line(st: SheetState, x: Said) -> SheetStep
     requires line_bound { st.line < 2 ^ 63 }
     requires entries_le_line { st.entries ≤ st.line }
-    ensures { result ≡ stepSaid st x }
+    ensures { result ≡ step_said st x }
 {
     match x {
         Said::Start => start_step(st),
@@ -200,7 +200,7 @@ pub fn finish_of(st: SheetState) -> SheetVerdict
 // The verdict where a piece with no LF stands behind the last line; b tells whether it begins as a value line does.
 pub fn wrong_piece(st: SheetState, b: bool) -> SheetVerdict
     requires { st.line < 2 ^ 63 }
-    ensures { result ≡ pieceVerdict st b }
+    ensures { result ≡ piece_verdict st b }
 {
     match none_step(st, b) {
         SheetStep::On(x) => SheetVerdict::Good(x.entries),

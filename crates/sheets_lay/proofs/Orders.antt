@@ -9,7 +9,7 @@ use lib.ListN.{length, get_or, take, set}
 use lib.Seq.{take-suc, take-suc-set, take_all}
 use Rattle.columns.specs.declared.Signed.{Signed}
 use Rattle.directory.specs.declared.Fields.{Fields}
-use Rattle.directory.specs.Fields.{nought, inOrder}
+use Rattle.directory.specs.Fields.{nought, in_order}
 use Rattle.sheets.specs.Plain.{sized}
 
 pub behind-none : (xs ns : List Signed) → take (0 + 1) xs ≡ take 1 xs ++ take 0 ns
@@ -26,7 +26,7 @@ module _ (first xs ns : List Signed) (k : ℕ) (inv : take (k + 1) xs ≡ first 
     take-suc ns k nought (omega arith),
   )
 
-  pub behind-all : (n : ℕ) (x : Fields) → 12 ≤ k → k ≤ 12 → ns ≡ inOrder x → first ≡ sized false n ∷ [] → xs ≡ sized false n ∷ inOrder x
-  behind-all n x lo hi e f = sym (take_all (k + 1) xs (omega arith)) ∙ inv ∙ rw (take_all k ns (omega arith), e, f)
+  pub behind_all : (n : ℕ) (x : Fields) → 12 ≤ k → k ≤ 12 → ns ≡ in_order x → first ≡ sized false n ∷ [] → xs ≡ sized false n ∷ in_order x
+  behind_all n x lo hi e f = sym (take_all (k + 1) xs (omega arith)) ∙ inv ∙ rw (take_all k ns (omega arith), e, f)
 
-pub ruleset behind = (behind-none, behind-on, behind-all)
+pub ruleset behind = (behind-none, behind-on, behind_all)

@@ -1,12 +1,12 @@
 // Sheets out: each function writes a line and its LF, clipped to the buffer, and returns the place after it.
 ghost use Rattle.std.specs.Prelude.{◌≡◌, false, cond, [], ◌∷◌, ◌++◌, ◌+◌, ◌^◌, ◌≤◌, ◌<◌, length};
 ghost use Rattle.columns.specs.Laid.{Wrote};
-ghost use Rattle.columns.specs.Letters.{tab, newline, letterE, letterR, letterU, letterV};
-ghost use Rattle.directory.specs.Fields.{inOrder};
+ghost use Rattle.columns.specs.Letters.{tab, newline, letter_e, letter_r, letter_u, letter_v};
+ghost use Rattle.directory.specs.Fields.{in_order};
 ghost use Rattle.sheets.specs.Plain.{sized};
-ghost use Rattle.sheets.specs.Line.{numberCount, spell, spells};
+ghost use Rattle.sheets.specs.Line.{number_count, spell, spells};
 ghost use Rattle.sheets.specs.Sheet.{Line, line_of};
-ghost use Rattle.sheets.specs.Writing.{globalHead, valueHead, entryLength};
+ghost use Rattle.sheets.specs.Writing.{global_head, value_head, entry_length};
 
 use columns::format::FIELD_COLUMNS;
 use columns::{DirectoryNumber, Signed};
@@ -46,7 +46,7 @@ pub fn put_start(out: &mut [u8], at: usize, text: &[u8]) -> usize
 // A G line up to a string's characters.
 pub fn put_global_head(out: &mut [u8], at: usize, n: u32, v: Value) -> usize
     requires { at < 2 ^ 59 }
-    ensures wrote { Wrote out.old at (globalHead n v) out.new result }
+    ensures wrote { Wrote out.old at (global_head n v) out.new result }
     ensures upper_bound { result ≤ at + 67 }
 {
     let a = put_mark(out, at, b'G');
@@ -57,7 +57,7 @@ pub fn put_global_head(out: &mut [u8], at: usize, n: u32, v: Value) -> usize
 
 // R of a reference, V of any other value.
 pub fn value_mark(reference: bool) -> u8
-    ensures { result ≡ cond reference letterR letterV }
+    ensures { result ≡ cond reference letter_r letter_v }
 {
     if reference { b'R' } else { b'V' }
 }
@@ -65,7 +65,7 @@ pub fn value_mark(reference: bool) -> u8
 // A value line up to a string's characters.
 pub fn put_value_head(out: &mut [u8], at: usize, reference: bool, v: Value) -> usize
     requires { at < 2 ^ 59 }
-    ensures wrote { Wrote out.old at (valueHead reference v) out.new result }
+    ensures wrote { Wrote out.old at (value_head reference v) out.new result }
     ensures upper_bound { result ≤ at + 46 }
 {
     let m = value_mark(reference);
@@ -87,7 +87,7 @@ fn put_num(out: &mut [u8], at: usize, left: usize, x: Signed) -> usize
 
 // The numbers of an entry line in their order: its directory number, and those of the entry.
 fn in_order(n: DirectoryNumber, x: Fields) -> [Signed; 13]
-    ensures { result ≡ sized false n.0 ∷ inOrder x }
+    ensures { result ≡ sized false n.0 ∷ in_order x }
 {
     let number = Signed {
         neg: false,
@@ -107,7 +107,7 @@ fn in_order(n: DirectoryNumber, x: Fields) -> [Signed; 13]
 // Writes the numbers, a tab behind each.
 fn put_numbers(out: &mut [u8], at: usize, xs: [Signed; 13]) -> usize
     requires { at < 2 ^ 60 }
-    ensures wrote { Wrote out.old at (spells numberCount xs) out.new result }
+    ensures wrote { Wrote out.old at (spells number_count xs) out.new result }
     ensures upper_bound { result ≤ at + 377 }
 {
     let mut left = 13;
@@ -124,7 +124,7 @@ fn put_numbers(out: &mut [u8], at: usize, xs: [Signed; 13]) -> usize
 }
 
 fn mark_of(known: bool) -> u8
-    ensures { result ≡ cond known letterE letterU }
+    ensures { result ≡ cond known letter_e letter_u }
 {
     if known { b'E' } else { b'U' }
 }
@@ -168,7 +168,7 @@ fn num_len(left: usize, x: Signed) -> usize
 
 // How many bytes the numbers take, a tab behind each.
 fn numbers_len(xs: [Signed; 13]) -> usize
-    ensures value { result ≡ length (spells numberCount xs) }
+    ensures value { result ≡ length (spells number_count xs) }
     ensures upper_bound { result ≤ 273 }
 {
     let mut left = 13;
@@ -187,7 +187,7 @@ fn numbers_len(xs: [Signed; 13]) -> usize
 // How many bytes an entry line takes whose label has so many.
 pub fn entry_len(number: DirectoryNumber, fields: Fields, label: usize) -> usize
     requires { label < 2 ^ 60 }
-    ensures value { result ≡ entryLength number.0 fields label }
+    ensures value { result ≡ entry_length number.0 fields label }
     ensures upper_bound { result ≤ label + 276 }
 {
     let xs = in_order(number, fields);

@@ -3,7 +3,7 @@ ghost use Rattle.std.specs.Prelude.{◌≡◌, true, false, ◌+◌, ◌-◌, �
 ghost use Rattle.columns.specs.Columns.{columns};
 ghost use Rattle.columns.specs.Letters.{tab};
 ghost use Rattle.sheets.specs.Line.{run};
-ghost use Rattle.sheets.specs.Folds.{unread, digitAfter, sizeFrom, minusOf, signedFold, statusFrom, entryFold};
+ghost use Rattle.sheets.specs.Folds.{unread, digit_after, size_from, minus_of, signed_fold, status_from, entry_fold};
 
 use columns::format::MOST_INTEGER_WIDE;
 use columns::{Signed, byte_u32, byte_u64};
@@ -23,7 +23,7 @@ pub struct Tabbed {
 // One more byte of a number.
 fn add_digit(n: u64, b: u8) -> u64
     requires { n ≤ unread }
-    ensures value { result ≡ digitAfter n b }
+    ensures value { result ≡ digit_after n b }
     ensures upper_bound { result ≤ unread }
 {
     if b < b'0' {
@@ -50,7 +50,7 @@ pub fn size_at(s: &[u8], n: u64, at: usize, end: usize) -> u64
     requires n_le_unread { n ≤ unread }
     requires at_le_end { at ≤ end }
     requires end_in_bounds { end ≤ length s.now }
-    ensures value { result ≡ sizeFrom n (columns s.now at end) }
+    ensures value { result ≡ size_from n (columns s.now at end) }
     ensures upper_bound { result ≤ unread }
 {
     let mut v = n;
@@ -65,7 +65,7 @@ pub fn size_at(s: &[u8], n: u64, at: usize, end: usize) -> u64
 // Minus n; minus nought is misspelt.
 fn minus_of(n: u64) -> Signed
     requires { n ≤ unread }
-    ensures { result ≡ minusOf n }
+    ensures { result ≡ minus_of n }
 {
     if 0 < n {
         return Signed {
@@ -83,7 +83,7 @@ fn minus_of(n: u64) -> Signed
 fn signed_at(s: &[u8], at: usize, end: usize) -> Signed
     requires at_le_end { at ≤ end }
     requires end_in_bounds { end ≤ length s.now }
-    ensures { result ≡ signedFold (columns s.now at end) }
+    ensures { result ≡ signed_fold (columns s.now at end) }
 {
     if end <= at {
         return Signed {
@@ -104,7 +104,7 @@ fn signed_at(s: &[u8], at: usize, end: usize) -> Signed
 
 // The status whose eight digits, behind a 1, are n.
 fn status_of(n: u64) -> Signed
-    ensures { result ≡ statusFrom n }
+    ensures { result ≡ status_from n }
 {
     if n < 100000000 {
         return Signed {
@@ -128,7 +128,7 @@ fn status_of(n: u64) -> Signed
 pub fn num_at(s: &[u8], left: usize, at: usize, end: usize) -> Signed
     requires at_le_end { at ≤ end }
     requires end_in_bounds { end ≤ length s.now }
-    ensures { result ≡ entryFold left (columns s.now at end) }
+    ensures { result ≡ entry_fold left (columns s.now at end) }
 {
     if left == 3 {
         let n = size_at(s, 1, at, end);
@@ -185,7 +185,7 @@ fn tabbed_by(s: &[u8], left: usize, at: usize, end: usize) -> Tabbed
     requires at_le_end { at ≤ end }
     requires end_in_bounds { end ≤ length s.now }
     ensures end_value { result.end ≡ at + run tab (columns s.now at end) }
-    ensures number_value { result.number ≡ entryFold left (columns s.now at result.end) }
+    ensures number_value { result.number ≡ entry_fold left (columns s.now at result.end) }
     ensures at_le_end_2 { (at ≤ result.end) × (result.end ≤ end) }
 {
     let tab = find(s, b'\t', at, end);
@@ -198,7 +198,7 @@ pub fn tabbed_at(s: &[u8], left: usize, at: usize, end: usize) -> Tabbed
     requires at_le_end { at ≤ end }
     requires end_in_bounds { end ≤ length s.now }
     ensures end_value { result.end ≡ at + run tab (columns s.now at end) }
-    ensures number_value { result.number ≡ entryFold left (columns s.now at result.end) }
+    ensures number_value { result.number ≡ entry_fold left (columns s.now at result.end) }
     ensures at_le_end_2 { (at ≤ result.end) × (result.end ≤ end) }
 {
     if end - at < 2 {

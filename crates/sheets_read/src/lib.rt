@@ -2,10 +2,10 @@
 ghost use Rattle.std.specs.Prelude.{◌≡◌, true, false, [], ◌+◌, ◌-◌, ◌≤◌, ◌<◌, length, drop};
 ghost use Rattle.columns.specs.Columns.{columns};
 ghost use Rattle.columns.specs.Letters.{newline};
-ghost use Rattle.values.specs.Strict.{strictOf};
+ghost use Rattle.values.specs.Strict.{strict_of};
 ghost use Rattle.values.specs.Writing.{Placed};
-ghost use Rattle.sheets.specs.Line.{run, entryFrom, numbersOf, numberCount, entry_of};
-ghost use Rattle.sheets.specs.Sheet.{isMark, is_value, isStart, startLine, global_of, globalLine, entryLineOf, value_of, lastLine, says_of};
+ghost use Rattle.sheets.specs.Line.{run, entry_from, numbers_of, number_count, entry_of};
+ghost use Rattle.sheets.specs.Sheet.{is_mark, is_value, is_start, start_line, global_of, global_line, entry_line_of, value_of, last_line, says_of};
 ghost use Rattle.sheets.specs.Reading.{Within};
 
 use columns::format::{FIELD_COLUMNS, MOST_INTEGER, MOST_INTEGER_WIDE, TEXT_COLUMNS};
@@ -25,7 +25,7 @@ pub fn end_of(t: &[u8], at: usize) -> usize
 
 // What the numbers of an entry line are: its directory number, and those of the entry.
 fn entry_from(known: bool, x: [Signed; 13]) -> EntryLine
-    ensures { result ≡ entryFrom known x }
+    ensures { result ≡ entry_from known x }
 {
     let fields = Fields {
         entity: x[1 + order::TYPE],
@@ -48,7 +48,7 @@ fn entry_from(known: bool, x: [Signed; 13]) -> EntryLine
 fn numbers(s: &[u8], at: usize, end: usize, known: bool) -> EntryLine
     requires at_le_end { at ≤ end }
     requires end_in_bounds { end ≤ length s.now }
-    ensures { result ≡ numbersOf known numberCount [] (columns s.now at end) }
+    ensures { result ≡ numbers_of known number_count [] (columns s.now at end) }
 {
     let z = Signed {
         neg: false,
@@ -104,7 +104,7 @@ pub fn entry_at(s: &[u8], at: usize, end: usize) -> EntryLine
 }
 
 pub fn is_mark(b: u8) -> bool
-    ensures { result ≡ isMark b }
+    ensures { result ≡ is_mark b }
 {
     b == b'R' || b == b'V'
 }
@@ -113,7 +113,7 @@ pub fn is_mark(b: u8) -> bool
 fn is_start(s: &[u8], at: usize, end: usize) -> bool
     requires at_le_end { at ≤ end }
     requires end_in_bounds { end ≤ length s.now }
-    ensures { result ≡ isStart (columns s.now at end) }
+    ensures { result ≡ is_start (columns s.now at end) }
 {
     if end == at {
         return true;
@@ -130,7 +130,7 @@ fn is_start(s: &[u8], at: usize, end: usize) -> bool
 fn start_line(s: &[u8], at: usize, end: usize) -> Said
     requires at_le_end { at ≤ end }
     requires end_in_bounds { end ≤ length s.now }
-    ensures { result ≡ startLine (columns s.now at end) }
+    ensures { result ≡ start_line (columns s.now at end) }
 {
     if is_start(s, at, end) {
         return Said::Start;
@@ -142,7 +142,7 @@ fn start_line(s: &[u8], at: usize, end: usize) -> Said
 pub fn strict_at(s: &[u8], at: usize, end: usize) -> Strict
     requires at_le_end { at ≤ end }
     requires end_in_bounds { end ≤ length s.now }
-    ensures value { result ≡ strictOf (columns s.now at end) }
+    ensures value { result ≡ strict_of (columns s.now at end) }
     ensures placed { Placed (end - at) result }
 {
     values_strict::strict(&s[at..end])
@@ -169,7 +169,7 @@ fn global_of(n: u32, at: usize, v: Strict) -> Said
 fn global_line(s: &[u8], at: usize, end: usize) -> Said
     requires at_le_end { at ≤ end }
     requires end_in_bounds { end ≤ length s.now }
-    ensures { result ≡ globalLine (columns s.now at end) }
+    ensures { result ≡ global_line (columns s.now at end) }
 {
     let e = sheets_numbers::find(s, b'\t', at, end);
     if e == end {
@@ -187,7 +187,7 @@ fn global_line(s: &[u8], at: usize, end: usize) -> Said
 }
 
 fn entry_said(x: EntryLine) -> Said
-    ensures { result ≡ entryLineOf x }
+    ensures { result ≡ entry_line_of x }
 {
     match x {
         EntryLine::Got(known, number, fields) => Said::Entry {
@@ -211,7 +211,7 @@ fn value_said(reference: bool, v: Strict) -> Said
 fn last_line(s: &[u8], at: usize, end: usize) -> Said
     requires at_le_end { at ≤ end }
     requires end_in_bounds { end ≤ length s.now }
-    ensures { result ≡ lastLine (columns s.now at end) }
+    ensures { result ≡ last_line (columns s.now at end) }
 {
     let n = sheets_numbers::size_at(s, sheets_numbers::UNREAD, at, end);
     if MOST_INTEGER_WIDE < n {

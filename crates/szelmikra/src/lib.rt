@@ -2,7 +2,7 @@
 ghost use Rattle.std.specs.Prelude.{◌≡◌, length};
 ghost use Rattle.model.specs.Read.{reads};
 ghost use Rattle.model.specs.Write.{writes};
-ghost use Rattle.desk.specs.Answers.{answer_of, leftIn};
+ghost use Rattle.desk.specs.Answers.{answer_of, left_in};
 
 use desk::Answer;
 
@@ -10,7 +10,7 @@ use desk::Answer;
 #[unsafe(no_mangle)]
 pub extern "C" fn szelmikra_read(list: u64, file: &[u8], sheet: &mut [u8]) -> Answer
     ensures value { result ≡ answer_of (length sheet.old) (reads list file.now) }
-    ensures sheet_after { sheet.new ≡ leftIn sheet.old (reads list file.now) }
+    ensures sheet_after { sheet.new ≡ left_in sheet.old (reads list file.now) }
 {
     read_file::read(list, file, sheet)
 }
@@ -19,7 +19,7 @@ pub extern "C" fn szelmikra_read(list: u64, file: &[u8], sheet: &mut [u8]) -> An
 #[unsafe(no_mangle)]
 pub extern "C" fn szelmikra_write(list: u64, sheet: &[u8], file: &mut [u8]) -> Answer
     ensures value { result ≡ answer_of (length file.old) (writes list sheet.now) }
-    ensures file_after { file.new ≡ leftIn file.old (writes list sheet.now) }
+    ensures file_after { file.new ≡ left_in file.old (writes list sheet.now) }
 {
     write_sheet::write(list, sheet, file)
 }

@@ -1,6 +1,6 @@
 -- What the functions of `values_strict` go by, one law for each need. Assumes nothing.
 use mathlib.Core.Path.{◌≡◌, refl, sym, ap, ◌∙◌}
-use mathlib.Core.Bool.{Bool, true, false, cond, ◌&&◌, ◌||◌, and-false}
+use mathlib.Core.Bool.{Bool, true, false, cond, ◌&&◌, ◌||◌, and_false}
 use mathlib.Core.List.{List, [], ◌∷◌}
 use Prim.Native.Nat.{ℕ, suc, ◌+◌, ◌-◌, ◌*◌, ◌%◌, ◌^◌, ◌≤◌, ◌<◌, min}
 use native.Mathlib.Nat.{lt_of_lt_of_le, pow-le-pow_right, pow-suc}
@@ -11,9 +11,9 @@ use lib.ListN.{length, get_or, drop, drop_of_length-le}
 use lib.Seq.{drop-cons}
 use lib.Dec.{ltb, leb, eqb}
 use borrow.Author.Tests.{leb-true, eqb-true, eq-eqb, ne_eqb, lt-ltb, le-ltb, le-leb, lt-leb}
-use Rattle.columns.specs.Columns.{columns, printable, sameBytes}
+use Rattle.columns.specs.Columns.{columns, printable, same_bytes}
 use Rattle.columns.specs.Decimal.{minus}
-use Rattle.columns.proofs.Columns.{columns-rest}
+use Rattle.columns.proofs.Columns.{columns_rest}
 use Rattle.columns.proofs.Tests.{both_left}
 use Rattle.values.specs.declared.Decimal.{Decimal}
 use Rattle.values.specs.declared.Number.{Number}
@@ -24,12 +24,12 @@ use Rattle.values.specs.declared.Value.{Value}
 use Rattle.values.specs.declared.Value.TheVariants.{Default, Whole, Real, Text}
 use Rattle.values.specs.declared.Strict.{Strict}
 use Rattle.values.specs.declared.Strict.TheVariants.{Is, Not}
-use Rattle.values.specs.Number.{isDigit}
+use Rattle.values.specs.Number.{is_digit}
 use Rattle.values.specs.Head.{head_of}
 use Rattle.values.specs.Value.{head}
 use Rattle.values.specs.Writing.{Inside, Placed}
-use Rattle.values.specs.Strict.{spelt, numeral, byHead, strictOf}
-use Rattle.values.specs.Direct.{longer, decimal, is_whole, isNought, isNormal, asWhole, asReal, byExponent, behindLetter, behindPoint, behindCount, behindDigits, directOf}
+use Rattle.values.specs.Strict.{spelt, numeral, by_head, strict_of}
+use Rattle.values.specs.Direct.{longer, decimal, is_whole, is_nought, is_normal, as_whole, as_real, by_exponent, behind_letter, behind_point, behind_count, behind_digits, direct_of}
 use Rattle.values.proofs.Ends.{inside}
 use Rattle.values.proofs.Digits.{here}
 use Rattle.values.proofs.Decimals.{up_to}
@@ -37,71 +37,71 @@ use Rattle.values.proofs.Direct.{direct}
 
 -- ---- digits
 
-is_digit : (c : ℕ) → 48 ≤ c → c ≤ 57 → isDigit c ≡ true
-is_digit c a b = simp (le-leb 48 c a, le-leb c 57 b)
+is_digit_lem : (c : ℕ) → 48 ≤ c → c ≤ 57 → is_digit c ≡ true
+is_digit_lem c a b = simp (le-leb 48 c a, le-leb c 57 b)
 
-low_digit : (c : ℕ) → c < 48 → isDigit c ≡ false
+low_digit : (c : ℕ) → c < 48 → is_digit c ≡ false
 low_digit c h = simp (lt-leb 48 c h)
 
-high_digit : (c : ℕ) → 57 < c → isDigit c ≡ false
+high_digit : (c : ℕ) → 57 < c → is_digit c ≡ false
 high_digit c h = simp (le-leb 48 c (omega arith), lt-leb c 57 h)
 
 module _ (at : ℕ) where
-  none_here : (t : List ℕ) → isDigit (get_or t 0 0) ≡ false → up_to 0 at ≡ decimal t at
+  none_here : (t : List ℕ) → is_digit (get_or t 0 0) ≡ false → up_to 0 at ≡ decimal t at
   none_here [] e = refl
   none_here (c ∷ cs) e = simp e
 
 module _ (l : List ℕ) (at : ℕ) {c : ℕ} (e : c ≡ get_or l at 0) where
-  none-at : isDigit c ≡ false → up_to 0 at ≡ decimal (drop at l) at
-  none-at h = none_here at (drop at l) (ap isDigit (sym (e ∙ here l at (drop at l) refl)) ∙ h)
+  none-at : is_digit c ≡ false → up_to 0 at ≡ decimal (drop at l) at
+  none-at h = none_here at (drop at l) (ap is_digit (sym (e ∙ here l at (drop at l) refl)) ∙ h)
 
-  pub decimal-low : c < 48 → up_to 0 at ≡ decimal (drop at l) at
-  decimal-low h = none-at (low_digit c h)
+  pub decimal_low : c < 48 → up_to 0 at ≡ decimal (drop at l) at
+  decimal_low h = none-at (low_digit c h)
 
-  pub decimal-high : 57 < c → up_to 0 at ≡ decimal (drop at l) at
-  decimal-high h = none-at (high_digit c h)
+  pub decimal_high : 57 < c → up_to 0 at ≡ decimal (drop at l) at
+  decimal_high h = none-at (high_digit c h)
 
-  pub decimal-in : 48 ≤ c → at + 1 ≤ length l
-  decimal-in h = omega (arith, inside l at (omega arith))
+  pub decimal_in : 48 ≤ c → at + 1 ≤ length l
+  decimal_in h = omega (arith, inside l at (omega arith))
 
   pub decimal-stop : {stop : ℕ} → 48 ≤ c → stop ≡ min (length l) (at + 17) → at + 1 ≤ stop
-  decimal-stop h es = omega (arith, decimal-in h)
+  decimal-stop h es = omega (arith, decimal_in h)
 
-  first-at : 48 ≤ c → c ≤ 57 → decimal (drop at l) at ≡ cond (eqb c 48) (up_to 0 (at + 1)) (longer (drop (at + 1) l) (c - 48) (at + 1))
-  first-at a b = rw (drop-cons l at 0 (inside l at (omega arith)), ← e, is_digit c a b, add-one)
+  first_at : 48 ≤ c → c ≤ 57 → decimal (drop at l) at ≡ cond (eqb c 48) (up_to 0 (at + 1)) (longer (drop (at + 1) l) (c - 48) (at + 1))
+  first_at a b = rw (drop-cons l at 0 (inside l at (omega arith)), ← e, is_digit_lem c a b, add-one)
 
   pub decimal-nought : 48 ≤ c → c ≤ 57 → c ≡ 48 → up_to 0 (at + 1) ≡ decimal (drop at l) at
-  decimal-nought a b z = sym (first-at a b ∙ rw z)
+  decimal-nought a b z = sym (first_at a b ∙ rw z)
 
-  pub decimal-first : {d : ℕ} → 48 ≤ c → c ≤ 57 → (c ≡ 48 → ⊥) → d ≡ c - 48 → longer (drop (at + 1) l) d (at + 1) ≡ decimal (drop at l) at
-  decimal-first a b n ed = rw ed (sym (first-at a b ∙ rw (ne_eqb c 48 n)))
+  pub decimal_first : {d : ℕ} → 48 ≤ c → c ≤ 57 → (c ≡ 48 → ⊥) → d ≡ c - 48 → longer (drop (at + 1) l) d (at + 1) ≡ decimal (drop at l) at
+  decimal_first a b n ed = rw ed (sym (first_at a b ∙ rw (ne_eqb c 48 n)))
 
 -- v has n + 1 digits
 abbrev pub Long : ℕ → ℕ → Type 0
 Long v n = (10 ^ n ≤ v) × (v < 10 ^ suc n)
 
-long-below : (v n m : ℕ) → Long v n → n < m → v < 10 ^ m
-long-below v n m h l = lt_of_lt_of_le h.1 (pow-le-pow_right (omega arith) l)
+long_below : (v n m : ℕ) → Long v n → n < m → v < 10 ^ m
+long_below v n m h l = lt_of_lt_of_le h.1 (pow-le-pow_right (omega arith) l)
 
-pub long-first : (at : ℕ) {c d : ℕ} → 48 ≤ c → c ≤ 57 → (c ≡ 48 → ⊥) → d ≡ c - 48 → Long d (at + 1 - (at + 1))
-long-first at a b n e = let z : at + 1 - (at + 1) ≡ 0 = omega arith in rw z (omega arith, omega arith)
+pub long_first : (at : ℕ) {c d : ℕ} → 48 ≤ c → c ≤ 57 → (c ≡ 48 → ⊥) → d ≡ c - 48 → Long d (at + 1 - (at + 1))
+long_first at a b n e = let z : at + 1 - (at + 1) ≡ 0 = omega arith in rw z (omega arith, omega arith)
 
 pub first_below : {c d : ℕ} → c ≤ 57 → d ≡ c - 48 → d < 10 ^ 17
 first_below h e = omega arith
 
-long-next : (v n d : ℕ) → Long v n → d ≤ 9 → Long (v * 10 + d) (suc n)
-long-next v n d h l = (omega (arith, pow-suc 10 n, h.0), omega (arith, pow-suc 10 n, pow-suc 10 (suc n), h.1))
+long_next : (v n d : ℕ) → Long v n → d ≤ 9 → Long (v * 10 + d) (suc n)
+long_next v n d h l = (omega (arith, pow-suc 10 n, h.0), omega (arith, pow-suc 10 n, pow-suc 10 (suc n), h.1))
 
 -- what the loop has in hand at k, which is not past stop: all of the number is the rest of it
 module _ (l : List ℕ) (at v k stop : ℕ) {r : Decimal} (es : stop ≡ min (length l) (at + 17)) (e : longer (drop k l) v k ≡ r) where
-  step : k < length l → longer (drop k l) v k ≡ cond (isDigit (get_or l k 0) && ltb v (10 ^ 16)) (longer (drop (k + 1) l) (v * 10 + (get_or l k 0 - 48)) (k + 1)) (up_to v k)
+  step : k < length l → longer (drop k l) v k ≡ cond (is_digit (get_or l k 0) && ltb v (10 ^ 16)) (longer (drop (k + 1) l) (v * 10 + (get_or l k 0 - 48)) (k + 1)) (up_to v k)
   step h = rw (drop-cons l k 0 h, add-one)
 
-  pub longer-low : k < stop → get_or l k 0 < 48 → up_to v k ≡ r
-  longer-low h a = sym (step (omega arith) ∙ rw (low_digit (get_or l k 0) a)) ∙ e
+  pub longer_low : k < stop → get_or l k 0 < 48 → up_to v k ≡ r
+  longer_low h a = sym (step (omega arith) ∙ rw (low_digit (get_or l k 0) a)) ∙ e
 
-  pub longer-high : k < stop → 57 < get_or l k 0 → up_to v k ≡ r
-  longer-high h a = sym (step (omega arith) ∙ rw (high_digit (get_or l k 0) a)) ∙ e
+  pub longer_high : k < stop → 57 < get_or l k 0 → up_to v k ≡ r
+  longer_high h a = sym (step (omega arith) ∙ rw (high_digit (get_or l k 0) a)) ∙ e
 
   module _ (o : at < k) (z : Long v (k - (at + 1))) where
     pub longer-stop : stop ≤ k → k ≤ stop → up_to v k ≡ r
@@ -114,205 +114,205 @@ module _ (l : List ℕ) (at v k stop : ℕ) {r : Decimal} (es : stop ≡ min (le
         most t = let n : k - (at + 1) ≡ 16 = omega arith in (rw n at z).0
 
         full : k < length l → up_to v k ≡ r
-        full t = sym (step t ∙ rw (le-ltb v (10 ^ 16) (most t), and-false)) ∙ e
+        full t = sym (step t ∙ rw (le-ltb v (10 ^ 16) (most t), and_false)) ∙ e
 
     module _ {d : ℕ} (h : k < stop) (a : 48 ≤ get_or l k 0) (b : get_or l k 0 ≤ 57) (ed : d ≡ get_or l k 0 - 48) where
       pub longer-next : longer (drop (k + 1) l) (v * 10 + d) (k + 1) ≡ r
-      longer-next = rw ed (sym (step (omega arith) ∙ rw (is_digit (get_or l k 0) a b, lt-ltb v (10 ^ 16) (long-below v (k - (at + 1)) 16 z (omega arith)))) ∙ e)
+      longer-next = rw ed (sym (step (omega arith) ∙ rw (is_digit_lem (get_or l k 0) a b, lt-ltb v (10 ^ 16) (long_below v (k - (at + 1)) 16 z (omega arith)))) ∙ e)
 
-      pub longer-long : Long (v * 10 + d) (k + 1 - (at + 1))
-      longer-long = let n : k + 1 - (at + 1) ≡ suc (k - (at + 1)) = omega arith in rw n (long-next v (k - (at + 1)) d z (omega arith))
+      pub longer_long : Long (v * 10 + d) (k + 1 - (at + 1))
+      longer_long = let n : k + 1 - (at + 1) ≡ suc (k - (at + 1)) = omega arith in rw n (long_next v (k - (at + 1)) d z (omega arith))
 
       pub longer-below : v * 10 + d < 10 ^ 17
-      longer-below = long-below (v * 10 + d) (suc (k - (at + 1))) 17 (long-next v (k - (at + 1)) d z (omega arith)) (omega arith)
+      longer-below = long_below (v * 10 + d) (suc (k - (at + 1))) 17 (long_next v (k - (at + 1)) d z (omega arith)) (omega arith)
 
-pub ruleset decimals = (decimal-low, decimal-high, decimal-in, decimal-stop, decimal-nought, decimal-first, long-first, first_below, longer-low, longer-high, longer-stop, longer-next, longer-long, longer-below)
+pub ruleset decimals = (decimal_low, decimal_high, decimal_in, decimal-stop, decimal-nought, decimal_first, long_first, first_below, longer_low, longer_high, longer-stop, longer-next, longer_long, longer-below)
 
 -- ---- limits
 
 module _ (neg : Bool) (size : ℕ) where
-  pub whole-beyond : 2147483647 < size → false ≡ is_whole neg size
-  whole-beyond h = simp (lt-leb size 2147483647 h)
+  pub whole_beyond : 2147483647 < size → false ≡ is_whole neg size
+  whole_beyond h = simp (lt-leb size 2147483647 h)
 
-  pub whole-minus : size ≤ 2147483647 → neg ≡ true → ltb 0 size ≡ is_whole neg size
-  whole-minus h e = simp (le-leb size 2147483647 h, e)
+  pub whole_minus : size ≤ 2147483647 → neg ≡ true → ltb 0 size ≡ is_whole neg size
+  whole_minus h e = simp (le-leb size 2147483647 h, e)
 
-  pub whole-plus : size ≤ 2147483647 → neg ≡ false → true ≡ is_whole neg size
-  whole-plus h e = simp (le-leb size 2147483647 h, e)
+  pub whole_plus : size ≤ 2147483647 → neg ≡ false → true ≡ is_whole neg size
+  whole_plus h e = simp (le-leb size 2147483647 h, e)
 
   module _ {b : Bool} (e : b ≡ is_whole neg size) where
-    pub whole-fits : b ≡ true → size < 2 ^ 32
-    whole-fits h = omega (arith, leb-true size 2147483647 (both_left (leb size 2147483647) _ (sym e ∙ h)))
+    pub whole_fits : b ≡ true → size < 2 ^ 32
+    whole_fits h = omega (arith, leb-true size 2147483647 (both_left (leb size 2147483647) _ (sym e ∙ h)))
 
-    pub whole-yes : b ≡ true → Is (Whole neg size) ≡ asWhole neg size
-    unfolding asWhole
-    whole-yes h = rw (← e, h)
+    pub whole_yes : b ≡ true → Is (Whole neg size) ≡ as_whole neg size
+    unfolding as_whole
+    whole_yes h = rw (← e, h)
 
-    pub whole-no : b ≡ false → Not ≡ asWhole neg size
-    unfolding asWhole
-    whole-no h = rw (← e, h)
+    pub whole_no : b ≡ false → Not ≡ as_whole neg size
+    unfolding as_whole
+    whole_no h = rw (← e, h)
 
 module _ (neg : Bool) (m : ℕ) (eneg : Bool) (e : ℕ) where
-  pub nought-some : (m ≡ 0 → ⊥) → false ≡ isNought neg m eneg e
-  nought-some h = simp (ne_eqb m 0 h)
+  pub nought_some : (m ≡ 0 → ⊥) → false ≡ is_nought neg m eneg e
+  nought_some h = simp (ne_eqb m 0 h)
 
-  pub nought-minus : m ≡ 0 → neg ≡ true → false ≡ isNought neg m eneg e
+  pub nought-minus : m ≡ 0 → neg ≡ true → false ≡ is_nought neg m eneg e
   nought-minus z h = simp (z, h)
 
-  pub nought-down : m ≡ 0 → neg ≡ false → eneg ≡ true → false ≡ isNought neg m eneg e
+  pub nought-down : m ≡ 0 → neg ≡ false → eneg ≡ true → false ≡ is_nought neg m eneg e
   nought-down z h k = simp (z, h, k)
 
-  pub nought-all : m ≡ 0 → neg ≡ false → eneg ≡ false → eqb e 0 ≡ isNought neg m eneg e
-  nought-all z h k = simp (z, h, k)
+  pub nought_all : m ≡ 0 → neg ≡ false → eneg ≡ false → eqb e 0 ≡ is_nought neg m eneg e
+  nought_all z h k = simp (z, h, k)
 
-  pub normal-far : 400 < e → false ≡ isNormal neg m eneg e
-  normal-far h = simp (lt-leb e 400 h)
+  pub normal_far : 400 < e → false ≡ is_normal neg m eneg e
+  normal_far h = simp (lt-leb e 400 h)
 
-  pub normal-nought : {b : Bool} → e ≤ 400 → m % 10 ≡ 0 → b ≡ isNought neg m eneg e → b ≡ isNormal neg m eneg e
+  pub normal-nought : {b : Bool} → e ≤ 400 → m % 10 ≡ 0 → b ≡ is_nought neg m eneg e → b ≡ is_normal neg m eneg e
   normal-nought h z q = simp (le-leb e 400 h, z) q
 
-  pub normal-down : e ≤ 400 → (m % 10 ≡ 0 → ⊥) → eneg ≡ true → ltb 0 e ≡ isNormal neg m eneg e
+  pub normal-down : e ≤ 400 → (m % 10 ≡ 0 → ⊥) → eneg ≡ true → ltb 0 e ≡ is_normal neg m eneg e
   normal-down h z q = simp (le-leb e 400 h, ne_eqb (m % 10) 0 z, q)
 
-  pub normal-up : e ≤ 400 → (m % 10 ≡ 0 → ⊥) → eneg ≡ false → true ≡ isNormal neg m eneg e
+  pub normal-up : e ≤ 400 → (m % 10 ≡ 0 → ⊥) → eneg ≡ false → true ≡ is_normal neg m eneg e
   normal-up h z q = simp (le-leb e 400 h, ne_eqb (m % 10) 0 z, q)
 
-  module _ {b : Bool} (q : b ≡ isNormal neg m eneg e) where
-    pub real-fits : b ≡ true → e < 2 ^ 32
-    real-fits h = omega (arith, leb-true e 400 (both_left (leb e 400) _ (sym q ∙ h)))
+  module _ {b : Bool} (q : b ≡ is_normal neg m eneg e) where
+    pub real_fits : b ≡ true → e < 2 ^ 32
+    real_fits h = omega (arith, leb-true e 400 (both_left (leb e 400) _ (sym q ∙ h)))
 
-    pub real-yes : (double : Bool) → b ≡ true → Is (Real neg m eneg e double) ≡ asReal neg m eneg e double
-    unfolding asReal
-    real-yes double h = rw (← q, h)
+    pub real_yes : (double : Bool) → b ≡ true → Is (Real neg m eneg e double) ≡ as_real neg m eneg e double
+    unfolding as_real
+    real_yes double h = rw (← q, h)
 
-    pub real-no : (double : Bool) → b ≡ false → Not ≡ asReal neg m eneg e double
-    unfolding asReal
-    real-no double h = rw (← q, h)
+    pub real_no : (double : Bool) → b ≡ false → Not ≡ as_real neg m eneg e double
+    unfolding as_real
+    real_no double h = rw (← q, h)
 
-pub spelt-double : (e : ℕ) (double : Bool) → double ≡ true → true ≡ (double || ltb 0 e)
-spelt-double e double h = rw h
+pub spelt_double : (e : ℕ) (double : Bool) → double ≡ true → true ≡ (double || ltb 0 e)
+spelt_double e double h = rw h
 
-pub spelt-single : (e : ℕ) (double : Bool) → double ≡ false → ltb 0 e ≡ (double || ltb 0 e)
-spelt-single e double h = rw h
+pub spelt_single : (e : ℕ) (double : Bool) → double ≡ false → ltb 0 e ≡ (double || ltb 0 e)
+spelt_single e double h = rw h
 
-pub letter-single : (c : ℕ) → c ≡ 69 → true ≡ (eqb c 69 || eqb c 68)
-letter-single c h = rw h
+pub letter_single : (c : ℕ) → c ≡ 69 → true ≡ (eqb c 69 || eqb c 68)
+letter_single c h = rw h
 
 pub letter-other : (c : ℕ) → (c ≡ 69 → ⊥) → eqb c 68 ≡ (eqb c 69 || eqb c 68)
 letter-other c h = simp (ne_eqb c 69 h)
 
-pub ruleset limits = (whole-beyond, whole-minus, whole-plus, whole-fits, whole-yes, whole-no, nought-some, nought-minus, nought-down, nought-all, normal-far, normal-nought, normal-down, normal-up, real-fits, real-yes, real-no, spelt-double, spelt-single, letter-single, letter-other)
+pub ruleset limits = (whole_beyond, whole_minus, whole_plus, whole_fits, whole_yes, whole_no, nought_some, nought-minus, nought-down, nought_all, normal_far, normal-nought, normal-down, normal-up, real_fits, real_yes, real_no, spelt_double, spelt_single, letter_single, letter-other)
 
 -- ---- what stands behind the digits
 
 module _ (l : List ℕ) (neg : Bool) (m : ℕ) (double : Bool) (i : ℕ) {b a : ℕ} (eb : b ≡ get_or l i 0) (ea : a ≡ length (minus (eqb b 45))) where
-  pub letter-in : i ≤ length l → i + a ≤ length l
-  letter-in h = rw (ea, eb) (pick (eqb (get_or l i 0) 45) refl)
+  pub letter_in : i ≤ length l → i + a ≤ length l
+  letter_in h = rw (ea, eb) (pick (eqb (get_or l i 0) 45) refl)
     where
       pick : (c : Bool) → eqb (get_or l i 0) 45 ≡ c → i + length (minus c) ≤ length l
       pick true e = let q = eqb-true (get_or l i 0) 45 e in omega (arith, inside l i (omega arith))
       pick false e = omega arith
 
   module _ {x : Decimal} (ex : x ≡ decimal (drop (i + a) l) (i + a)) where
-    letter-is : behindLetter l neg m double i ≡ byExponent (length l) (i + a) x neg m (eqb b 45) double
-    unfolding behindLetter
+    letter-is : behind_letter l neg m double i ≡ by_exponent (length l) (i + a) x neg m (eqb b 45) double
+    unfolding behind_letter
     letter-is = rw (ex, ea, eb)
 
-    pub letter-none : x.end ≡ i + a → Not ≡ behindLetter l neg m double i
+    pub letter-none : x.end ≡ i + a → Not ≡ behind_letter l neg m double i
     letter-none h = sym (letter-is ∙ rw (eq-eqb x.end (i + a) h))
 
-    pub letter-more : (x.end ≡ i + a → ⊥) → (x.end ≡ length l → ⊥) → Not ≡ behindLetter l neg m double i
+    pub letter-more : (x.end ≡ i + a → ⊥) → (x.end ≡ length l → ⊥) → Not ≡ behind_letter l neg m double i
     letter-more h n = sym (letter-is ∙ rw (ne_eqb x.end (i + a) h, ne_eqb x.end (length l) n))
 
     module _ {c : Bool} (h : x.end ≡ i + a → ⊥) (z : x.end ≡ length l) (ec : c ≡ (double || ltb 0 x.value)) where
-      pub letter-real : {r : Strict} → c ≡ true → r ≡ asReal neg m (eqb b 45) x.value double → r ≡ behindLetter l neg m double i
-      letter-real t q = q ∙ sym (letter-is ∙ rw (ne_eqb x.end (i + a) h, eq-eqb x.end (length l) z, ← ec, t))
+      pub letter_real : {r : Strict} → c ≡ true → r ≡ as_real neg m (eqb b 45) x.value double → r ≡ behind_letter l neg m double i
+      letter_real t q = q ∙ sym (letter-is ∙ rw (ne_eqb x.end (i + a) h, eq-eqb x.end (length l) z, ← ec, t))
 
-      pub letter-short : c ≡ false → Not ≡ behindLetter l neg m double i
-      letter-short t = sym (letter-is ∙ rw (ne_eqb x.end (i + a) h, eq-eqb x.end (length l) z, ← ec, t))
+      pub letter_short : c ≡ false → Not ≡ behind_letter l neg m double i
+      letter_short t = sym (letter-is ∙ rw (ne_eqb x.end (i + a) h, eq-eqb x.end (length l) z, ← ec, t))
 
 module _ (l : List ℕ) (neg : Bool) (m i : ℕ) {r : Strict} where
-  pub point-end : i ≡ length l → r ≡ asReal neg m false 0 false → r ≡ behindPoint l neg m i
-  unfolding behindPoint
+  pub point-end : i ≡ length l → r ≡ as_real neg m false 0 false → r ≡ behind_point l neg m i
+  unfolding behind_point
   point-end h q = q ∙ sym (rw (eq-eqb i (length l) h))
 
-  pub point-letter : {b : Bool} → (i ≡ length l → ⊥) → b ≡ (eqb (get_or l i 0) 69 || eqb (get_or l i 0) 68) → b ≡ true → r ≡ behindLetter l neg m (eqb (get_or l i 0) 68) (i + 1) → r ≡ behindPoint l neg m i
-  unfolding behindPoint
+  pub point-letter : {b : Bool} → (i ≡ length l → ⊥) → b ≡ (eqb (get_or l i 0) 69 || eqb (get_or l i 0) 68) → b ≡ true → r ≡ behind_letter l neg m (eqb (get_or l i 0) 68) (i + 1) → r ≡ behind_point l neg m i
+  unfolding behind_point
   point-letter h e t q = q ∙ sym (rw (ne_eqb i (length l) h, ← e, t))
 
 module _ (l : List ℕ) (neg : Bool) (m i : ℕ) where
-  pub point-other : {b : Bool} → (i ≡ length l → ⊥) → b ≡ (eqb (get_or l i 0) 69 || eqb (get_or l i 0) 68) → b ≡ false → Not ≡ behindPoint l neg m i
-  unfolding behindPoint
+  pub point-other : {b : Bool} → (i ≡ length l → ⊥) → b ≡ (eqb (get_or l i 0) 69 || eqb (get_or l i 0) 68) → b ≡ false → Not ≡ behind_point l neg m i
+  unfolding behind_point
   point-other h e t = sym (rw (ne_eqb i (length l) h, ← e, t))
 
-  pub count-minus : neg ≡ true → Not ≡ behindCount l neg m i
-  unfolding behindCount
+  pub count-minus : neg ≡ true → Not ≡ behind_count l neg m i
+  unfolding behind_count
   count-minus h = simp h
 
-  pub count-nought : neg ≡ false → m < 1 → Not ≡ behindCount l neg m i
-  unfolding behindCount
+  pub count-nought : neg ≡ false → m < 1 → Not ≡ behind_count l neg m i
+  unfolding behind_count
   count-nought h a = simp (h, lt-leb 1 m a)
 
-  pub count-many : neg ≡ false → 1 ≤ m → 999 < m → Not ≡ behindCount l neg m i
-  unfolding behindCount
+  pub count-many : neg ≡ false → 1 ≤ m → 999 < m → Not ≡ behind_count l neg m i
+  unfolding behind_count
   count-many h a b = simp (h, le-leb 1 m a, lt-leb m 999 b)
 
-  pub count-length : neg ≡ false → 1 ≤ m → m ≤ 999 → (i + m ≡ length l → ⊥) → Not ≡ behindCount l neg m i
-  unfolding behindCount
+  pub count-length : neg ≡ false → 1 ≤ m → m ≤ 999 → (i + m ≡ length l → ⊥) → Not ≡ behind_count l neg m i
+  unfolding behind_count
   count-length h a b n = simp (h, le-leb 1 m a, le-leb m 999 b, ne_eqb (i + m) (length l) n)
 
   module _ {c : Bool} (h : neg ≡ false) (a : 1 ≤ m) (b : m ≤ 999) (z : i + m ≡ length l) (p : c ≡ printable (columns l i (length l))) where
-    count-is : behindCount l neg m i ≡ cond c (Is (Text i m)) Not
-    unfolding behindCount
-    count-is = simp (h, le-leb 1 m a, le-leb m 999 b, eq-eqb (i + m) (length l) z, p, columns-rest l i)
+    count-is : behind_count l neg m i ≡ cond c (Is (Text i m)) Not
+    unfolding behind_count
+    count-is = simp (h, le-leb 1 m a, le-leb m 999 b, eq-eqb (i + m) (length l) z, p, columns_rest l i)
 
-    pub count_yes : c ≡ true → Is (Text i m) ≡ behindCount l neg m i
+    pub count_yes : c ≡ true → Is (Text i m) ≡ behind_count l neg m i
     count_yes t = sym (count-is ∙ rw t)
 
-    pub count_no : c ≡ false → Not ≡ behindCount l neg m i
+    pub count_no : c ≡ false → Not ≡ behind_count l neg m i
     count_no t = sym (count-is ∙ rw t)
 
-pub ruleset behinds = (letter-in, letter-none, letter-more, letter-real, letter-short, point-end, point-letter, point-other, count-minus, count-nought, count-many, count-length, count_yes, count_no)
+pub ruleset behinds = (letter_in, letter-none, letter-more, letter_real, letter_short, point-end, point-letter, point-other, count-minus, count-nought, count-many, count-length, count_yes, count_no)
 
 -- ---- put together
 
-pub strict_none : (l : List ℕ) → length l ≡ 0 → Is Default ≡ strictOf l
-unfolding directOf
+pub strict_none : (l : List ℕ) → length l ≡ 0 → Is Default ≡ strict_of l
+unfolding direct_of
 strict_none l h = sym (rw h) ∙ direct l
 
 module _ (l : List ℕ) (s : length l ≡ 0 → ⊥) {a : ℕ} {x : Decimal} (ea : a ≡ length (minus (eqb (get_or l 0 0) 45))) (ex : x ≡ decimal (drop a l) a) where
   abbrev neg : Bool
   neg = eqb (get_or l 0 0) 45
 
-  direct_is : directOf l ≡ cond (eqb x.end a) Not (behindDigits l neg x.value x.end)
-  unfolding directOf
+  direct_is : direct_of l ≡ cond (eqb x.end a) Not (behind_digits l neg x.value x.end)
+  unfolding direct_of
   direct_is = rw (ex, ea, ne_eqb (length l) 0 s)
 
-  pub strict-bad : x.end ≡ a → Not ≡ strictOf l
-  strict-bad h = sym (direct_is ∙ rw (eq-eqb x.end a h)) ∙ direct l
+  pub strict_bad : x.end ≡ a → Not ≡ strict_of l
+  strict_bad h = sym (direct_is ∙ rw (eq-eqb x.end a h)) ∙ direct l
 
   module _ (n : x.end ≡ a → ⊥) {r : Strict} where
-    all : r ≡ behindDigits l neg x.value x.end → r ≡ strictOf l
+    all : r ≡ behind_digits l neg x.value x.end → r ≡ strict_of l
     all q = q ∙ sym (direct_is ∙ rw (ne_eqb x.end a n)) ∙ direct l
 
-    pub strict-whole : x.end ≡ length l → r ≡ asWhole neg x.value → r ≡ strictOf l
-    unfolding behindDigits
-    strict-whole h q = all (q ∙ sym (rw (eq-eqb x.end (length l) h)))
+    pub strict_whole : x.end ≡ length l → r ≡ as_whole neg x.value → r ≡ strict_of l
+    unfolding behind_digits
+    strict_whole h q = all (q ∙ sym (rw (eq-eqb x.end (length l) h)))
 
-    pub strict-point : (x.end ≡ length l → ⊥) → get_or l x.end 0 ≡ 46 → r ≡ behindPoint l neg x.value (x.end + 1) → r ≡ strictOf l
-    unfolding behindDigits
-    strict-point h c q = all (q ∙ sym (rw (ne_eqb x.end (length l) h, c)))
+    pub strict_point : (x.end ≡ length l → ⊥) → get_or l x.end 0 ≡ 46 → r ≡ behind_point l neg x.value (x.end + 1) → r ≡ strict_of l
+    unfolding behind_digits
+    strict_point h c q = all (q ∙ sym (rw (ne_eqb x.end (length l) h, c)))
 
-    pub strict-count : (x.end ≡ length l → ⊥) → (get_or l x.end 0 ≡ 46 → ⊥) → get_or l x.end 0 ≡ 72 → r ≡ behindCount l neg x.value (x.end + 1) → r ≡ strictOf l
-    unfolding behindDigits
-    strict-count h d c q = all (q ∙ sym (rw (ne_eqb x.end (length l) h, c)))
+    pub strict_count : (x.end ≡ length l → ⊥) → (get_or l x.end 0 ≡ 46 → ⊥) → get_or l x.end 0 ≡ 72 → r ≡ behind_count l neg x.value (x.end + 1) → r ≡ strict_of l
+    unfolding behind_digits
+    strict_count h d c q = all (q ∙ sym (rw (ne_eqb x.end (length l) h, c)))
 
-  pub strict-other : (x.end ≡ a → ⊥) → (x.end ≡ length l → ⊥) → (get_or l x.end 0 ≡ 46 → ⊥) → (get_or l x.end 0 ≡ 72 → ⊥) → Not ≡ strictOf l
-  unfolding behindDigits
-  strict-other n h d c = all n (sym (rw (ne_eqb x.end (length l) h, ne_eqb (get_or l x.end 0) 46 d, ne_eqb (get_or l x.end 0) 72 c)))
+  pub strict_other : (x.end ≡ a → ⊥) → (x.end ≡ length l → ⊥) → (get_or l x.end 0 ≡ 46 → ⊥) → (get_or l x.end 0 ≡ 72 → ⊥) → Not ≡ strict_of l
+  unfolding behind_digits
+  strict_other n h d c = all n (sym (rw (ne_eqb x.end (length l) h, ne_eqb (get_or l x.end 0) 46 d, ne_eqb (get_or l x.end 0) 72 c)))
 
 placed-spelt : (l : List ℕ) (m : ℕ) (v : Value) → Inside m v → Placed m (spelt l v)
-placed-spelt l m v h = pick (sameBytes _ l)
+placed-spelt l m v h = pick (same_bytes _ l)
   where
     pick : (b : Bool) → Placed m (cond b (Is v) Not)
     pick true = h
@@ -329,10 +329,10 @@ placed-numeral l m x e = rw e (pick x)
     pick Bad = tt
 
 -- a string stands in the text that it was read back from
-pub strict-inside : (l : List ℕ) → Placed (length l) (strictOf l)
-unfolding strictOf
-strict-inside [] = tt
-strict-inside (b ∷ bs) = by-head (head_of (b ∷ bs))
+pub strict_inside : (l : List ℕ) → Placed (length l) (strict_of l)
+unfolding strict_of
+strict_inside [] = tt
+strict_inside (b ∷ bs) = by-head (head_of (b ∷ bs))
   where
     l : List ℕ
     l = b ∷ bs
@@ -342,11 +342,11 @@ strict-inside (b ∷ bs) = by-head (head_of (b ∷ bs))
     by-string count len true false e = tt
     by-string count len false c e = tt
 
-    by-head : (h : Head) → Placed (length l) (byHead l h)
+    by-head : (h : Head) → Placed (length l) (by_head l h)
     by-head (Count count len) = by-string count len (eqb (len + count) (length l)) (eqb len (length (head count)) && printable (drop len l)) refl
     by-head (Plain k) = placed-numeral l (length l) k.number refl
 
-pub strict-placed : (l : List ℕ) {r : Strict} → r ≡ strictOf l → Placed (length l) r
-strict-placed l e = rw e (strict-inside l)
+pub strict_placed : (l : List ℕ) {r : Strict} → r ≡ strict_of l → Placed (length l) r
+strict_placed l e = rw e (strict_inside l)
 
-pub ruleset backs = (strict_none, strict-bad, strict-whole, strict-point, strict-count, strict-other, strict-placed)
+pub ruleset backs = (strict_none, strict_bad, strict_whole, strict_point, strict_count, strict_other, strict_placed)

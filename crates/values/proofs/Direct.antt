@@ -18,68 +18,68 @@ use Rattle.values.specs.declared.Decimal.{Decimal}
 use Rattle.values.specs.declared.Value.TheVariants.{Whole, Real, Text}
 use Rattle.values.specs.declared.Strict.{Strict}
 use Rattle.values.specs.declared.Strict.TheVariants.{Is, Not}
-use Rattle.values.specs.Number.{isDigit}
-use Rattle.values.specs.Value.{Item, whole, real, text, letter, tenTo, exponent, head, spelled, item_of, Normal, nought, times, over, Fine, fine-default, fine-whole, fine-real, fine-text, Printed}
-use Rattle.values.specs.Strict.{strictOf}
-use Rattle.values.specs.Direct.{decimal, is_whole, isNought, isNormal, asWhole, asReal, behindLetter, behindPoint, behindCount, behindDigits, directOf}
+use Rattle.values.specs.Number.{is_digit}
+use Rattle.values.specs.Value.{Item, whole, real, text, letter, ten_to, exponent, head, spelled, item_of, Normal, nought, times, over, Fine, fine_default, fine_whole, fine_real, fine_text, Printed}
+use Rattle.values.specs.Strict.{strict_of}
+use Rattle.values.specs.Direct.{decimal, is_whole, is_nought, is_normal, as_whole, as_real, behind_letter, behind_point, behind_count, behind_digits, direct_of}
 use Rattle.values.proofs.Ends.{inside}
-use Rattle.values.proofs.Digits.{ds-first, dec-ds, next, here, signed}
+use Rattle.values.proofs.Digits.{ds_first, dec_ds, next, here, signed}
 use Rattle.values.proofs.Sizes.{sizes}
 use Rattle.values.proofs.Decimals.{decimal-spelt, decimal-below, decimal-read}
 use Rattle.values.proofs.OneSpelling.{placed, sound, complete}
 
 -- ---- the limits
 
-whole-limits : (neg : Bool) (size : ℕ) → is_whole neg size ≡ true → (size ≤ 2147483647) × (size ≡ 0 → neg ≡ false)
-whole-limits true size e = (leb-true size 2147483647 (both_left (leb size 2147483647) _ e), λ z. absurd (omega (arith, ltb-true 0 size (both_right (leb size 2147483647) _ e))))
-whole-limits false size e = (leb-true size 2147483647 (both_left (leb size 2147483647) _ e), λ z. refl)
+whole_limits : (neg : Bool) (size : ℕ) → is_whole neg size ≡ true → (size ≤ 2147483647) × (size ≡ 0 → neg ≡ false)
+whole_limits true size e = (leb-true size 2147483647 (both_left (leb size 2147483647) _ e), λ z. absurd (omega (arith, ltb-true 0 size (both_right (leb size 2147483647) _ e))))
+whole_limits false size e = (leb-true size 2147483647 (both_left (leb size 2147483647) _ e), λ z. refl)
 
-limits-whole : (neg : Bool) (size : ℕ) → size ≤ 2147483647 → (size ≡ 0 → neg ≡ false) → is_whole neg size ≡ true
-limits-whole true size h z = simp (le-leb size 2147483647 h) (some (ltb 0 size) refl)
+limits_whole : (neg : Bool) (size : ℕ) → size ≤ 2147483647 → (size ≡ 0 → neg ≡ false) → is_whole neg size ≡ true
+limits_whole true size h z = simp (le-leb size 2147483647 h) (some (ltb 0 size) refl)
   where
     some : (b : Bool) → ltb 0 size ≡ b → b ≡ true
     some true e = refl
     some false e = sym (z (omega (arith, ltb-false 0 size e)))
-limits-whole false size h z = simp (le-leb size 2147483647 h)
+limits_whole false size h z = simp (le-leb size 2147483647 h)
 
-nought-limits : (neg : Bool) (m : ℕ) (eneg : Bool) (e : ℕ) → isNought neg m eneg e ≡ true → Normal neg m eneg e
-nought-limits true m eneg e h = absurd (false≢true (both_right (eqb m 0) _ h))
-nought-limits false m true e h = absurd (false≢true (both_right (eqb m 0) _ h))
-nought-limits false m false e h =
+nought_limits : (neg : Bool) (m : ℕ) (eneg : Bool) (e : ℕ) → is_nought neg m eneg e ≡ true → Normal neg m eneg e
+nought_limits true m eneg e h = absurd (false≢true (both_right (eqb m 0) _ h))
+nought_limits false m true e h = absurd (false≢true (both_right (eqb m 0) _ h))
+nought_limits false m false e h =
     let a : m ≡ 0 = eqb-true m 0 (both_left (eqb m 0) _ h) in
     let b : e ≡ 0 = eqb-true e 0 (both_right (eqb m 0) _ h) in
     rw (a, b) nought
 
-normal-limits : (neg : Bool) (m : ℕ) (eneg : Bool) (e : ℕ) → m < 10 ^ 17 → isNormal neg m eneg e ≡ true → Normal neg m eneg e
-normal-limits neg m eneg e l h = pick (eqb (m % 10) 0) refl eneg refl (both_right (leb e 400) _ h)
+normal_limits : (neg : Bool) (m : ℕ) (eneg : Bool) (e : ℕ) → m < 10 ^ 17 → is_normal neg m eneg e ≡ true → Normal neg m eneg e
+normal_limits neg m eneg e l h = pick (eqb (m % 10) 0) refl eneg refl (both_right (leb e 400) _ h)
   where
     k : e ≤ 400
     k = leb-true e 400 (both_left (leb e 400) _ h)
 
-    pick : (a : Bool) → eqb (m % 10) 0 ≡ a → (b : Bool) → eneg ≡ b → cond a (isNought neg m b e) (cond b (ltb 0 e) true) ≡ true → Normal neg m b e
-    pick true z b q g = nought-limits neg m b e g
+    pick : (a : Bool) → eqb (m % 10) 0 ≡ a → (b : Bool) → eneg ≡ b → cond a (is_nought neg m b e) (cond b (ltb 0 e) true) ≡ true → Normal neg m b e
+    pick true z b q g = nought_limits neg m b e g
     pick false z true q g = over neg m e (eqb-false (m % 10) 0 z) l (ltb-true 0 e g) k
     pick false z false q g = times neg m e (eqb-false (m % 10) 0 z) l k
 
-limits-normal : {neg : Bool} {m : ℕ} {eneg : Bool} {e : ℕ} → Normal neg m eneg e → isNormal neg m eneg e ≡ true
-limits-normal nought = refl
-limits-normal (times neg m e n l k) = simp (le-leb e 400 k, ne_eqb (m % 10) 0 n)
-limits-normal (over neg m e n l o k) = simp (le-leb e 400 k, ne_eqb (m % 10) 0 n, lt-ltb 0 e o)
+limits_normal : {neg : Bool} {m : ℕ} {eneg : Bool} {e : ℕ} → Normal neg m eneg e → is_normal neg m eneg e ≡ true
+limits_normal nought = refl
+limits_normal (times neg m e n l k) = simp (le-leb e 400 k, ne_eqb (m % 10) 0 n)
+limits_normal (over neg m e n l o k) = simp (le-leb e 400 k, ne_eqb (m % 10) 0 n, lt-ltb 0 e o)
 
 -- ---- what is read straight is read back
 
 -- if it is read straight
 abbrev If : List ℕ → Strict → Type 0
-If l (Is v) = strictOf l ≡ Is v
+If l (Is v) = strict_of l ≡ Is v
 If l Not = Unit {0}
 
-spelled-whole : (neg : Bool) (size : ℕ) → minus neg ++ dec size ≡ spelled (whole neg size)
+spelled_whole : (neg : Bool) (size : ℕ) → minus neg ++ dec size ≡ spelled (whole neg size)
 unfolding spelled
-spelled-whole neg size = refl
+spelled_whole neg size = refl
 
-spelled-real : (neg : Bool) (m : ℕ) (eneg : Bool) (e : ℕ) (double : Bool) → minus neg ++ (dec m ++ (46 ∷ exponent eneg e double)) ≡ spelled (real neg m eneg e double)
+spelled_real : (neg : Bool) (m : ℕ) (eneg : Bool) (e : ℕ) (double : Bool) → minus neg ++ (dec m ++ (46 ∷ exponent eneg e double)) ≡ spelled (real neg m eneg e double)
 unfolding spelled
-spelled-real neg m eneg e double = refl
+spelled_real neg m eneg e double = refl
 
 spelled-text : (bs : List ℕ) → head (length bs) ++ bs ≡ spelled (text bs)
 unfolding spelled
@@ -100,25 +100,25 @@ minus-at l i = pick (eqb (get_or l i 0) 45) refl
     pick false e = ap (λ (k : ℕ). drop k l) (sym (add-zero i))
 
 module _ (l : List ℕ) (neg : Bool) where
-  if-whole : (size : ℕ) → l ≡ minus neg ++ dec size → If l (asWhole neg size)
-  unfolding asWhole
-  if-whole size e = pick (is_whole neg size) refl
+  if_whole : (size : ℕ) → l ≡ minus neg ++ dec size → If l (as_whole neg size)
+  unfolding as_whole
+  if_whole size e = pick (is_whole neg size) refl
     where
       pick : (b : Bool) → is_whole neg size ≡ b → If l (cond b (Is (Whole neg size)) Not)
-      pick true h = let f = whole-limits neg size h in ap strictOf (e ∙ spelled-whole neg size) ∙ complete (fine-whole neg size f.0 f.1) tt
+      pick true h = let f = whole_limits neg size h in ap strict_of (e ∙ spelled_whole neg size) ∙ complete (fine_whole neg size f.0 f.1) tt
       pick false h = tt
 
-  if-real : (m : ℕ) (eneg : Bool) (e : ℕ) (double : Bool) → m < 10 ^ 17 → l ≡ minus neg ++ (dec m ++ (46 ∷ exponent eneg e double)) → If l (asReal neg m eneg e double)
-  unfolding asReal
-  if-real m eneg e double h q = pick (isNormal neg m eneg e) refl
+  if_real : (m : ℕ) (eneg : Bool) (e : ℕ) (double : Bool) → m < 10 ^ 17 → l ≡ minus neg ++ (dec m ++ (46 ∷ exponent eneg e double)) → If l (as_real neg m eneg e double)
+  unfolding as_real
+  if_real m eneg e double h q = pick (is_normal neg m eneg e) refl
     where
-      pick : (b : Bool) → isNormal neg m eneg e ≡ b → If l (cond b (Is (Real neg m eneg e double)) Not)
-      pick true n = ap strictOf (q ∙ spelled-real neg m eneg e double) ∙ complete (fine-real (normal-limits neg m eneg e h n) double) tt
+      pick : (b : Bool) → is_normal neg m eneg e ≡ b → If l (cond b (Is (Real neg m eneg e double)) Not)
+      pick true n = ap strict_of (q ∙ spelled_real neg m eneg e double) ∙ complete (fine_real (normal_limits neg m eneg e h n) double) tt
       pick false n = tt
 
-  if-letter : (m : ℕ) (double : Bool) (i : ℕ) → m < 10 ^ 17 → l ≡ minus neg ++ (dec m ++ (46 ∷ (letter double ∷ drop i l))) → If l (behindLetter l neg m double i)
-  unfolding behindLetter
-  if-letter m double i h q = pick (eqb x.end k) refl (eqb x.end (length l)) refl (double || ltb 0 x.value) refl
+  if_letter : (m : ℕ) (double : Bool) (i : ℕ) → m < 10 ^ 17 → l ≡ minus neg ++ (dec m ++ (46 ∷ (letter double ∷ drop i l))) → If l (behind_letter l neg m double i)
+  unfolding behind_letter
+  if_letter m double i h q = pick (eqb x.end k) refl (eqb x.end (length l)) refl (double || ltb 0 x.value) refl
     where
       eneg : Bool
       eneg = eqb (get_or l i 0) 45
@@ -134,16 +134,16 @@ module _ (l : List ℕ) (neg : Bool) where
       long n z = minus-at l i ∙ ap (λ (y : List ℕ). minus eneg ++ y) (decimal-spelt l k n ∙ ap (λ (y : List ℕ). dec x.value ++ y) (none_left l x.end z) ∙ append-nil _)
 
       pick : (a : Bool) → eqb x.end k ≡ a → (b : Bool) → eqb x.end (length l) ≡ b → (c : Bool) → (double || ltb 0 x.value) ≡ c
-          → If l (cond a Not (cond (b && c) (asReal neg m eneg x.value double) Not))
+          → If l (cond a Not (cond (b && c) (as_real neg m eneg x.value double) Not))
       pick true ea b eb c ec = tt
       pick false ea true eb true ec =
-          if-real m eneg x.value double h (q ∙ ap (λ (y : List ℕ). minus neg ++ (dec m ++ (46 ∷ (letter double ∷ y)))) (long (eqb-false x.end k ea) (eqb-true x.end (length l) eb)) ∙ rw ec)
+          if_real m eneg x.value double h (q ∙ ap (λ (y : List ℕ). minus neg ++ (dec m ++ (46 ∷ (letter double ∷ y)))) (long (eqb-false x.end k ea) (eqb-true x.end (length l) eb)) ∙ rw ec)
       pick false ea true eb false ec = tt
       pick false ea false eb c ec = tt
 
-  if-point : (m i : ℕ) → m < 10 ^ 17 → l ≡ minus neg ++ (dec m ++ (46 ∷ drop i l)) → If l (behindPoint l neg m i)
-  unfolding behindPoint
-  if-point m i h q = pick (eqb i (length l)) refl (eqb (get_or l i 0) 69) refl (eqb (get_or l i 0) 68) refl
+  if_point : (m i : ℕ) → m < 10 ^ 17 → l ≡ minus neg ++ (dec m ++ (46 ∷ drop i l)) → If l (behind_point l neg m i)
+  unfolding behind_point
+  if_point m i h q = pick (eqb i (length l)) refl (eqb (get_or l i 0) 69) refl (eqb (get_or l i 0) 68) refl
     where
       c : ℕ
       c = get_or l i 0
@@ -152,29 +152,29 @@ module _ (l : List ℕ) (neg : Bool) where
       on double e z = q ∙ ap (λ (y : List ℕ). minus neg ++ (dec m ++ (46 ∷ y))) (drop-cons l i 0 (inside l i z) ∙ rw (e, add-one))
 
       pick : (a : Bool) → eqb i (length l) ≡ a → (b : Bool) → eqb c 69 ≡ b → (d : Bool) → eqb c 68 ≡ d
-          → If l (cond a (asReal neg m false 0 false) (cond (b || d) (behindLetter l neg m d (i + 1)) Not))
-      pick true ea b eb d ed = if-real m false 0 false h (q ∙ ap (λ (y : List ℕ). minus neg ++ (dec m ++ (46 ∷ y))) (none_left l i (eqb-true i (length l) ea)))
-      pick false ea b eb true ed = rw-or b (if-letter m true (i + 1) h (on true (eqb-true c 68 ed) (omega (arith, eqb-true c 68 ed))))
+          → If l (cond a (as_real neg m false 0 false) (cond (b || d) (behind_letter l neg m d (i + 1)) Not))
+      pick true ea b eb d ed = if_real m false 0 false h (q ∙ ap (λ (y : List ℕ). minus neg ++ (dec m ++ (46 ∷ y))) (none_left l i (eqb-true i (length l) ea)))
+      pick false ea b eb true ed = rw_or b (if_letter m true (i + 1) h (on true (eqb-true c 68 ed) (omega (arith, eqb-true c 68 ed))))
         where
-          rw-or : (b : Bool) → If l (behindLetter l neg m true (i + 1)) → If l (cond (b || true) (behindLetter l neg m true (i + 1)) Not)
-          rw-or true f = f
-          rw-or false f = f
-      pick false ea true eb false ed = if-letter m false (i + 1) h (on false (eqb-true c 69 eb) (omega (arith, eqb-true c 69 eb)))
+          rw_or : (b : Bool) → If l (behind_letter l neg m true (i + 1)) → If l (cond (b || true) (behind_letter l neg m true (i + 1)) Not)
+          rw_or true f = f
+          rw_or false f = f
+      pick false ea true eb false ed = if_letter m false (i + 1) h (on false (eqb-true c 69 eb) (omega (arith, eqb-true c 69 eb)))
       pick false ea false eb false ed = tt
 
-  if-count : (count i : ℕ) → l ≡ minus neg ++ (dec count ++ (72 ∷ drop i l)) → If l (behindCount l neg count i)
-  unfolding behindCount
-  if-count count i q = pick neg refl (leb 1 count) refl (leb count 999) refl (eqb (i + count) (length l)) refl (printable (drop i l)) refl
+  if_count : (count i : ℕ) → l ≡ minus neg ++ (dec count ++ (72 ∷ drop i l)) → If l (behind_count l neg count i)
+  unfolding behind_count
+  if_count count i q = pick neg refl (leb 1 count) refl (leb count 999) refl (eqb (i + count) (length l)) refl (printable (drop i l)) refl
     where
       bs : List ℕ
       bs = drop i l
 
-      back : neg ≡ false → 1 ≤ count → count ≤ 999 → i + count ≡ length l → printable bs ≡ true → strictOf l ≡ Is (Text i count)
+      back : neg ≡ false → 1 ≤ count → count ≤ 999 → i + count ≡ length l → printable bs ≡ true → strict_of l ≡ Is (Text i count)
       back n a b z p =
           let m : length bs ≡ count = length-drop i l ∙ omega arith in
           let s : l ≡ head count ++ bs = q ∙ rw n (sym (append_assoc (dec count) (72 ∷ []) bs)) in
           let k : length (head count) ≡ i = omega (arith, ap (λ (y : List ℕ). length y) s, length-append (head count) bs) in
-          ap strictOf (s ∙ ap (λ (y : ℕ). head y ++ bs) (sym m) ∙ spelled-text bs) ∙ complete (fine-text bs (omega arith) (omega arith)) p ∙ rw (m, k)
+          ap strict_of (s ∙ ap (λ (y : ℕ). head y ++ bs) (sym m) ∙ spelled-text bs) ∙ complete (fine_text bs (omega arith) (omega arith)) p ∙ rw (m, k)
 
       pick : (a : Bool) → neg ≡ a → (b : Bool) → leb 1 count ≡ b → (c : Bool) → leb count 999 ≡ c → (d : Bool) → eqb (i + count) (length l) ≡ d → (e : Bool) → printable bs ≡ e
           → If l (cond (not a && (b && (c && (d && e)))) (Is (Text i count)) Not)
@@ -185,9 +185,9 @@ module _ (l : List ℕ) (neg : Bool) where
       pick false n false b c ec d ed f e = tt
       pick true n b eb c ec d ed f e = tt
 
-  if-digits : (v i : ℕ) → v < 10 ^ 17 → l ≡ minus neg ++ (dec v ++ drop i l) → If l (behindDigits l neg v i)
-  unfolding behindDigits
-  if-digits v i h q = pick (eqb i (length l)) refl (eqb c 46) refl (eqb c 72) refl
+  if_digits : (v i : ℕ) → v < 10 ^ 17 → l ≡ minus neg ++ (dec v ++ drop i l) → If l (behind_digits l neg v i)
+  unfolding behind_digits
+  if_digits v i h q = pick (eqb i (length l)) refl (eqb c 46) refl (eqb c 72) refl
     where
       c : ℕ
       c = get_or l i 0
@@ -196,16 +196,16 @@ module _ (l : List ℕ) (neg : Bool) where
       on d e z = q ∙ ap (λ (y : List ℕ). minus neg ++ (dec v ++ y)) (drop-cons l i 0 (inside l i (omega arith)) ∙ rw (e, add-one))
 
       pick : (a : Bool) → eqb i (length l) ≡ a → (b : Bool) → eqb c 46 ≡ b → (d : Bool) → eqb c 72 ≡ d
-          → If l (cond a (asWhole neg v) (cond b (behindPoint l neg v (i + 1)) (cond d (behindCount l neg v (i + 1)) Not)))
-      pick true ea b eb d ed = if-whole v (q ∙ ap (λ (y : List ℕ). minus neg ++ (dec v ++ y)) (none_left l i (eqb-true i (length l) ea)) ∙ ap (λ (y : List ℕ). minus neg ++ y) (append-nil (dec v)))
-      pick false ea true eb d ed = if-point v (i + 1) h (on 46 (eqb-true c 46 eb) (omega arith))
-      pick false ea false eb true ed = if-count v (i + 1) (on 72 (eqb-true c 72 ed) (omega arith))
+          → If l (cond a (as_whole neg v) (cond b (behind_point l neg v (i + 1)) (cond d (behind_count l neg v (i + 1)) Not)))
+      pick true ea b eb d ed = if_whole v (q ∙ ap (λ (y : List ℕ). minus neg ++ (dec v ++ y)) (none_left l i (eqb-true i (length l) ea)) ∙ ap (λ (y : List ℕ). minus neg ++ y) (append-nil (dec v)))
+      pick false ea true eb d ed = if_point v (i + 1) h (on 46 (eqb-true c 46 eb) (omega arith))
+      pick false ea false eb true ed = if_count v (i + 1) (on 72 (eqb-true c 72 ed) (omega arith))
       pick false ea false eb false ed = tt
 
-if-direct : (l : List ℕ) → If l (directOf l)
-unfolding directOf strictOf
-if-direct [] = refl
-if-direct (b ∷ bs) = rw (ne_eqb (length (b ∷ bs)) 0 (omega arith)) (pick (eqb x.end a) refl)
+if_direct : (l : List ℕ) → If l (direct_of l)
+unfolding direct_of strict_of
+if_direct [] = refl
+if_direct (b ∷ bs) = rw (ne_eqb (length (b ∷ bs)) 0 (omega arith)) (pick (eqb x.end a) refl)
   where
     l : List ℕ
     l = b ∷ bs
@@ -219,10 +219,10 @@ if-direct (b ∷ bs) = rw (ne_eqb (length (b ∷ bs)) 0 (omega arith)) (pick (eq
     x : Decimal
     x = decimal (drop a l) a
 
-    pick : (c : Bool) → eqb x.end a ≡ c → If l (cond c Not (behindDigits l neg x.value x.end))
+    pick : (c : Bool) → eqb x.end a ≡ c → If l (cond c Not (behind_digits l neg x.value x.end))
     pick true e = tt
     pick false e =
-        if-digits l neg x.value x.end (decimal-below (drop a l) a)
+        if_digits l neg x.value x.end (decimal-below (drop a l) a)
         (minus-at l 0 ∙ ap (λ (k : ℕ). minus neg ++ drop k l) (zero-add a) ∙ ap (λ (y : List ℕ). minus neg ++ y) (decimal-spelt l a (eqb-false x.end a e)))
 
 -- ---- what is read back is read straight
@@ -235,13 +235,13 @@ module _ (l : List ℕ) where
   none_end : (i : ℕ) → i ≤ length l → drop i l ≡ [] → eqb i (length l) ≡ true
   none_end i h e = eq-eqb i (length l) (omega (arith, length-drop i l, ap (λ (y : List ℕ). length y) e))
 
-  direct-digits : (neg : Bool) (m : ℕ) (q : List ℕ) → l ≡ minus neg ++ (dec m ++ q) → isDigit (get_or q 0 0) ≡ false → m < 10 ^ 17
-      → directOf l ≡ behindDigits l neg m (length (minus neg) + length (dec m))
-  unfolding directOf
-  direct-digits neg m q e z h =
+  direct_digits : (neg : Bool) (m : ℕ) (q : List ℕ) → l ≡ minus neg ++ (dec m ++ q) → is_digit (get_or q 0 0) ≡ false → m < 10 ^ 17
+      → direct_of l ≡ behind_digits l neg m (length (minus neg) + length (dec m))
+  unfolding direct_of
+  direct_digits neg m q e z h =
       let a = length (minus neg) in
       let n = length (dec m) in
-      let s = signed l 0 neg (dec m ++ q) e (ds-first (dec-ds m) (dec_some m) q) in
+      let s = signed l 0 neg (dec m ++ q) e (ds_first (dec_ds m) (dec_some m) q) in
       let d : drop a l ≡ dec m ++ q = rw zero-add at (next l 0 (minus neg) (dec m ++ q) e) in
       let k : length l ≡ a + (n + length q) = ap (λ (y : List ℕ). length y) e ∙ length-append (minus neg) (dec m ++ q) ∙ ap (λ (y : ℕ). a + y) (length-append (dec m) q) in
       rw (s.0, d, decimal-read m a q h z) (simp (ne_eqb (length l) 0 (omega (arith, dec_some m)), ne_eqb (a + n) a (omega (arith, dec_some m))))
@@ -250,77 +250,77 @@ module _ (l : List ℕ) where
   behind : (neg : Bool) (m : ℕ) (q : List ℕ) → l ≡ minus neg ++ (dec m ++ q) → drop (length (minus neg) + length (dec m)) l ≡ q
   behind neg m q e = next l (length (minus neg)) (dec m) q (rw zero-add at (next l 0 (minus neg) (dec m ++ q) e))
 
-  back_whole : (neg : Bool) (size : ℕ) → l ≡ minus neg ++ dec size → size ≤ 2147483647 → (size ≡ 0 → neg ≡ false) → directOf l ≡ Is (Whole neg size)
-  unfolding behindDigits asWhole
+  back_whole : (neg : Bool) (size : ℕ) → l ≡ minus neg ++ dec size → size ≤ 2147483647 → (size ≡ 0 → neg ≡ false) → direct_of l ≡ Is (Whole neg size)
+  unfolding behind_digits as_whole
   back_whole neg size e h z =
       let e2 : l ≡ minus neg ++ (dec size ++ []) = e ∙ ap (λ (y : List ℕ). minus neg ++ y) (sym (append-nil (dec size))) in
       let k : length (minus neg) + length (dec size) ≡ length l = sym (ap (λ (y : List ℕ). length y) e ∙ length-append (minus neg) (dec size)) in
-      direct-digits neg size [] e2 refl (omega arith) ∙ simp (eq-eqb _ (length l) k, limits-whole neg size h z)
+      direct_digits neg size [] e2 refl (omega arith) ∙ simp (eq-eqb _ (length l) k, limits_whole neg size h z)
 
   -- a point behind the digits
-  direct-point : (neg : Bool) (m : ℕ) (y : List ℕ) → l ≡ minus neg ++ (dec m ++ (46 ∷ y)) → m < 10 ^ 17
-      → (i : ℕ) → i ≡ length (minus neg) + length (dec m) + 1 → (directOf l ≡ behindPoint l neg m i) × (drop i l ≡ y) × (i ≤ length l)
-  unfolding behindDigits
-  direct-point neg m y e h i ei =
+  direct_point : (neg : Bool) (m : ℕ) (y : List ℕ) → l ≡ minus neg ++ (dec m ++ (46 ∷ y)) → m < 10 ^ 17
+      → (i : ℕ) → i ≡ length (minus neg) + length (dec m) + 1 → (direct_of l ≡ behind_point l neg m i) × (drop i l ≡ y) × (i ≤ length l)
+  unfolding behind_digits
+  direct_point neg m y e h i ei =
       let j = length (minus neg) + length (dec m) in
       let d : drop j l ≡ 46 ∷ y = behind neg m (46 ∷ y) e in (
-        direct-digits neg m (46 ∷ y) e refl h ∙ rw (some_left j 46 y d, here l j (46 ∷ y) d, ei),
+        direct_digits neg m (46 ∷ y) e refl h ∙ rw (some_left j 46 y d, here l j (46 ∷ y) d, ei),
         rw ei (next l j (46 ∷ []) y d),
         omega (arith, length-drop j l, ap (λ (z : List ℕ). length z) d),
       )
 
   -- an exponent behind its letter
-  direct-letter : (neg : Bool) (m : ℕ) (eneg : Bool) (e : ℕ) (double : Bool) (i : ℕ) → drop i l ≡ minus eneg ++ dec e → e ≤ 400 → (double || ltb 0 e) ≡ true
-      → behindLetter l neg m double i ≡ asReal neg m eneg e double
-  unfolding behindLetter
-  direct-letter neg m eneg e double i d h t =
+  direct_letter : (neg : Bool) (m : ℕ) (eneg : Bool) (e : ℕ) (double : Bool) (i : ℕ) → drop i l ≡ minus eneg ++ dec e → e ≤ 400 → (double || ltb 0 e) ≡ true
+      → behind_letter l neg m double i ≡ as_real neg m eneg e double
+  unfolding behind_letter
+  direct_letter neg m eneg e double i d h t =
       let a = length (minus eneg) in
       let k = i + a in
       let d2 : drop i l ≡ minus eneg ++ (dec e ++ []) = d ∙ ap (λ (y : List ℕ). minus eneg ++ y) (sym (append-nil (dec e))) in
-      let s = signed l i eneg (dec e ++ []) d2 (ds-first (dec-ds e) (dec_some e) []) in
+      let s = signed l i eneg (dec e ++ []) d2 (ds_first (dec_ds e) (dec_some e) []) in
       let d3 : drop k l ≡ dec e ++ [] = next l i (minus eneg) (dec e ++ []) d2 in
       let n : length l - k ≡ length (dec e) = sym (length-drop k l) ∙ ap (λ (y : List ℕ). length y) d3 ∙ length-append (dec e) [] ∙ add-zero _ in
       let z : k + length (dec e) ≡ length l = omega (arith, dec_some e) in
       rw (s.0, d3, decimal-read e k [] (omega arith) refl) (simp (ne_eqb (k + length (dec e)) k (omega (arith, dec_some e)), eq-eqb (k + length (dec e)) (length l) z, t))
 
   module _ {neg : Bool} {m : ℕ} {eneg : Bool} {e : ℕ} (ok : Normal neg m eneg e) where
-    back_long : (double : Bool) → (double || ltb 0 e) ≡ true → l ≡ minus neg ++ (dec m ++ (46 ∷ tenTo eneg e double)) → directOf l ≡ Is (Real neg m eneg e double)
-    unfolding behindPoint asReal
+    back_long : (double : Bool) → (double || ltb 0 e) ≡ true → l ≡ minus neg ++ (dec m ++ (46 ∷ ten_to eneg e double)) → direct_of l ≡ Is (Real neg m eneg e double)
+    unfolding behind_point as_real
     back_long double t q =
         let i = length (minus neg) + length (dec m) + 1 in
         let y = minus eneg ++ dec e in
-        let p = direct-point neg m (letter double ∷ y) q (sizes ok).0 i refl in
-        let r = direct-letter neg m eneg e double (i + 1) (next l i (letter double ∷ []) y p.1) (sizes ok).1 t in
-        p.0 ∙ rw (some_left i (letter double) y p.1, here l i (letter double ∷ y) p.1) (pick double i (r ∙ rw (limits-normal ok)))
+        let p = direct_point neg m (letter double ∷ y) q (sizes ok).0 i refl in
+        let r = direct_letter neg m eneg e double (i + 1) (next l i (letter double ∷ []) y p.1) (sizes ok).1 t in
+        p.0 ∙ rw (some_left i (letter double) y p.1, here l i (letter double ∷ y) p.1) (pick double i (r ∙ rw (limits_normal ok)))
       where
-        pick : (double : Bool) (i : ℕ) {r : Strict} → behindLetter l neg m double (i + 1) ≡ r
-            → cond (eqb (letter double) 69 || eqb (letter double) 68) (behindLetter l neg m (eqb (letter double) 68) (i + 1)) Not ≡ r
+        pick : (double : Bool) (i : ℕ) {r : Strict} → behind_letter l neg m double (i + 1) ≡ r
+            → cond (eqb (letter double) 69 || eqb (letter double) 68) (behind_letter l neg m (eqb (letter double) 68) (i + 1)) Not ≡ r
         pick true i e = e
         pick false i e = e
 
-    back-short : e ≡ 0 → l ≡ minus neg ++ (dec m ++ (46 ∷ [])) → directOf l ≡ Is (Real neg m eneg e false)
-    unfolding behindPoint asReal
-    back-short z q =
+    back_short : e ≡ 0 → l ≡ minus neg ++ (dec m ++ (46 ∷ [])) → direct_of l ≡ Is (Real neg m eneg e false)
+    unfolding behind_point as_real
+    back_short z q =
         let i = length (minus neg) + length (dec m) + 1 in
-        let p = direct-point neg m [] q (sizes ok).0 i refl in
+        let p = direct_point neg m [] q (sizes ok).0 i refl in
         p.0 ∙ rw (none_end i p.2 p.1) (none ok z)
       where
-        none : {neg : Bool} {m : ℕ} {eneg : Bool} {e : ℕ} → Normal neg m eneg e → e ≡ 0 → cond (isNormal neg m false 0) (Is (Real neg m false 0 false)) Not ≡ Is (Real neg m eneg e false)
+        none : {neg : Bool} {m : ℕ} {eneg : Bool} {e : ℕ} → Normal neg m eneg e → e ≡ 0 → cond (is_normal neg m false 0) (Is (Real neg m false 0 false)) Not ≡ Is (Real neg m eneg e false)
         none nought z = refl
-        none (times neg m e n h k) z = rw (z, limits-normal (times neg m 0 n h (omega arith)))
+        none (times neg m e n h k) z = rw (z, limits_normal (times neg m 0 n h (omega arith)))
         none (over neg m e n h o k) z = absurd (omega arith)
 
-  back-real : {neg : Bool} {m : ℕ} {eneg : Bool} {e : ℕ} → Normal neg m eneg e → (double : Bool) → l ≡ minus neg ++ (dec m ++ (46 ∷ exponent eneg e double)) → directOf l ≡ Is (Real neg m eneg e double)
-  back-real {neg} {m} {eneg} {e} ok double q = pick double (ltb 0 e) refl q
+  back_real : {neg : Bool} {m : ℕ} {eneg : Bool} {e : ℕ} → Normal neg m eneg e → (double : Bool) → l ≡ minus neg ++ (dec m ++ (46 ∷ exponent eneg e double)) → direct_of l ≡ Is (Real neg m eneg e double)
+  back_real {neg} {m} {eneg} {e} ok double q = pick double (ltb 0 e) refl q
     where
-      pick : (double b : Bool) → ltb 0 e ≡ b → l ≡ minus neg ++ (dec m ++ (46 ∷ cond (double || b) (tenTo eneg e double) [])) → directOf l ≡ Is (Real neg m eneg e double)
+      pick : (double b : Bool) → ltb 0 e ≡ b → l ≡ minus neg ++ (dec m ++ (46 ∷ cond (double || b) (ten_to eneg e double) [])) → direct_of l ≡ Is (Real neg m eneg e double)
       pick true b h q = back_long ok true refl q
       pick false true h q = back_long ok false h q
-      pick false false h q = back-short ok (omega (arith, ltb-false 0 e h)) q
+      pick false false h q = back_short ok (omega (arith, ltb-false 0 e h)) q
 
-  back-text : (bs : List ℕ) → 1 ≤ length bs → length bs ≤ 999 → printable bs ≡ true → l ≡ head (length bs) ++ bs → directOf l ≡ Is (Text (length (head (length bs))) (length bs))
-  unfolding behindDigits behindCount
-  back-text bs a b p q =
+  back_text : (bs : List ℕ) → 1 ≤ length bs → length bs ≤ 999 → printable bs ≡ true → l ≡ head (length bs) ++ bs → direct_of l ≡ Is (Text (length (head (length bs))) (length bs))
+  unfolding behind_digits behind_count
+  back_text bs a b p q =
       let n = length bs in
       let j = length (dec n) in
       let e : l ≡ dec n ++ (72 ∷ bs) = q ∙ append_assoc (dec n) (72 ∷ []) bs in
@@ -328,31 +328,31 @@ module _ (l : List ℕ) where
       let r : drop (0 + j + 1) l ≡ bs = next l (0 + j) (72 ∷ []) bs d in
       let k : 0 + j + 1 ≡ length (dec n ++ (72 ∷ [])) = rw zero-add (sym (length-append (dec n) (72 ∷ []))) in
       let z : 0 + j + 1 + n ≡ length l = omega (arith, length-drop (0 + j) l, ap (λ (y : List ℕ). length y) d) in
-      direct-digits false n (72 ∷ bs) e refl (omega arith)
+      direct_digits false n (72 ∷ bs) e refl (omega arith)
       ∙ rw (some_left (0 + j) 72 bs d, here l (0 + j) (72 ∷ bs) d) (simp (le-leb 1 n a, le-leb n 999 b, eq-eqb (0 + j + 1 + n) (length l) z, r, p) (ap (λ (y : ℕ). Is (Text y n)) k))
 
 -- each value that a record can hold and a line can show is read straight from its spelling
-back-direct : {v : Item} → Fine v → Printed v → directOf (spelled v) ≡ Is (placed v)
-unfolding spelled directOf
-back-direct fine-default p = refl
-back-direct (fine-whole neg size h z) p = back_whole (minus neg ++ dec size) neg size refl h z
-back-direct (fine-real {neg} {m} {eneg} {e} ok double) p = back-real _ ok double refl
-back-direct (fine-text bs l h) p = back-text (head (length bs) ++ bs) bs l h p refl
+back_direct : {v : Item} → Fine v → Printed v → direct_of (spelled v) ≡ Is (placed v)
+unfolding spelled direct_of
+back_direct fine_default p = refl
+back_direct (fine_whole neg size h z) p = back_whole (minus neg ++ dec size) neg size refl h z
+back_direct (fine_real {neg} {m} {eneg} {e} ok double) p = back_real _ ok double refl
+back_direct (fine_text bs l h) p = back_text (head (length bs) ++ bs) bs l h p refl
 
 -- ---- the two together
 
 -- strict reading goes straight
-pub direct : (l : List ℕ) → directOf l ≡ strictOf l
-direct l = pick (directOf l) refl (strictOf l) refl (if-direct l)
+pub direct : (l : List ℕ) → direct_of l ≡ strict_of l
+direct l = pick (direct_of l) refl (strict_of l) refl (if_direct l)
   where
     is_some : Strict → Bool
     is_some (Is v) = true
     is_some Not = false
 
-    pick : (r : Strict) → directOf l ≡ r → (s : Strict) → strictOf l ≡ s → If l r → r ≡ s
+    pick : (r : Strict) → direct_of l ≡ r → (s : Strict) → strict_of l ≡ s → If l r → r ≡ s
     pick (Is v) er s es i = sym i ∙ es
     pick Not er Not es i = refl
     pick Not er (Is v) es i =
         let w = sound l es in
-        let t : directOf l ≡ Is (placed (item_of l v)) = ap directOf (sym w.text) ∙ back-direct w.fine w.printed in
+        let t : direct_of l ≡ Is (placed (item_of l v)) = ap direct_of (sym w.text) ∙ back_direct w.fine w.printed in
         absurd (true≢false (ap is_some (sym t ∙ er)))

@@ -10,10 +10,10 @@ use lib.ListN.{length, get_or, take, drop, length-append, length-drop}
 use lib.Seq.{take_all, drop-cons, drop-append_seam}
 use lib.Dec.{leb, eqb}
 use borrow.Author.Tests.{leb-true, eqb-true, eq-eqb}
-use Rattle.columns.specs.Columns.{printable, sameBytes}
+use Rattle.columns.specs.Columns.{printable, same_bytes}
 use Rattle.columns.specs.Decimal.{dec}
 use Rattle.columns.proofs.Decimals.{dec_some}
-use Rattle.columns.proofs.Looks.{same-eq, same_self}
+use Rattle.columns.proofs.Looks.{same_eq, same_self}
 use Rattle.values.specs.declared.Number.{Number}
 use Rattle.values.specs.declared.Number.TheVariants.{Whole as WholeOf, Real as RealOf, Beyond, Bad}
 use Rattle.values.specs.declared.Token.{Token}
@@ -25,14 +25,14 @@ use Rattle.values.specs.declared.Strict.{Strict}
 use Rattle.values.specs.declared.Strict.TheVariants.{Is, Not}
 use Rattle.values.specs.Number.{digits, value, number_of}
 use Rattle.values.specs.Head.{head_of}
-use Rattle.values.specs.Value.{Item, default, whole, real, text, item_of, is_default, isMissing, head, spelled, Fine, fine-default, fine-whole, fine-real, fine-text, Printed}
-use Rattle.values.specs.Strict.{numeral, string, byHead, strictOf}
+use Rattle.values.specs.Value.{Item, default, whole, real, text, item_of, is_default, is_missing, head, spelled, Fine, fine_default, fine_whole, fine_real, fine_text, Printed}
+use Rattle.values.specs.Strict.{numeral, string, by_head, strict_of}
 use Rattle.values.proofs.Laws.{three}
 use Rattle.values.proofs.Ends.{inside}
-use Rattle.values.proofs.Digits.{digits-ds, digits-rest, value-below, plain-dec}
-use Rattle.values.proofs.Canon.{Numeral, is_whole, is_real, read-fine}
-use Rattle.values.proofs.Round.{round, round-text}
-use Rattle.values.proofs.Sizes.{number-some, spelled-short}
+use Rattle.values.proofs.Digits.{digits_ds, digits_rest, value-below, plain-dec}
+use Rattle.values.proofs.Canon.{Numeral, is_whole, is_real, read_fine}
+use Rattle.values.proofs.Round.{round, round_text}
+use Rattle.values.proofs.Sizes.{number_some, spelled_short}
 
 -- ---- what is read back is spelt so
 
@@ -49,7 +49,7 @@ head-is l = pick (eqb (get_or l (length (digits l)) 0) 72) (leb (length (digits 
         → HeadIs l (cond (a && (b && c)) (Count (value 0 (digits l)) (length (digits l) + 1)) (Plain (number_of l)))
     pick true true true d e f =
         let n = length (digits l) in
-        (refl, refl, eqb-true (get_or l n 0) 72 d, leb-true 1 (value 0 (digits l)) f, omega (arith, three (value 0 (digits l)) n (value-below (digits-ds l)) (leb-true n 3 e)))
+        (refl, refl, eqb-true (get_or l n 0) 72 d, leb-true 1 (value 0 (digits l)) f, omega (arith, three (value 0 (digits l)) n (value-below (digits_ds l)) (leb-true n 3 e)))
     pick true true false d e f = refl
     pick true false c d e f = refl
     pick false b c d e f = refl
@@ -72,9 +72,9 @@ head_plain l count len h z =
     let i : n < length l = inside l n (rw h.2 (omega arith)) in
     let s : 1 ≤ n = omega (arith, dec_some count, length-append (dec count) (72 ∷ [])) in
     let e : length (dec (value 0 ds)) ≡ n = rw (← h.0) (omega (arith, length-append (dec count) (72 ∷ []))) in
-    let d : dec count ≡ ds = ap dec h.0 ∙ plain-dec (digits-ds l) s e in
+    let d : dec count ≡ ds = ap dec h.0 ∙ plain-dec (digits_ds l) s e in
     let r : drop n l ≡ 72 ∷ drop len l = drop-cons l n 0 i ∙ rw (h.2, h.1, add-one) in
-    append_assoc (dec count) (72 ∷ []) (drop len l) ∙ ap (λ (x : List ℕ). x ++ (72 ∷ drop len l)) d ∙ ap (λ (x : List ℕ). ds ++ x) (sym r) ∙ digits-rest l
+    append_assoc (dec count) (72 ∷ []) (drop len l) ∙ ap (λ (x : List ℕ). x ++ (72 ∷ drop len l)) d ∙ ap (λ (x : List ℕ). ds ++ x) (sym r) ∙ digits_rest l
 
 spelt-text : (l : List ℕ) (count len : ℕ) → HeadIs l (Count count len) → len + count ≡ length l → len ≡ length (head count) → printable (drop len l) ≡ true → Spelt l (Text len count)
 unfolding spelled
@@ -83,7 +83,7 @@ spelt-text l count len h a z p =
     let t : take count (drop len l) ≡ drop len l = take_all count (drop len l) (omega arith) in
     record {
       text = ap (λ (x : List ℕ). head (length x) ++ x) t ∙ ap (λ (k : ℕ). head k ++ drop len l) m ∙ head_plain l count len h z;
-      fine = rw t (fine-text (drop len l) (rw m h.3) (rw m h.4));
+      fine = rw t (fine_text (drop len l) (rw m h.3) (rw m h.4));
       printed = ap printable t ∙ p;
     }
 
@@ -97,35 +97,35 @@ spelt-string l count len h = pick (eqb (len + count) (length l)) (eqb len (lengt
     pick false b c d e f = tt
 
 spelt-numeral : (l : List ℕ) (k : Number) → (number_of l).number ≡ k → SpeltIf l (numeral l k)
-spelt-numeral l (WholeOf neg size) e = pick (sameBytes (spelled (whole neg size)) l) refl
+spelt-numeral l (WholeOf neg size) e = pick (same_bytes (spelled (whole neg size)) l) refl
   where
-    pick : (b : Bool) → sameBytes (spelled (whole neg size)) l ≡ b → SpeltIf l (cond b (Is (Whole neg size)) Not)
-    pick true h = record { text = same-eq (spelled (whole neg size)) l h; fine = read-fine l e is_whole; printed = tt }
+    pick : (b : Bool) → same_bytes (spelled (whole neg size)) l ≡ b → SpeltIf l (cond b (Is (Whole neg size)) Not)
+    pick true h = record { text = same_eq (spelled (whole neg size)) l h; fine = read_fine l e is_whole; printed = tt }
     pick false h = tt
-spelt-numeral l (RealOf neg m eneg x double) e = pick (sameBytes (spelled (real neg m eneg x double)) l) refl
+spelt-numeral l (RealOf neg m eneg x double) e = pick (same_bytes (spelled (real neg m eneg x double)) l) refl
   where
-    pick : (b : Bool) → sameBytes (spelled (real neg m eneg x double)) l ≡ b → SpeltIf l (cond b (Is (Real neg m eneg x double)) Not)
-    pick true h = record { text = same-eq (spelled (real neg m eneg x double)) l h; fine = read-fine l e is_real; printed = tt }
+    pick : (b : Bool) → same_bytes (spelled (real neg m eneg x double)) l ≡ b → SpeltIf l (cond b (Is (Real neg m eneg x double)) Not)
+    pick true h = record { text = same_eq (spelled (real neg m eneg x double)) l h; fine = read_fine l e is_real; printed = tt }
     pick false h = tt
 spelt-numeral l Beyond e = tt
 spelt-numeral l Bad e = tt
 
-spelt-head : (l : List ℕ) (h : Head) → HeadIs l h → SpeltIf l (byHead l h)
+spelt-head : (l : List ℕ) (h : Head) → HeadIs l h → SpeltIf l (by_head l h)
 spelt-head l (Count count len) i = spelt-string l count len i
 spelt-head l (Plain k) i = spelt-numeral l k.number (ap (λ (r : Token). r.number) (sym i))
 
-spelt-if : (l : List ℕ) → SpeltIf l (strictOf l)
-unfolding strictOf spelled
-spelt-if [] = record { text = refl; fine = fine-default; printed = tt }
-spelt-if (b ∷ bs) = spelt-head (b ∷ bs) (head_of (b ∷ bs)) (head-is (b ∷ bs))
+spelt_if : (l : List ℕ) → SpeltIf l (strict_of l)
+unfolding strict_of spelled
+spelt_if [] = record { text = refl; fine = fine_default; printed = tt }
+spelt_if (b ∷ bs) = spelt-head (b ∷ bs) (head_of (b ∷ bs)) (head-is (b ∷ bs))
 
 -- what is read back has this text for its spelling
-pub sound : (l : List ℕ) {v : Value} → strictOf l ≡ Is v → Spelt l v
-sound l e = rw e at (spelt-if l)
+pub sound : (l : List ℕ) {v : Value} → strict_of l ≡ Is v → Spelt l v
+sound l e = rw e at (spelt_if l)
 
 -- so it is short
-pub strict-short : (l : List ℕ) {v : Value} → strictOf l ≡ Is v → length l ≤ 1003
-strict-short l e = omega (arith, ap length (sound l e).text, spelled-short (sound l e).fine)
+pub strict_short : (l : List ℕ) {v : Value} → strict_of l ≡ Is v → length l ≤ 1003
+strict_short l e = omega (arith, ap length (sound l e).text, spelled_short (sound l e).fine)
 
 -- ---- what is spelt so is read back
 
@@ -136,67 +136,67 @@ placed (whole neg size) = Whole neg size
 placed (real neg m eneg e double) = Real neg m eneg e double
 placed (text bs) = Text (length (head (length bs))) (length bs)
 
-pub placed-item : (v : Item) → item_of (spelled v) (placed v) ≡ v
+pub placed_item : (v : Item) → item_of (spelled v) (placed v) ≡ v
 unfolding spelled
-placed-item default = refl
-placed-item (whole neg size) = refl
-placed-item (real neg m eneg e double) = refl
-placed-item (text bs) = ap text (ap (λ (x : List ℕ). take (length bs) x) (drop-append_seam (head (length bs)) bs) ∙ take_all (length bs) bs (omega arith))
+placed_item default = refl
+placed_item (whole neg size) = refl
+placed_item (real neg m eneg e double) = refl
+placed_item (text bs) = ap text (ap (λ (x : List ℕ). take (length bs) x) (drop-append_seam (head (length bs)) bs) ∙ take_all (length bs) bs (omega arith))
 
 -- nothing stands there in a default alone
-pub default-only : (v : Item) → is_default v ≡ true → v ≡ default
-default-only default e = refl
-default-only (whole neg size) e = absurd (false≢true e)
-default-only (real neg m eneg x double) e = absurd (false≢true e)
-default-only (text bs) e = absurd (false≢true e)
+pub default_only : (v : Item) → is_default v ≡ true → v ≡ default
+default_only default e = refl
+default_only (whole neg size) e = absurd (false≢true e)
+default_only (real neg m eneg x double) e = absurd (false≢true e)
+default_only (text bs) e = absurd (false≢true e)
 
 -- and it does not turn on the text
-pub missing : (t : List ℕ) (v : Value) → is_default (item_of t v) ≡ isMissing v
+pub missing : (t : List ℕ) (v : Value) → is_default (item_of t v) ≡ is_missing v
 missing t Default = refl
 missing t (Whole neg size) = refl
 missing t (Real neg m eneg e double) = refl
 missing t (Text at count) = refl
 
-pub missing-placed : (v : Item) → isMissing (placed v) ≡ is_default v
-missing-placed v = sym (missing (spelled v) (placed v)) ∙ ap is_default (placed-item v)
+pub missing_placed : (v : Item) → is_missing (placed v) ≡ is_default v
+missing_placed v = sym (missing (spelled v) (placed v)) ∙ ap is_default (placed_item v)
 
-strict-some : (l : List ℕ) → (length l ≡ 0 → ⊥) → strictOf l ≡ byHead l (head_of l)
-unfolding strictOf
-strict-some [] h = absurd (h refl)
-strict-some (b ∷ bs) h = refl
+strict_some : (l : List ℕ) → (length l ≡ 0 → ⊥) → strict_of l ≡ by_head l (head_of l)
+unfolding strict_of
+strict_some [] h = absurd (h refl)
+strict_some (b ∷ bs) h = refl
 
 -- a spelling with a head is no default
-by-head : (l : List ℕ) {h : Head} → head_of l ≡ h → (length l ≡ 0 → ⊥) → strictOf l ≡ byHead l h
-by-head l e s = strict-some l s ∙ ap (byHead l) e
+by-head : (l : List ℕ) {h : Head} → head_of l ≡ h → (length l ≡ 0 → ⊥) → strict_of l ≡ by_head l h
+by-head l e s = strict_some l s ∙ ap (by_head l) e
 
-number-back : {v : Item} {k : Number} → Numeral v k → Fine v → strictOf (spelled v) ≡ numeral (spelled v) k
-number-back {v} {k} n f = by-head (spelled v) (rw append-nil at ((round n f).head [] refl)) (number-some n)
+number_back : {v : Item} {k : Number} → Numeral v k → Fine v → strict_of (spelled v) ≡ numeral (spelled v) k
+number_back {v} {k} n f = by-head (spelled v) (rw append-nil at ((round n f).head [] refl)) (number_some n)
 
-text-back : (bs : List ℕ) → 1 ≤ length bs → length bs ≤ 999 → printable bs ≡ true → strictOf (spelled (text bs)) ≡ Is (placed (text bs))
+text_back : (bs : List ℕ) → 1 ≤ length bs → length bs ≤ 999 → printable bs ≡ true → strict_of (spelled (text bs)) ≡ Is (placed (text bs))
 unfolding spelled
-text-back bs l h p =
+text_back bs l h p =
     let s = head (length bs) in
-    let e : head_of (s ++ bs) ≡ Count (length bs) (length s) = rw append-nil at (round-text bs l h []) in
+    let e : head_of (s ++ bs) ≡ Count (length bs) (length s) = rw append-nil at (round_text bs l h []) in
     let n : length s + length bs ≡ length (s ++ bs) = sym (length-append s bs) in
     let d : drop (length s) (s ++ bs) ≡ bs = drop-append_seam s bs in
     by-head (s ++ bs) e (λ z. omega arith) ∙ rw d (simp (eq-eqb (length s + length bs) (length (s ++ bs)) n, eq-eqb (length s) (length s) refl, p))
 
-default-back : strictOf (spelled default) ≡ Is Default
-unfolding strictOf spelled
-default-back = refl
+default_back : strict_of (spelled default) ≡ Is Default
+unfolding strict_of spelled
+default_back = refl
 
 -- each value that a record can hold and a line can show is read back from its spelling
-pub complete : {v : Item} → Fine v → Printed v → strictOf (spelled v) ≡ Is (placed v)
-complete fine-default p = default-back
-complete (fine-whole neg size h z) p = number-back is_whole (fine-whole neg size h z) ∙ rw (same_self (spelled (whole neg size)))
-complete (fine-real {neg} {m} {eneg} {e} ok double) p = number-back is_real (fine-real ok double) ∙ rw (same_self (spelled (real neg m eneg e double)))
-complete (fine-text bs l h) p = text-back bs l h p
+pub complete : {v : Item} → Fine v → Printed v → strict_of (spelled v) ≡ Is (placed v)
+complete fine_default p = default_back
+complete (fine_whole neg size h z) p = number_back is_whole (fine_whole neg size h z) ∙ rw (same_self (spelled (whole neg size)))
+complete (fine_real {neg} {m} {eneg} {e} ok double) p = number_back is_real (fine_real ok double) ∙ rw (same_self (spelled (real neg m eneg e double)))
+complete (fine_text bs l h) p = text_back bs l h p
 
-same-value : {v w : Value} → Is v ≡ Is w → v ≡ w
-same-value e = cc
+same_value : {v w : Value} → Is v ≡ Is w → v ≡ w
+same_value e = cc
 
 -- no two of them have one spelling
-pub one-spelling : {v u : Item} → Fine v → Printed v → Fine u → Printed u → spelled v ≡ spelled u → v ≡ u
-one-spelling {v} {u} f p g q e =
-    let w : placed v ≡ placed u = same-value (sym (complete f p) ∙ ap strictOf e ∙ complete g q) in
-    sym (placed-item v) ∙ ap (λ (l : List ℕ). item_of l (placed v)) e ∙ ap (item_of (spelled u)) w ∙ placed-item u
+pub one_spelling : {v u : Item} → Fine v → Printed v → Fine u → Printed u → spelled v ≡ spelled u → v ≡ u
+one_spelling {v} {u} f p g q e =
+    let w : placed v ≡ placed u = same_value (sym (complete f p) ∙ ap strict_of e ∙ complete g q) in
+    sym (placed_item v) ∙ ap (λ (l : List ℕ). item_of l (placed v)) e ∙ ap (item_of (spelled u)) w ∙ placed_item u

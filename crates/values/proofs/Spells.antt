@@ -8,34 +8,34 @@ use lib.ListN.{length, take, drop, length-take, length-drop}
 use borrow.Author.Tests.{lt-ltb}
 use Rattle.columns.specs.Decimal.{dec, minus}
 use Rattle.columns.specs.Laid.{Wrote}
-use Rattle.columns.proofs.Writes.{then, wrote_none, wrote-length}
+use Rattle.columns.proofs.Writes.{then, wrote_none, wrote_length}
 use Rattle.values.specs.declared.Value.{Value}
 use Rattle.values.specs.declared.Value.TheVariants.{Default, Whole, Real, Text}
-use Rattle.values.specs.Value.{whole, real, item_of, letter, tenTo, exponent, head, spelled}
+use Rattle.values.specs.Value.{whole, real, item_of, letter, ten_to, exponent, head, spelled}
 use Rattle.values.specs.Writing.{front, chars, Inside}
 
-pub sign-some : {o o' : List ℕ} {at r : ℕ} (neg : Bool) → neg ≡ true → Wrote o at (45 ∷ []) o' r → Wrote o at (minus neg) o' r
-sign-some neg e x = rw e x
+pub sign_some : {o o' : List ℕ} {at r : ℕ} (neg : Bool) → neg ≡ true → Wrote o at (45 ∷ []) o' r → Wrote o at (minus neg) o' r
+sign_some neg e x = rw e x
 
-pub sign-none : {o : List ℕ} {at : ℕ} (neg : Bool) → neg ≡ false → Wrote o at (minus neg) o at
-sign-none neg e = rw e wrote_none
+pub sign_none : {o : List ℕ} {at : ℕ} (neg : Bool) → neg ≡ false → Wrote o at (minus neg) o at
+sign_none neg e = rw e wrote_none
 
 pub letter-D : (double : Bool) → double ≡ true → 68 ≡ letter double
 letter-D double e = rw e
 
-pub letter-E : (double : Bool) → double ≡ false → 69 ≡ letter double
-letter-E double e = rw e
+pub letter_E : (double : Bool) → double ≡ false → 69 ≡ letter double
+letter_E double e = rw e
 
 pub power-of : {o o' o'' o''' : List ℕ} {at a b r n x : ℕ} (eneg : Bool) (e : ℕ) (double : Bool) → n ≡ e → x ≡ letter double
-    → Wrote o at (x ∷ []) o' a → Wrote o' a (minus eneg) o'' b → Wrote o'' b (dec n) o''' r → Wrote o at (tenTo eneg e double) o''' r
+    → Wrote o at (x ∷ []) o' a → Wrote o' a (minus eneg) o'' b → Wrote o'' b (dec n) o''' r → Wrote o at (ten_to eneg e double) o''' r
 power-of eneg e double en ex x y z = rw (← en, ← ex) (then x (then y z))
 
 module _ {o o' : List ℕ} {at r : ℕ} (eneg : Bool) (e : ℕ) (double : Bool) where
-  pub exponent-double : double ≡ true → Wrote o at (tenTo eneg e double) o' r → Wrote o at (exponent eneg e double) o' r
-  exponent-double d x = simp d (simp d at x)
+  pub exponent_double : double ≡ true → Wrote o at (ten_to eneg e double) o' r → Wrote o at (exponent eneg e double) o' r
+  exponent_double d x = simp d (simp d at x)
 
-  pub exponent-long : double ≡ false → (e ≡ 0 → ⊥) → Wrote o at (tenTo eneg e double) o' r → Wrote o at (exponent eneg e double) o' r
-  exponent-long d h x = simp (d, lt-ltb 0 e (omega arith)) (simp d at x)
+  pub exponent_long : double ≡ false → (e ≡ 0 → ⊥) → Wrote o at (ten_to eneg e double) o' r → Wrote o at (exponent eneg e double) o' r
+  exponent_long d h x = simp (d, lt-ltb 0 e (omega arith)) (simp d at x)
 
 pub exponent-none : {o : List ℕ} {at : ℕ} (eneg : Bool) (e : ℕ) (double : Bool) → double ≡ false → e ≡ 0 → Wrote o at (exponent eneg e double) o at
 exponent-none eneg e double d h = simp (d, h) wrote_none
@@ -44,22 +44,22 @@ pub whole_of : {o o' o'' : List ℕ} {at a r n : ℕ} (neg : Bool) (size : ℕ) 
 unfolding spelled
 whole_of neg size e x y = rw (← e) (then x y)
 
-pub real_of : {o o' o'' o''' o'''' : List ℕ} {at a b c r : ℕ} (neg : Bool) (m : ℕ) (eneg : Bool) (e : ℕ) (double : Bool)
+pub real_of_lem : {o o' o'' o''' o'''' : List ℕ} {at a b c r : ℕ} (neg : Bool) (m : ℕ) (eneg : Bool) (e : ℕ) (double : Bool)
     → Wrote o at (minus neg) o' a → Wrote o' a (dec m) o'' b → Wrote o'' b (46 ∷ []) o''' c → Wrote o''' c (exponent eneg e double) o'''' r
     → Wrote o at (spelled (real neg m eneg e double)) o'''' r
 unfolding spelled
-real_of neg m eneg e double x y z w = then x (then y (then z w))
+real_of_lem neg m eneg e double x y z w = then x (then y (then z w))
 
 pub head_of : {o o' o'' : List ℕ} {at a r : ℕ} (count : ℕ) → Wrote o at (dec count) o' a → Wrote o' a (72 ∷ []) o'' r → Wrote o at (head count) o'' r
 head_of count x y = then x y
 
 module _ {o o' : List ℕ} {at r : ℕ} (v : Value) where
-  pub front-whole : {neg : Bool} {size : ℕ} → v ≡ Whole neg size → Wrote o at (spelled (whole neg size)) o' r → Wrote o at (front v) o' r
-  front-whole e x = rw e x
+  pub front_whole : {neg : Bool} {size : ℕ} → v ≡ Whole neg size → Wrote o at (spelled (whole neg size)) o' r → Wrote o at (front v) o' r
+  front_whole e x = rw e x
 
-  pub front-real : {neg : Bool} {m : ℕ} {eneg : Bool} {e : ℕ} {double : Bool} → v ≡ Real neg m eneg e double
+  pub front_real : {neg : Bool} {m : ℕ} {eneg : Bool} {e : ℕ} {double : Bool} → v ≡ Real neg m eneg e double
       → Wrote o at (spelled (real neg m eneg e double)) o' r → Wrote o at (front v) o' r
-  front-real e x = rw e x
+  front_real e x = rw e x
 
   pub front-text : {start count : ℕ} → v ≡ Text start count → Wrote o at (head count) o' r → Wrote o at (front v) o' r
   front-text e x = rw e x
@@ -68,7 +68,7 @@ pub front-none : {o : List ℕ} {at : ℕ} (v : Value) → v ≡ Default → Wro
 unfolding spelled
 front-none v e = rw e wrote_none
 
-pub ruleset spells = (wrote-length, sign-some, sign-none, letter-D, letter-E, power-of, exponent-double, exponent-long, exponent-none, whole_of, real_of, head_of, front-whole, front-real, front-text, front-none)
+pub ruleset spells = (wrote_length, sign_some, sign_none, letter-D, letter_E, power-of, exponent_double, exponent_long, exponent-none, whole_of, real_of_lem, head_of, front_whole, front_real, front-text, front-none)
 
 -- a value's spelling is its front and its characters; a string's stand within t
 pub front-chars : (t : List ℕ) (v : Value) → Inside (length t) v → spelled (item_of t v) ≡ front v ++ chars t v

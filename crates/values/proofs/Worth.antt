@@ -13,13 +13,13 @@ use Rattle.values.specs.declared.Number.{Number}
 use Rattle.values.specs.declared.Number.TheVariants.{Whole, Real, Beyond, Bad}
 use Rattle.values.specs.declared.Power.{Power}
 use Rattle.values.specs.declared.Power.TheVariants.{None, Wrong, Of}
-use Rattle.values.specs.Number.{tens, token, signLen, pointLen, whole_of, normal, realOf, byPower, finish, number_of}
-use Rattle.values.specs.Worth.{minusIn, before, pointPlace, behind, digitsIn, exponentIn, up, down, isDouble, Worth, Says, NoDigitLost}
+use Rattle.values.specs.Number.{tens, token, sign_len, point_len, whole_of, normal, real_of, by_power, finish, number_of}
+use Rattle.values.specs.Worth.{minus_in, before, point_place, behind, digits_in, exponent_in, up, down, is_double, Worth, Says, NoDigitLost}
 
 -- what is left of v, with its zeros again, is v
-tens-whole : (n v : ℕ) → v / 10 ^ tens n v * 10 ^ tens n v ≡ v
-tens-whole zero v = rw (div-one v) (mul-one v)
-tens-whole (suc n) v = pick (eqb (v % 10) 0) refl (tens-whole n (v / 10))
+tens_whole : (n v : ℕ) → v / 10 ^ tens n v * 10 ^ tens n v ≡ v
+tens_whole zero v = rw (div-one v) (mul-one v)
+tens_whole (suc n) v = pick (eqb (v % 10) 0) refl (tens_whole n (v / 10))
   where
     pick : (b : Bool) → eqb (v % 10) 0 ≡ b → v / 10 / 10 ^ tens n (v / 10) * 10 ^ tens n (v / 10) ≡ v / 10
         → v / 10 ^ (cond b (suc (tens n (v / 10))) 0) * 10 ^ (cond b (suc (tens n (v / 10))) 0) ≡ v
@@ -57,9 +57,9 @@ module _ (v m z u d : ℕ) (w : m * 10 ^ z ≡ v) where
 
 -- the parts of a text t: its digits v, of which frac stand behind the point, its sign and its exponent x
 module _ (neg : Bool) (v frac : ℕ) (x : Power) where
-  is_normal : (m z u d : ℕ) (double : Bool) (len : ℕ) → m * 10 ^ z ≡ v → u ≡ up x → d ≡ frac + down x → double ≡ isDouble x
+  is_normal_lem : (m z u d : ℕ) (double : Bool) (len : ℕ) → m * 10 ^ z ≡ v → u ≡ up x → d ≡ frac + down x → double ≡ is_double x
       → Says neg v frac x (normal neg m (z + u) d double len).number
-  is_normal m z u d double len w eu ed k = pick (eqb m 0) refl (ltb m (10 ^ 17) && leb E 400) (ltb (z + u) d) refl
+  is_normal_lem m z u d double len w eu ed k = pick (eqb m 0) refl (ltb m (10 ^ 17) && leb E 400) (ltb (z + u) d) refl
     where
       E : ℕ
       E = (z + u - d) + (d - (z + u))
@@ -82,18 +82,18 @@ module _ (neg : Bool) (v frac : ℕ) (x : Power) where
       pick false b e = tt
 
 module _ (neg : Bool) (v count frac p end : ℕ) where
-  is_real : (x : Power) (u d : ℕ) (double : Bool) (len : ℕ) → u ≡ up x → d ≡ frac + down x → double ≡ isDouble x
-      → Says neg v frac x (realOf neg v count u d double len).number
-  is_real x u d double len = is_normal neg v frac x (v / 10 ^ tens count v) (tens count v) u d double len (tens-whole count v)
+  is_real : (x : Power) (u d : ℕ) (double : Bool) (len : ℕ) → u ≡ up x → d ≡ frac + down x → double ≡ is_double x
+      → Says neg v frac x (real_of neg v count u d double len).number
+  is_real x u d double len = is_normal_lem neg v frac x (v / 10 ^ tens count v) (tens count v) u d double len (tens_whole count v)
 
-  is-finished : (x : Power) → Says neg v frac x (finish x neg v count frac p end).number
-  is-finished x = some (eqb count 0) x
+  is_finished : (x : Power) → Says neg v frac x (finish x neg v count frac p end).number
+  is_finished x = some (eqb count 0) x
     where
-      point : (b : Bool) → Says neg v frac None (cond b (whole_of neg v end) (realOf neg v count 0 frac false end)).number
+      point : (b : Bool) → Says neg v frac None (cond b (whole_of neg v end) (real_of neg v count 0 frac false end)).number
       point true = is_whole neg v frac None end
       point false = is_real None 0 frac false end refl (omega arith) refl
 
-      some : (b : Bool) (x : Power) → Says neg v frac x (cond b (token Bad end) (byPower x neg v count frac p end)).number
+      some : (b : Bool) (x : Power) → Says neg v frac x (cond b (token Bad end) (by_power x neg v count frac p end)).number
       some true x = tt
       some false None = point (eqb p 0)
       some false (Wrong at) = tt
@@ -101,8 +101,8 @@ module _ (neg : Bool) (v count frac p end : ℕ) where
 
 -- ---- of every text
 
-pub no-digit-lost : NoDigitLost
+pub no_digit_lost : NoDigitLost
 unfolding number_of
-no-digit-lost t =
-    is-finished (minusIn t) (digitsIn t) (length (before t) + length (behind t)) (length (behind t)) (pointLen (get_or t (pointPlace t) 0))
-    (signLen (get_or t 0 0) + (length (before t) + length (behind t)) + pointLen (get_or t (pointPlace t) 0)) (exponentIn t)
+no_digit_lost t =
+    is_finished (minus_in t) (digits_in t) (length (before t) + length (behind t)) (length (behind t)) (point_len (get_or t (point_place t) 0))
+    (sign_len (get_or t 0 0) + (length (before t) + length (behind t)) + point_len (get_or t (point_place t) 0)) (exponent_in t)

@@ -4,13 +4,13 @@ use Rattle.std.specs.Prelude.{◌≡◌, refl, cond, List, [], ◌∷◌, map, �
 use Prim.Native.String.{String}
 use Rattle.columns.specs.Refusal.{number}
 use Rattle.columns.specs.declared.Fault.TheVariants.{Spelling, Limit}
-use Rattle.columns.specs.Decimal.{lastDigits, dec}
+use Rattle.columns.specs.Decimal.{last_digits, dec}
 use Rattle.columns.specs.Quoted.{codes}
 use Rattle.values.specs.declared.Number.{Number}
 use Rattle.values.specs.declared.Number.TheVariants.{Whole, Real, Beyond, Bad}
 use Rattle.values.specs.declared.Head.{Head}
 use Rattle.values.specs.declared.Head.TheVariants.{Count, Plain}
-use Rattle.values.specs.Number.{number_of, powerAt, power}
+use Rattle.values.specs.Number.{number_of, power_at, power}
 use Rattle.values.specs.Head.{head_of}
 use Rattle.values.specs.Value.{whole, real, text, spelled}
 
@@ -56,5 +56,5 @@ table =
 
 -- each case is as the paper says
 pub cases : map (λ (e : String × Answer). answer e.0) table ≡ map (λ (e : String × Answer). e.1) table
-unfolding head_of number_of powerAt power spelled dec lastDigits
+unfolding head_of number_of power_at power spelled dec last_digits
 cases = refl

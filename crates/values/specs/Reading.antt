@@ -8,7 +8,7 @@ use Rattle.values.specs.declared.Power.{Power}
 use Rattle.values.specs.declared.Power.TheVariants.{None, Wrong, Of}
 use Rattle.values.specs.declared.Head.{Head}
 use Rattle.values.specs.declared.Head.TheVariants.{Count, Plain}
-use Rattle.values.specs.Number.{isDigit, token, whole_of, normal}
+use Rattle.values.specs.Number.{is_digit, token, whole_of, normal}
 
 -- no digits yet
 abbrev pub start : Run
@@ -26,11 +26,11 @@ more r c = record {
 -- the digits that a text begins with, after those of r
 abbrev pub scan : List ℕ → Run → Run
 scan [] r = r
-scan (c ∷ cs) r = cond (isDigit c) (scan cs (more r c)) r
+scan (c ∷ cs) r = cond (is_digit c) (scan cs (more r c)) r
 
 -- numbers past seventeen digits are all alike
-abbrev pub capRun : Run → Run
-capRun r = record { value = min r.value (10 ^ 17); mant = min r.mant (10 ^ 17); zeros = r.zeros; count = r.count }
+abbrev pub cap_run : Run → Run
+cap_run r = record { value = min r.value (10 ^ 17); mant = min r.mant (10 ^ 17); zeros = r.zeros; count = r.count }
 
 -- a run that is capped
 pub record Small (r : Run) : Type 0 where
@@ -38,15 +38,15 @@ pub record Small (r : Run) : Type 0 where
   pub mant : r.mant ≤ 10 ^ 17
   pub zeros : r.zeros ≤ r.count
 
--- `byPower` and `finish` of a run
-abbrev pub runByPower : Power → Bool → Run → ℕ → ℕ → ℕ → Token
-runByPower None neg r frac p end = cond (eqb p 0) (whole_of neg r.value end) (normal neg r.mant r.zeros frac false end)
-runByPower (Wrong at) neg r frac p end = token Bad at
-runByPower (Of up down double last) neg r frac p end = normal neg r.mant (r.zeros + up) (frac + down) double last
+-- `by_power` and `finish` of a run
+abbrev pub run_by_power : Power → Bool → Run → ℕ → ℕ → ℕ → Token
+run_by_power None neg r frac p end = cond (eqb p 0) (whole_of neg r.value end) (normal neg r.mant r.zeros frac false end)
+run_by_power (Wrong at) neg r frac p end = token Bad at
+run_by_power (Of up down double last) neg r frac p end = normal neg r.mant (r.zeros + up) (frac + down) double last
 
 -- the same, where a digit must be there
-abbrev pub finishRun : Power → Bool → Run → ℕ → ℕ → ℕ → Token
-finishRun x neg r frac p end = cond (eqb r.count 0) (token Bad end) (runByPower x neg r frac p end)
+abbrev pub finish_run : Power → Bool → Run → ℕ → ℕ → ℕ → Token
+finish_run x neg r frac p end = cond (eqb r.count 0) (token Bad end) (run_by_power x neg r frac p end)
 
 -- a head ends m characters on at most
 abbrev pub Within : ℕ → Head → Type 0

@@ -1,6 +1,6 @@
 -- A sheet has one spelling of each value, the one that reading prints: a text is read back only if it is that spelling.
 use Rattle.std.specs.Prelude.{cond, ◌&&◌, List, [], ◌∷◌, ℕ, ◌+◌, length, drop, eqb}
-use Rattle.columns.specs.Columns.{printable, sameBytes}
+use Rattle.columns.specs.Columns.{printable, same_bytes}
 use Rattle.values.specs.declared.Number.{Number}
 use Rattle.values.specs.declared.Number.TheVariants.{Whole as WholeOf, Real as RealOf, Beyond, Bad}
 use Rattle.values.specs.declared.Head.{Head}
@@ -14,7 +14,7 @@ use Rattle.values.specs.Value.{item_of, head, spelled}
 
 -- v, if all of l is its spelling
 abbrev pub spelt : List ℕ → Value → Strict
-spelt l v = cond (sameBytes (spelled (item_of l v)) l) (Is v) Not
+spelt l v = cond (same_bytes (spelled (item_of l v)) l) (Is v) Not
 
 -- a number, as it was read
 abbrev pub numeral : List ℕ → Number → Strict
@@ -29,20 +29,20 @@ string l count len =
     cond (eqb (len + count) (length l) && (eqb len (length (head count)) && printable (drop len l))) (Is (Text len count)) Not
 
 -- by what the text begins with
-abbrev pub byHead : List ℕ → Head → Strict
-byHead l (Count count len) = string l count len
-byHead l (Plain k) = numeral l k.number
+abbrev pub by_head : List ℕ → Head → Strict
+by_head l (Count count len) = string l count len
+by_head l (Plain k) = numeral l k.number
 
 -- the value whose spelling is all of the text; nothing is a default
-unfoldable pub strictOf : List ℕ → Strict
-strictOf [] = Is Default
-strictOf (b ∷ bs) = byHead (b ∷ bs) (head_of (b ∷ bs))
+unfoldable pub strict_of : List ℕ → Strict
+strict_of [] = Is Default
+strict_of (b ∷ bs) = by_head (b ∷ bs) (head_of (b ∷ bs))
 
 -- the value that was read back; a default where none was
-abbrev pub givenBy : Strict → Value
-givenBy (Is v) = v
-givenBy Not = Default
+abbrev pub given_by : Strict → Value
+given_by (Is v) = v
+given_by Not = Default
 
 -- the value that a text spells
 unfoldable pub meant : List ℕ → Value
-meant l = givenBy (strictOf l)
+meant l = given_by (strict_of l)

@@ -2,8 +2,8 @@
 use Rattle.std.specs.Prelude.{◌≡◌, Bool, true, false, cond, ◌||◌, List, [], ◌∷◌, ◌++◌, ℕ, ◌+◌, ◌-◌, ◌%◌, ◌^◌, ◌≤◌, ◌<◌, length, take, drop, ltb}
 use Rattle.columns.specs.Columns.{printable}
 use Rattle.columns.specs.Decimal.{dec, minus}
-use Rattle.columns.specs.Format.{mostInteger}
-use Rattle.columns.specs.Letters.{point, letterD, letterE, letterH}
+use Rattle.columns.specs.Format.{most_integer}
+use Rattle.columns.specs.Letters.{point, letter_d, letter_e, letter_h}
 use Rattle.values.specs.declared.Value.{Value}
 use Rattle.values.specs.declared.Value.TheVariants.{Default, Whole, Real, Text}
 
@@ -36,26 +36,26 @@ is_default (real neg m eneg e double) = false
 is_default (text bs) = false
 
 -- the same of a value that was read, whatever the text
-abbrev pub isMissing : Value → Bool
-isMissing v = is_default (item_of [] v)
+abbrev pub is_missing : Value → Bool
+is_missing v = is_default (item_of [] v)
 
 -- ---- its one spelling
 
 -- D for a double, E for a single
 abbrev pub letter : Bool → ℕ
-letter double = cond double letterD letterE
+letter double = cond double letter_d letter_e
 
 -- the letter and e
-abbrev pub tenTo : Bool → ℕ → Bool → List ℕ
-tenTo eneg e double = letter double ∷ (minus eneg ++ dec e)
+abbrev pub ten_to : Bool → ℕ → Bool → List ℕ
+ten_to eneg e double = letter double ∷ (minus eneg ++ dec e)
 
 -- for a single E and e if e isn't 0, for a double always D and e
 abbrev pub exponent : Bool → ℕ → Bool → List ℕ
-exponent eneg e double = cond (double || ltb 0 e) (tenTo eneg e double) []
+exponent eneg e double = cond (double || ltb 0 e) (ten_to eneg e double) []
 
 -- the count and H
 abbrev pub head : ℕ → List ℕ
-head count = dec count ++ (letterH ∷ [])
+head count = dec count ++ (letter_h ∷ [])
 
 -- integers and counts in plain decimal; a real is m, point, exponent; a string with its count
 unfoldable pub spelled : Item → List ℕ
@@ -74,10 +74,10 @@ pub data Normal : Bool → ℕ → Bool → ℕ → Type 0 where
 
 -- the values that a record can hold
 pub data Fine : Item → Type 0 where
-  fine-default : Fine default
-  fine-whole : (neg : Bool) (size : ℕ) → size ≤ mostInteger → (size ≡ 0 → neg ≡ false) → Fine (whole neg size)
-  fine-real : {neg : Bool} {m : ℕ} {eneg : Bool} {e : ℕ} → Normal neg m eneg e → (double : Bool) → Fine (real neg m eneg e double)
-  fine-text : (bs : List ℕ) → 1 ≤ length bs → length bs ≤ 999 → Fine (text bs)
+  fine_default : Fine default
+  fine_whole : (neg : Bool) (size : ℕ) → size ≤ most_integer → (size ≡ 0 → neg ≡ false) → Fine (whole neg size)
+  fine_real : {neg : Bool} {m : ℕ} {eneg : Bool} {e : ℕ} → Normal neg m eneg e → (double : Bool) → Fine (real neg m eneg e double)
+  fine_text : (bs : List ℕ) → 1 ≤ length bs → length bs ≤ 999 → Fine (text bs)
 
 -- its characters are bytes that a line may hold
 abbrev pub Printed : Item → Type 0

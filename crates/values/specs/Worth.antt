@@ -1,37 +1,37 @@
 -- No digit is lost: what is read of a number is worth what its spelling says. The parts of a spelling have names, in the order in which
 -- they stand.
 use Rattle.std.specs.Prelude.{◌≡◌, Bool, false, cond, List, ◌++◌, ℕ, ◌+◌, ◌*◌, ◌^◌, length, get_or, drop, eqb}
-use Rattle.columns.specs.Letters.{minusSign}
+use Rattle.columns.specs.Letters.{minus_sign}
 use Rattle.values.specs.declared.Number.{Number}
 use Rattle.values.specs.declared.Number.TheVariants.{Whole, Real, Beyond, Bad}
 use Rattle.values.specs.declared.Power.{Power}
 use Rattle.values.specs.declared.Power.TheVariants.{None, Wrong, Of}
-use Rattle.values.specs.Number.{digits, value, signLen, pointLen, powerAt, number_of}
+use Rattle.values.specs.Number.{digits, value, sign_len, point_len, power_at, number_of}
 
 -- ---- what a spelling says
 
 -- a minus stands first
-abbrev pub minusIn : List ℕ → Bool
-minusIn t = eqb (get_or t 0 0) minusSign
+abbrev pub minus_in : List ℕ → Bool
+minus_in t = eqb (get_or t 0 0) minus_sign
 
 -- the digits before the point, and those behind it
 abbrev pub before : List ℕ → List ℕ
-before t = digits (drop (signLen (get_or t 0 0)) t)
+before t = digits (drop (sign_len (get_or t 0 0)) t)
 
 -- where the digits before the point end
-abbrev pub pointPlace : List ℕ → ℕ
-pointPlace t = signLen (get_or t 0 0) + length (before t)
+abbrev pub point_place : List ℕ → ℕ
+point_place t = sign_len (get_or t 0 0) + length (before t)
 
 abbrev pub behind : List ℕ → List ℕ
-behind t = digits (drop (pointPlace t + pointLen (get_or t (pointPlace t) 0)) t)
+behind t = digits (drop (point_place t + point_len (get_or t (point_place t) 0)) t)
 
 -- all digits as one number, the point left out
-abbrev pub digitsIn : List ℕ → ℕ
-digitsIn t = value 0 (before t ++ behind t)
+abbrev pub digits_in : List ℕ → ℕ
+digits_in t = value 0 (before t ++ behind t)
 
 -- the exponent, if its letter stands behind the digits
-abbrev pub exponentIn : List ℕ → Power
-exponentIn t = powerAt t (signLen (get_or t 0 0) + (length (before t) + length (behind t)) + pointLen (get_or t (pointPlace t) 0))
+abbrev pub exponent_in : List ℕ → Power
+exponent_in t = power_at t (sign_len (get_or t 0 0) + (length (before t) + length (behind t)) + point_len (get_or t (point_place t) 0))
 
 -- ten to how much it multiplies by, and divides by
 abbrev pub up : Power → ℕ
@@ -45,10 +45,10 @@ down (Wrong at) = 0
 down (Of u d double end) = d
 
 -- D
-abbrev pub isDouble : Power → Bool
-isDouble None = false
-isDouble (Wrong at) = false
-isDouble (Of u d double end) = double
+abbrev pub is_double : Power → Bool
+is_double None = false
+is_double (Wrong at) = false
+is_double (Of u d double end) = double
 
 -- ---- what is read is worth that
 
@@ -62,10 +62,10 @@ Worth v u d m eneg e = v * 10 ^ u * 10 ^ (cond eneg e 0) ≡ m * 10 ^ (cond eneg
 abbrev pub Says : Bool → ℕ → ℕ → Power → Number → Type 0
 Says minus v frac x (Whole neg size) = (size ≡ v) × ((size ≡ 0 → ⊥) → neg ≡ minus)
 Says minus v frac x (Real neg m eneg e double) =
-    Worth v (up x) (frac + down x) m eneg e × (((m ≡ 0 → ⊥) → neg ≡ minus) × (double ≡ isDouble x))
+    Worth v (up x) (frac + down x) m eneg e × (((m ≡ 0 → ⊥) → neg ≡ minus) × (double ≡ is_double x))
 Says minus v frac x Beyond = Unit {0}
 Says minus v frac x Bad = Unit {0}
 
 -- of every text
 abbrev pub NoDigitLost : Type 0
-NoDigitLost = (t : List ℕ) → Says (minusIn t) (digitsIn t) (length (behind t)) (exponentIn t) (number_of t).number
+NoDigitLost = (t : List ℕ) → Says (minus_in t) (digits_in t) (length (behind t)) (exponent_in t) (number_of t).number

@@ -2,7 +2,7 @@
 // of a line, `values_spell` writes a value in its one spelling, `values_strict` reads that spelling alone.
 
 ghost use Rattle.std.specs.Prelude.{◌≡◌};
-ghost use Rattle.values.specs.Value.{isMissing};
+ghost use Rattle.values.specs.Value.{is_missing};
 
 // A value as it is read. A real is m times ten to plus or minus e; a string is where its characters stand in the record's text, and how
 // many.
@@ -99,7 +99,7 @@ pub struct Decimal {
 
 // Whether a value is a default.
 pub fn is_missing(v: Value) -> bool
-    ensures { result ≡ isMissing v }
+    ensures { result ≡ is_missing v }
 {
     match v {
         Value::Default => true,

@@ -1,7 +1,7 @@
 // Digits read one by one, however many there are, without a loss.
 ghost use Rattle.std.specs.Prelude.{◌≡◌, ◌+◌, ◌-◌, ◌*◌, ◌^◌, ◌≤◌, ◌<◌, min, length, drop};
 ghost use Rattle.columns.specs.Letters.{digit0, digit9};
-ghost use Rattle.values.specs.Reading.{more, scan, capRun, Small};
+ghost use Rattle.values.specs.Reading.{more, scan, cap_run, Small};
 
 use columns::byte_u64;
 use values::Run;
@@ -22,7 +22,7 @@ fn run_of(r: Run, c: u8, v: u64) -> Run
     requires count_bound { r.count + 1 < 2 ^ 64 }
     requires small { Small r }
     requires v_value { v ≡ min (r.value * 10 + (c - digit0)) (10 ^ 17) }
-    ensures { result ≡ capRun (more r c) }
+    ensures { result ≡ cap_run (more r c) }
 {
     if c == b'0' {
         Run {
@@ -47,7 +47,7 @@ fn more_of(r: Run, c: u8) -> Run
     requires c_le_digit9 { c ≤ digit9 }
     requires count_bound { r.count + 1 < 2 ^ 64 }
     requires small { Small r }
-    ensures { result ≡ capRun (more r c) }
+    ensures { result ≡ cap_run (more r c) }
 {
     run_of(r, c, cap(r.value * 10 + (byte_u64(c) - 48)))
 }
@@ -59,7 +59,7 @@ fn few_of(r: Run, c: u8) -> Run
     requires count_bound { r.count + 1 < 2 ^ 64 }
     requires small { Small r }
     requires value_bound { r.value < 10 ^ 16 }
-    ensures { result ≡ capRun (more r c) }
+    ensures { result ≡ cap_run (more r c) }
 {
     run_of(r, c, r.value * 10 + (byte_u64(c) - 48))
 }
@@ -68,7 +68,7 @@ fn few_of(r: Run, c: u8) -> Run
 fn many_at(t: &[u8], i: usize, r: Run) -> Run
     requires i_bound { r.count + (length t.now - i) < 2 ^ 64 }
     requires small { Small r }
-    ensures value { result ≡ capRun (scan (drop i t.now) r) }
+    ensures value { result ≡ cap_run (scan (drop i t.now) r) }
     ensures count_le_count { (r.count ≤ result.count) × (result.count ≤ r.count + (length t.now - i)) × Small result }
 {
     let mut k = i;
@@ -91,7 +91,7 @@ fn many_at(t: &[u8], i: usize, r: Run) -> Run
 pub fn scan_at(t: &[u8], i: usize, r: Run) -> Run
     requires count_bound { r.count ≤ 2 ^ 63 }
     requires small { Small r }
-    ensures value { result ≡ capRun (scan (drop i t.now) r) }
+    ensures value { result ≡ cap_run (scan (drop i t.now) r) }
     ensures count_le_count { (r.count ≤ result.count) × (result.count ≤ r.count + (length t.now - i)) × Small result }
 {
     let mut k = i;

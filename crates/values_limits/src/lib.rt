@@ -1,7 +1,7 @@
 // The number that digits, a point and an exponent make, within its limits.
 ghost use Rattle.std.specs.Prelude.{◌≡◌, false, ◌+◌, ◌-◌, ◌^◌, ◌≤◌, ◌<◌};
 ghost use Rattle.values.specs.Number.{whole_of, normal};
-ghost use Rattle.values.specs.Reading.{finishRun};
+ghost use Rattle.values.specs.Reading.{finish_run};
 
 use columns::format::MOST_INTEGER_WIDE;
 use values::{Number, Power, Run, Token};
@@ -95,7 +95,7 @@ fn wide16(x: u16) -> usize
 pub fn finish_of(x: Power, neg: bool, r: Run, n: usize, p: usize, end: usize) -> Token
     requires zeros_bound { r.zeros ≤ 2 ^ 63 }
     requires n_bound { n ≤ 2 ^ 63 }
-    ensures { result ≡ finishRun x neg r n p end }
+    ensures { result ≡ finish_run x neg r n p end }
 {
     if r.count == 0 {
         return Token {

@@ -1,9 +1,9 @@
 // A number in the rest of a line, of any length, read without a loss; and the head of a string.
 // Crate `values_digits` reads digits, `values_limits` makes the number of them.
 ghost use Rattle.std.specs.Prelude.{◌≡◌, true, false, ◌&&◌, ◌+◌, ◌-◌, ◌^◌, ◌≤◌, ◌<◌, length, drop, leb, eqb};
-ghost use Rattle.columns.specs.Letters.{letterH};
-ghost use Rattle.values.specs.Number.{signLen, pointLen, powerOf, power, powerAt, number_of};
-ghost use Rattle.values.specs.Reading.{start, scan, capRun, Small, Within};
+ghost use Rattle.columns.specs.Letters.{letter_h};
+ghost use Rattle.values.specs.Number.{sign_len, point_len, power_of, power, power_at, number_of};
+ghost use Rattle.values.specs.Reading.{start, scan, cap_run, Small, Within};
 ghost use Rattle.values.specs.Head.{head_of};
 
 use columns::look;
@@ -13,7 +13,7 @@ use values_limits::finish_of;
 
 // How many characters a sign takes.
 fn sign_len(c: u8) -> usize
-    ensures { (result ≡ signLen c) × (result ≤ 1) }
+    ensures { (result ≡ sign_len c) × (result ≤ 1) }
 {
     if c == b'+' {
         1
@@ -26,7 +26,7 @@ fn sign_len(c: u8) -> usize
 
 // How many characters a point takes.
 fn point_len(c: u8) -> usize
-    ensures { (result ≡ pointLen c) × (result ≤ 1) }
+    ensures { (result ≡ point_len c) × (result ≤ 1) }
 {
     if c == b'.' { 1 } else { 0 }
 }
@@ -35,7 +35,7 @@ fn point_len(c: u8) -> usize
 fn power_from(neg: bool, count: usize, x: u64, double: bool, from: usize, end: usize) -> Power
     requires x_bound { x < 10 ^ count }
     requires from_bound { from ≤ 2 ^ 63 + 9 }
-    ensures { result ≡ powerOf neg count x double from end }
+    ensures { result ≡ power_of neg count x double from end }
 {
     if count < 1 {
         return Power::Wrong { at: from };
@@ -80,7 +80,7 @@ fn power_of(t: &[u8], i: usize, double: bool) -> Power
 // The exponent at i, if its letter stands there.
 fn power_at(t: &[u8], i: usize) -> Power
     requires { i ≤ 2 ^ 63 + 7 }
-    ensures { result ≡ powerAt t.now i }
+    ensures { result ≡ power_at t.now i }
 {
     let c = look::byte_at(t, i);
     if c == b'E' {
@@ -94,10 +94,10 @@ fn power_at(t: &[u8], i: usize) -> Power
 
 // The digits before a point, behind a sign of a characters; r are those with which the text begins.
 fn before_of(t: &[u8], a: usize, r: Run) -> Run
-    requires r_value { r ≡ capRun (scan t.now start) }
+    requires r_value { r ≡ cap_run (scan t.now start) }
     requires count_in_bounds { r.count ≤ length t.now }
     requires small { Small r }
-    ensures value { result ≡ capRun (scan (drop a t.now) start) }
+    ensures value { result ≡ cap_run (scan (drop a t.now) start) }
     ensures count_in_bounds_2 { (result.count ≤ length t.now - a) × Small result }
 {
     if a == 0 {
@@ -114,7 +114,7 @@ fn before_of(t: &[u8], a: usize, r: Run) -> Run
 
 // The number that a text begins with; z are the digits with which it begins, read already.
 fn read_from(t: &[u8], z: Run) -> Token
-    requires z_value { z ≡ capRun (scan t.now start) }
+    requires z_value { z ≡ cap_run (scan t.now start) }
     requires count_in_bounds { z.count ≤ length t.now }
     requires small { Small z }
     ensures value { result ≡ number_of t.now }
@@ -147,7 +147,7 @@ pub fn read(t: &[u8]) -> Token
 
 // Whether n digits that spell v, and x behind them, are a string's count.
 fn is_count(x: u8, n: usize, v: u64) -> bool
-    ensures { result ≡ (eqb x letterH && (leb n 3 && leb 1 v)) }
+    ensures { result ≡ (eqb x letter_h && (leb n 3 && leb 1 v)) }
 {
     if x != b'H' {
         return false;

@@ -2,7 +2,7 @@
 ghost use Rattle.std.specs.Prelude.{◌≡◌, ◌+◌, ◌^◌, ◌≤◌, ◌<◌, length};
 ghost use Rattle.columns.specs.Decimal.{minus};
 ghost use Rattle.columns.specs.Laid.{Wrote};
-ghost use Rattle.values.specs.Value.{whole, real, letter, tenTo, exponent, head, spelled};
+ghost use Rattle.values.specs.Value.{whole, real, letter, ten_to, exponent, head, spelled};
 ghost use Rattle.values.specs.Writing.{front};
 
 use values::Value;
@@ -35,7 +35,7 @@ fn letter_of(double: bool) -> u8
 // The letter, the sign and the digits of an exponent.
 fn put_power(out: &mut [u8], at: usize, eneg: bool, e: u32, double: bool) -> usize
     requires { at < 2 ^ 61 }
-    ensures wrote { Wrote out.old at (tenTo eneg e double) out.new result }
+    ensures wrote { Wrote out.old at (ten_to eneg e double) out.new result }
     ensures upper_bound { result ≤ at + 22 }
 {
     let n = wide(e);

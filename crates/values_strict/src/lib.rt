@@ -1,11 +1,11 @@
 // A value's one spelling read back, and no other: straight from the text, by what stands behind its sign and its digits.
 ghost use Rattle.std.specs.Prelude.{◌≡◌, ◌||◌, ◌+◌, ◌≤◌, ◌<◌, min, length, drop, ltb, eqb};
 ghost use Rattle.columns.specs.Decimal.{minus};
-ghost use Rattle.columns.specs.Letters.{letterD, letterE};
+ghost use Rattle.columns.specs.Letters.{letter_d, letter_e};
 ghost use Rattle.values.specs.declared.Strict.TheVariants.{Is};
-ghost use Rattle.values.specs.Strict.{strictOf, meant};
+ghost use Rattle.values.specs.Strict.{strict_of, meant};
 ghost use Rattle.values.specs.Writing.{front, Placed};
-ghost use Rattle.values.specs.Direct.{decimal, is_whole, isNought, isNormal, asWhole, asReal, behindLetter, behindPoint, behindCount};
+ghost use Rattle.values.specs.Direct.{decimal, is_whole, is_nought, is_normal, as_whole, as_real, behind_letter, behind_point, behind_count};
 
 use columns::format::MOST_INTEGER_WIDE;
 use columns::{byte_u64, look};
@@ -74,7 +74,7 @@ fn is_whole(neg: bool, size: u64) -> bool
 
 // An integer that ends with the text.
 fn as_whole(neg: bool, size: u64) -> Strict
-    ensures { result ≡ asWhole neg size }
+    ensures { result ≡ as_whole neg size }
 {
     if is_whole(neg, size) {
         return Strict::Is(Value::Whole {
@@ -87,7 +87,7 @@ fn as_whole(neg: bool, size: u64) -> Strict
 
 // Nought has no sign and no exponent.
 fn is_nought(neg: bool, m: u64, eneg: bool, e: u64) -> bool
-    ensures { result ≡ isNought neg m eneg e }
+    ensures { result ≡ is_nought neg m eneg e }
 {
     if m != 0 {
         return false;
@@ -103,7 +103,7 @@ fn is_nought(neg: bool, m: u64, eneg: bool, e: u64) -> bool
 
 // Whether a real is normal and keeps its limits.
 fn is_normal(neg: bool, m: u64, eneg: bool, e: u64) -> bool
-    ensures { result ≡ isNormal neg m eneg e }
+    ensures { result ≡ is_normal neg m eneg e }
 {
     if 400 < e {
         return false;
@@ -119,7 +119,7 @@ fn is_normal(neg: bool, m: u64, eneg: bool, e: u64) -> bool
 
 // A real that ends with the text.
 fn as_real(neg: bool, m: u64, eneg: bool, e: u64, double: bool) -> Strict
-    ensures { result ≡ asReal neg m eneg e double }
+    ensures { result ≡ as_real neg m eneg e double }
 {
     if is_normal(neg, m, eneg, e) {
         return Strict::Is(Value::Real {
@@ -146,7 +146,7 @@ fn is_spelt(e: u64, double: bool) -> bool
 // A real, whose exponent stands at i.
 fn behind_letter(l: &[u8], neg: bool, m: u64, double: bool, i: usize) -> Strict
     requires { i ≤ length l.now }
-    ensures { result ≡ behindLetter l.now neg m double i }
+    ensures { result ≡ behind_letter l.now neg m double i }
 {
     let eneg = look::byte_at(l, i) == b'-';
     let k = i + minus_len(eneg);
@@ -165,7 +165,7 @@ fn behind_letter(l: &[u8], neg: bool, m: u64, double: bool, i: usize) -> Strict
 
 // E or D.
 fn is_letter(c: u8) -> bool
-    ensures { result ≡ (eqb c letterE || eqb c letterD) }
+    ensures { result ≡ (eqb c letter_e || eqb c letter_d) }
 {
     if c == b'E' {
         return true;
@@ -176,7 +176,7 @@ fn is_letter(c: u8) -> bool
 // A real, whose point stands before i.
 fn behind_point(l: &[u8], neg: bool, m: u64, i: usize) -> Strict
     requires { i ≤ length l.now }
-    ensures { result ≡ behindPoint l.now neg m i }
+    ensures { result ≡ behind_point l.now neg m i }
 {
     if i == l.len() {
         return as_real(neg, m, false, 0, false);
@@ -191,7 +191,7 @@ fn behind_point(l: &[u8], neg: bool, m: u64, i: usize) -> Strict
 // A string, whose characters start at i.
 fn behind_count(l: &[u8], neg: bool, count: u64, i: usize) -> Strict
     requires { i ≤ length l.now }
-    ensures { result ≡ behindCount l.now neg count i }
+    ensures { result ≡ behind_count l.now neg count i }
 {
     if neg {
         return Strict::Not;
@@ -215,7 +215,7 @@ fn behind_count(l: &[u8], neg: bool, count: u64, i: usize) -> Strict
 
 // The value that has this spelling.
 pub fn strict(l: &[u8]) -> Strict
-    ensures value { result ≡ strictOf l.now }
+    ensures value { result ≡ strict_of l.now }
     ensures placed { Placed (length l.now) result }
 {
     if l.len() == 0 {
@@ -244,7 +244,7 @@ pub fn strict(l: &[u8]) -> Strict
 // How much of a value's spelling stands before a string's characters; of any other value all. An H ends a string's count, of one to three
 // digits, and no other spelling has one.
 pub fn front_of(l: &[u8]) -> usize
-    requires { strictOf l.now ≡ Is (meant l.now) }
+    requires { strict_of l.now ≡ Is (meant l.now) }
     ensures value { result ≡ length (front (meant l.now)) }
     ensures upper_bound { result ≤ length l.now }
 {

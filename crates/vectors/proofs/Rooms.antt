@@ -9,7 +9,7 @@ use lib.ListN.{length, get_or, take, drop, set, drop_of_length-le}
 use lib.Seq.{length-take-le, drop-cons}
 use borrow.Author.Tests.{eq-eqb, ne_eqb}
 use Rattle.columns.specs.Laid.{Wrote}
-use Rattle.columns.proofs.Writes.{wrote_one, wrote_none, wrote-eq, run_more}
+use Rattle.columns.proofs.Writes.{wrote_one, wrote_none, wrote_eq, run_more}
 use Rattle.vectors.specs.Passing.{filler, ready, untouched}
 
 -- ---- parts
@@ -18,10 +18,10 @@ pub part : (n : ℕ) (xs : List ℕ) → n ≤ length xs → n ≡ length (take 
 part n xs h = sym (length-take-le n xs h)
 
 -- one byte less, of a buffer that was filled
-pub part-less : (n : ℕ) (xs ys : List ℕ) → n ≤ length ys → length xs ≡ length ys → n - 1 ≡ length (take (n - 1) xs)
-part-less n xs ys h e = part (n - 1) xs (omega arith)
+pub part_less : (n : ℕ) (xs ys : List ℕ) → n ≤ length ys → length xs ≡ length ys → n - 1 ≡ length (take (n - 1) xs)
+part_less n xs ys h e = part (n - 1) xs (omega arith)
 
-pub ruleset parts = (part, part-less)
+pub ruleset parts = (part, part_less)
 
 -- ---- filled: after i turns so are i bytes
 
@@ -34,7 +34,7 @@ fill_on {o} {o'} i p = run_more i p (wrote_one o' i filler (i + 1) refl)
 pub fill_end : {o o' : List ℕ} (i : ℕ) → Wrote o 0 (ready i) o' i → length o' ≡ length o → i ≤ length o → length o' ≤ i → o' ≡ ready (length o)
 fill_end {o} {o'} i p e k h =
     let n : i ≡ length o = omega arith in
-    wrote-eq p k ∙ ap (λ (l : List ℕ). ready i ++ l) (drop_of_length-le o {i = i} (omega arith)) ∙ append-nil (ready i) ∙ ap ready n
+    wrote_eq p k ∙ ap (λ (l : List ℕ). ready i ++ l) (drop_of_length-le o {i = i} (omega arith)) ∙ append-nil (ready i) ∙ ap ready n
 
 -- a part of a filled buffer, and what stands behind it
 pub take-ready : (k n : ℕ) → k ≤ n → take k (ready n) ≡ ready k
@@ -66,12 +66,12 @@ module _ (f : Bool) (s : List ℕ) (i : ℕ) (inv : untouched (drop i s) ≡ f) 
     unfolding untouched
     untouched-on h = simp (untouched, eq-eqb _ _ h) at (rw next at inv)
 
-    pub untouched-no : (get_or s i 0 ≡ filler → ⊥) → false ≡ f
+    pub untouched_no : (get_or s i 0 ≡ filler → ⊥) → false ≡ f
     unfolding untouched
-    untouched-no h = simp (untouched, ne_eqb _ _ h) at (rw next at inv)
+    untouched_no h = simp (untouched, ne_eqb _ _ h) at (rw next at inv)
 
   pub untouched-end : length s ≤ i → true ≡ f
   unfolding untouched
   untouched-end h = rw (drop_of_length-le s {i = i} h) at inv
 
-pub ruleset looking = (untouched-on, untouched-no, untouched-end)
+pub ruleset looking = (untouched-on, untouched_no, untouched-end)

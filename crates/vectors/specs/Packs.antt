@@ -10,22 +10,22 @@ use Rattle.vectors.specs.declared.Results.{Results}
 use Rattle.vectors.specs.Passing.{scored}
 
 -- seven numbers of eight digits and an LF
-abbrev pub headBytes : ℕ
-headBytes = 57
+abbrev pub head_bytes : ℕ
+head_bytes = 57
 
 -- what is no number counts as 0
-abbrev pub orNought : Field → ℕ
-orNought (Number n) = n
-orNought Bad = 0
+abbrev pub or_nought : Field → ℕ
+or_nought (Number n) = n
+or_nought Bad = 0
 
 -- the number in the eight columns from `at` on
 unfoldable pub number_at : List ℕ → ℕ → ℕ
-number_at p at = orNought (field_of (columns p at (at + 8)))
+number_at p at = or_nought (field_of (columns p at (at + 8)))
 
 -- the vector from `at` on: behind its numbers its name, its input and the expected output
-unfoldable pub vectorAt : List ℕ → ℕ → Packed
-vectorAt p at =
-    let name = at + headBytes in
+unfoldable pub vector_at : List ℕ → ℕ → Packed
+vector_at p at =
+    let name = at + head_bytes in
     let input = name + number_at p (at + 32) in
     let output = input + number_at p (at + 40) in
     let end = output + number_at p (at + 48) in
@@ -49,8 +49,8 @@ part p from to = take (to - from) (drop from p)
 -- what comes of the vectors from `at` on, where so many were tried and passed before; a broken one ends it
 pub data Tried (p : List ℕ) (room : ℕ) : ℕ → ℕ → ℕ → Results → Type 0 where
   over : {at n k : ℕ} → length p ≤ at → Tried p room at n k (tally n k)
-  broken : {at n k : ℕ} → at < length p → vectorAt p at ≡ Broken → Tried p room at n k (tally n k)
+  broken : {at n k : ℕ} → at < length p → vector_at p at ≡ Broken → Tried p room at n k (tally n k)
   one : {at n k op list number place name input output end : ℕ} {r : Results} → at < length p
-      → vectorAt p at ≡ Vector op list number place name input output end
+      → vector_at p at ≡ Vector op list number place name input output end
       → Tried p room end (n + 1) (k + scored op list number place (part p input output) (part p output end) room) r
       → Tried p room at n k r

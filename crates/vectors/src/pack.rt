@@ -1,7 +1,7 @@
 // A pack of vectors: for each seven numbers of eight digits (0 to read and 1 to write; list; number and place of the answer; how long its
 // name, its input and its expected output are), an LF, and those three.
 ghost use Rattle.std.specs.Prelude.{◌≡◌, ◌+◌, ◌^◌, ◌≤◌, ◌<◌, length};
-ghost use Rattle.vectors.specs.Packs.{number_at, vectorAt, Lies};
+ghost use Rattle.vectors.specs.Packs.{number_at, vector_at, Lies};
 
 use crate::Packed;
 use columns::{Field, wide};
@@ -34,7 +34,7 @@ fn length_at(p: &[u8], at: usize) -> usize
 // The vector from `at` on.
 pub fn vector_at(p: &[u8], at: usize) -> Packed
     requires { at ≤ length p.now }
-    ensures value { result ≡ vectorAt p.now at }
+    ensures value { result ≡ vector_at p.now at }
     ensures lies { Lies at (length p.now) result }
 {
     let n = p.len();

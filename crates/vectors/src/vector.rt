@@ -1,7 +1,7 @@
 // One vector tried.
 ghost use Rattle.std.specs.Prelude.{◌≡◌, length};
-ghost use Rattle.desk.specs.Answers.{answer_of, leftIn};
-ghost use Rattle.vectors.specs.Passing.{isAnswer, holds, ran, gives, wantsRoom};
+ghost use Rattle.desk.specs.Answers.{answer_of, left_in};
+ghost use Rattle.vectors.specs.Passing.{is_answer, holds, ran, gives, wants_room};
 
 use crate::room::{fill, untouched};
 use columns::look::same;
@@ -12,7 +12,7 @@ const READ: u64 = 0;
 
 // Whether an answer is the expected one, with this length.
 fn is_answer(a: Answer, number: u64, place: u64, length: usize) -> bool
-    ensures { result ≡ isAnswer a number place length }
+    ensures { result ≡ is_answer a number place length }
 {
     if a.number != number {
         return false;
@@ -40,7 +40,7 @@ fn holds(out: &[u8], expected: &[u8]) -> bool
 // Reads or writes.
 fn run(op: u64, list: u64, input: &[u8], out: &mut [u8]) -> Answer
     ensures value { result ≡ answer_of (length out.old) (ran op list input.now) }
-    ensures out_after { out.new ≡ leftIn out.old (ran op list input.now) }
+    ensures out_after { out.new ≡ left_in out.old (ran op list input.now) }
     ensures out_len_unchanged { length out.new ≡ length out.old }
 {
     if op == READ {
@@ -72,7 +72,7 @@ pub fn gives(
 
 // Whether a buffer that is one byte too short gives 16 and the length that is needed, and stays as it was.
 pub fn wants_room(op: u64, list: u64, input: &[u8], room: usize, out: &mut [u8]) -> bool
-    ensures value { result ≡ wantsRoom op list input.now room (length out.old) }
+    ensures value { result ≡ wants_room op list input.now room (length out.old) }
     ensures out_len_unchanged { length out.new ≡ length out.old }
 {
     if room == 0 {

@@ -1,9 +1,9 @@
 -- The code's form: the slot that is lent. No entry has it, so it is seen where a slot stays.
 use Rattle.std.specs.Prelude.{false, replicate}
-use Rattle.columns.specs.Format.{fieldColumns}
+use Rattle.columns.specs.Format.{field_columns}
 use Rattle.directory.specs.declared.Attribute.TheVariants.{Number}
 use Rattle.directory.specs.Fields.{named}
-use Rattle.directory.specs.Lines.{parameterLine}
+use Rattle.directory.specs.Lines.{parameter_line}
 use Rattle.desk.specs.declared.Record.{Record}
 
 -- nines in all its fields, and a label of nines (57)
@@ -25,7 +25,7 @@ nines = record {
     colour = Number 9;
     subscript = 9;
   };
-  label = replicate fieldColumns 57;
-  pointer = parameterLine 9;
+  label = replicate field_columns 57;
+  pointer = parameter_line 9;
   lines = 9;
 }

@@ -1,6 +1,6 @@
 // Prints the table of the file at standard input, slot by slot, and the names for the directory numbers 0 to 6.
 ghost use Rattle.std.specs.Prelude.{◌≡◌, length};
-ghost use Rattle.desk.specs.Answers.{listedIn, slotsLeft};
+ghost use Rattle.desk.specs.Answers.{listed_in, slots_left};
 ghost use Rattle.viewer.specs.Unused.{nines};
 
 use columns::format::MOST_LIST;
@@ -43,7 +43,7 @@ fn unused() -> Record
 
 // The rows with the table of a file in them.
 fn listed(list: u64, file: &[u8], rows: [Record; 4]) -> [Record; 4]
-    ensures { result ≡ slotsLeft rows (listedIn list file.now) }
+    ensures { result ≡ slots_left rows (listed_in list file.now) }
 {
     let mut table = rows;
     desk_table::directory(list, file, &mut table);

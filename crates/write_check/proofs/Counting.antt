@@ -3,16 +3,16 @@ use Rattle.std.proofs.Common.{◌≡◌, ℕ, ◌+◌, ◌^◌, ◌<◌, ◌≤�
 use Rattle.columns.specs.Columns.{columns}
 use Rattle.sheets.specs.declared.Said.{Said}
 use Rattle.sheets.specs.Line.{run}
-use Rattle.sheets.specs.Sheet.{says_of, saidBy, linesIn}
-use Rattle.sheets.proofs.Walk.{lines-first}
+use Rattle.sheets.specs.Sheet.{says_of, said_by, lines_in}
+use Rattle.sheets.proofs.Walk.{lines_first}
 use Rattle.file_canonical.specs.declared.Tally.{Tally}
 use Rattle.file_canonical.specs.declared.Lines.{Lines}
-use Rattle.file_canonical.specs.Counting.{begun, tallyLine, tallySaid, tallied, within, linesOfSheet, Under}
+use Rattle.file_canonical.specs.Counting.{begun, tally_line, tally_said, tallied, within, lines_of_sheet, Under}
 use Rattle.file_canonical.proofs.Tallies.{tally-line}
 use Rattle.write_lines.proofs.Lines.{lines-piece, lines_none}
 
 -- f is the count
-module _ (f : Lines) (t : List ℕ) (x : Tally) (at n : ℕ) (inv : within (tallied x (linesIn (drop at t))) ≡ f) (all : n ≡ length t) where
+module _ (f : Lines) (t : List ℕ) (x : Tally) (at n : ℕ) (inv : within (tallied x (lines_in (drop at t))) ≡ f) (all : n ≡ length t) where
   pub count-end : n ≤ at → within x ≡ f
   count-end h = rw (lines_none t at (omega arith)) at inv
 
@@ -22,14 +22,14 @@ module _ (f : Lines) (t : List ℕ) (x : Tally) (at n : ℕ) (inv : within (tall
         let q = lines-piece t at (omega arith) (omega arith) in
         rw q.1 at inv
 
-    pub count-on : (e ≡ n → ⊥) → (y : Said) (z : Tally) → y ≡ says_of (columns t at e) → z ≡ tallySaid x y → within (tallied z (linesIn (drop (e + 1) t))) ≡ f
+    pub count-on : (e ≡ n → ⊥) → (y : Said) (z : Tally) → y ≡ says_of (columns t at e) → z ≡ tally_said x y → within (tallied z (lines_in (drop (e + 1) t))) ≡ f
     count-on h y z d p =
-        let i : within (tallied (tallyLine x (saidBy (columns t at e))) (linesIn (drop (e + 1) t))) ≡ f = rw (lines-first t at e lo (omega arith) en) at inv in
-        ap (λ (k : Tally). within (tallied k (linesIn (drop (e + 1) t)))) (p ∙ tally-line x (columns t at e) y d) ∙ i
+        let i : within (tallied (tally_line x (said_by (columns t at e))) (lines_in (drop (e + 1) t))) ≡ f = rw (lines_first t at e lo (omega arith) en) at inv in
+        ap (λ (k : Tally). within (tallied k (lines_in (drop (e + 1) t)))) (p ∙ tally-line x (columns t at e) y d) ∙ i
 
-pub count-start : (t : List ℕ) → within (tallied begun (linesIn (drop 0 t))) ≡ linesOfSheet (linesIn t)
-unfolding linesOfSheet
+pub count-start : (t : List ℕ) → within (tallied begun (lines_in (drop 0 t))) ≡ lines_of_sheet (lines_in t)
+unfolding lines_of_sheet
 count-start t = refl
 
-pub begun-under : Under (2 ^ 36) begun
-begun-under = record { s = omega arith; global = omega arith; d = omega arith; p = omega arith; at = omega arith }
+pub begun_under : Under (2 ^ 36) begun
+begun_under = record { s = omega arith; global = omega arith; d = omega arith; p = omega arith; at = omega arith }

@@ -2,13 +2,13 @@
 // and how many lines the file has (19).
 ghost use Rattle.std.specs.Prelude.{◌≡◌, ◌^◌, ◌≤◌, length};
 ghost use Rattle.columns.specs.Laid.{laid};
-ghost use Rattle.sheets.specs.Sheet.{linesIn};
-ghost use Rattle.sheets.specs.Order.{verdictOf};
-ghost use Rattle.sheets_rows.specs.Rows.{linesAt};
-ghost use Rattle.file_canonical.specs.Counting.{within, linesOfSheet, Under};
-ghost use Rattle.write_lines.specs.Classes.{classesIn};
-ghost use Rattle.write_lines.specs.Passes.{rulesPass};
-ghost use Rattle.write_check.specs.Answers.{walkedSo, IfGood};
+ghost use Rattle.sheets.specs.Sheet.{lines_in};
+ghost use Rattle.sheets.specs.Order.{verdict_of};
+ghost use Rattle.sheets_rows.specs.Rows.{lines_at};
+ghost use Rattle.file_canonical.specs.Counting.{within, lines_of_sheet, Under};
+ghost use Rattle.write_lines.specs.Classes.{classes_in};
+ghost use Rattle.write_lines.specs.Passes.{rules_pass};
+ghost use Rattle.write_check.specs.Answers.{walked_so, IfGood};
 ghost use Rattle.write_check.specs.Ahead.{Ahead};
 
 use crate::{Past, SheetWalked};
@@ -49,7 +49,7 @@ fn past_values(t: &[u8], from: usize, begun: SheetState, p: usize) -> Past
     requires line_le_from { begun.line ≤ from }
     requires entries_le_line { begun.entries ≤ begun.line }
     requires p_bound { p ≤ 2 ^ 38 }
-    ensures ahead { Ahead begun p (linesAt t.now from) result.state result.at (linesAt t.now result.next) }
+    ensures ahead { Ahead begun p (lines_at t.now from) result.state result.at (lines_at t.now result.next) }
     ensures from_le_next { (from ≤ result.next) × (result.next ≤ length t.now) × (result.at ≤ 2 ^ 38) }
     ensures line_le_next { (result.state.line ≤ result.next) × (result.state.entries ≤ result.state.line) }
 {
@@ -87,7 +87,7 @@ fn past_values(t: &[u8], from: usize, begun: SheetState, p: usize) -> Past
 
 // What the walk tells behind the last line that it read.
 fn told(verdict: SheetVerdict, pass: SheetPass, tally: Tally) -> SheetWalked
-    ensures { result ≡ walkedSo verdict pass tally }
+    ensures { result ≡ walked_so verdict pass tally }
 {
     SheetWalked {
         verdict,
@@ -98,11 +98,11 @@ fn told(verdict: SheetVerdict, pass: SheetPass, tally: Tally) -> SheetWalked
 
 // All lines; the classes of all entries are laid over the table. A sheet whose lines are wrong is not asked further.
 pub fn walk(classes: &mut [u8], t: &[u8]) -> SheetWalked
-    ensures verdict_value { result.verdict ≡ verdictOf t.now }
-    ensures if_good { IfGood result.verdict (result.pass ≡ rulesPass t.now) }
+    ensures verdict_value { result.verdict ≡ verdict_of t.now }
+    ensures if_good { IfGood result.verdict (result.pass ≡ rules_pass t.now) }
     ensures if_good_2 { IfGood result.verdict
-        (classes.new ≡ laid classes.old 0 (classesIn (linesIn t.now))) }
-    ensures if_good_3 { IfGood result.verdict (within result.tally ≡ linesOfSheet (linesIn t.now)) }
+        (classes.new ≡ laid classes.old 0 (classes_in (lines_in t.now))) }
+    ensures if_good_3 { IfGood result.verdict (within result.tally ≡ lines_of_sheet (lines_in t.now)) }
     ensures under { Under (2 ^ 36) result.tally }
 {
     let n = t.len();

@@ -9,8 +9,8 @@ mod marks;
 
 ghost use Rattle.std.specs.Prelude.{◌≡◌};
 ghost use Rattle.write_lines.specs.Classes.{Tabled};
-ghost use Rattle.write_lines.specs.Passes.{rulesPass, sheetPass};
-ghost use Rattle.write_check.specs.Answers.{ruledOf};
+ghost use Rattle.write_lines.specs.Passes.{rules_pass, sheet_pass};
+ghost use Rattle.write_check.specs.Answers.{ruled_of};
 
 use columns::{Fault, SheetLine};
 use file_canonical::{Lines, Tally};
@@ -46,8 +46,8 @@ pub enum Ruled {
 // The passes behind 17 over a sheet of n entries, the first of which found this.
 fn passes(list: u64, classes: &[u8], n: usize, t: &[u8], first: SheetPass) -> SheetPass
     requires tabled { Tabled classes.now n t.now }
-    requires first_value { first ≡ rulesPass t.now }
-    ensures { result ≡ sheetPass list t.now }
+    requires first_value { first ≡ rules_pass t.now }
+    ensures { result ≡ sheet_pass list t.now }
 {
     match first {
         SheetPass::Refused { fault, line } => SheetPass::Refused { fault, line },
@@ -57,7 +57,7 @@ fn passes(list: u64, classes: &[u8], n: usize, t: &[u8], first: SheetPass) -> Sh
 
 // All checks of a sheet under a list.
 pub fn check(list: u64, t: &[u8]) -> Ruled
-    ensures { result ≡ ruledOf list t.now }
+    ensures { result ≡ ruled_of list t.now }
 {
     if !layouts_lists::is_list(list) {
         return Ruled::Refused {

@@ -2,8 +2,8 @@
 // of its bytes the number of the first entry that starts there or behind, by which `write_lines` finds an entry's line. It is a hint: what
 // is found counts by the number that it shows, so nothing has to be proved of what the table tells.
 ghost use Rattle.std.specs.Prelude.{◌≡◌, ◌≤◌, length};
-ghost use Rattle.write_lines.specs.Classes.{tableSize};
-ghost use Rattle.write_check.specs.Marked.{addedBy, Marked};
+ghost use Rattle.write_lines.specs.Classes.{table_size};
+ghost use Rattle.write_check.specs.Marked.{added_by, Marked};
 
 use columns::DirectoryNumber;
 use sheets_read::end_of;
@@ -11,8 +11,8 @@ use write_lines::table::{PARTS, TABLE};
 
 // Tells `number` of part q, in four bytes.
 fn tell(table: &mut [u8], q: usize, number: DirectoryNumber)
-    requires { length table.old ≡ tableSize }
-    ensures { length table.new ≡ tableSize }
+    requires { length table.old ≡ table_size }
+    ensures { length table.new ≡ table_size }
 {
     if PARTS <= q {
         return;
@@ -26,7 +26,7 @@ fn tell(table: &mut [u8], q: usize, number: DirectoryNumber)
 
 // What a line that begins so adds to the next entry's number.
 fn entry_adds(b: u8) -> u32
-    ensures { result ≡ addedBy b }
+    ensures { result ≡ added_by b }
 {
     if b == b'E' {
         return 2;
@@ -49,8 +49,8 @@ fn entry_start(b: u8, at: usize) -> usize
 
 // All parts in which, or behind which, an entry starts. A turn tells of one part, or goes on a line.
 fn tell_parts(table: &mut [u8], t: &[u8])
-    requires { length table.old ≡ tableSize }
-    ensures { length table.new ≡ tableSize }
+    requires { length table.old ≡ table_size }
+    ensures { length table.new ≡ table_size }
 {
     let size = t.len();
     let part = size / PARTS + 1;
@@ -80,7 +80,7 @@ fn tell_parts(table: &mut [u8], t: &[u8])
 
 // The table for a sheet of n entries.
 pub fn mark(table: &mut [u8], n: usize, t: &[u8])
-    requires { length table.old ≡ tableSize }
+    requires { length table.old ≡ table_size }
     ensures { Marked n table.old table.new }
 {
     if n <= TABLE {

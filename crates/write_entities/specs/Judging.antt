@@ -12,15 +12,15 @@ use Rattle.model.specs.Write.{equal}
 use Rattle.write_entities.specs.declared.Judged.{Judged}
 use Rattle.write_entities.specs.declared.Values.{Values}
 use Rattle.write_lines.specs.declared.SheetPass.{SheetPass}
-use Rattle.write_lines.specs.Lines.{passOf}
+use Rattle.write_lines.specs.Lines.{pass_of}
 
 -- whether a mark is right too
-abbrev pub rightToo : Bool → Bool → Stepped → Bool
-rightToo right reference g = right && equal reference (mark g)
+abbrev pub right_too : Bool → Bool → Stepped → Bool
+right_too right reference g = right && equal reference (mark g)
 
 -- a state, and whether all marks were right
-abbrev pub judgedSo : Stepped → Bool → Judged
-judgedSo g right = record { state = g; right = right }
+abbrev pub judged_so : Stepped → Bool → Judged
+judged_so g right = record { state = g; right = right }
 
 -- the same behind values, with the place behind them and how many they are
 abbrev pub values_of : Stepped → Bool → ℕ → ℕ → Values
@@ -28,14 +28,14 @@ values_of g right next lines = record { state = g; right = right; next = next; l
 
 -- behind the last value
 unfoldable pub judged : List ℕ → Stepped → Bool → List (Bool × Item) → Judged
-judged types g right [] = judgedSo g right
-judged types g right (v ∷ vs) = judged types (feed types g v.1) (rightToo right v.0 g) vs
+judged types g right [] = judged_so g right
+judged types g right (v ∷ vs) = judged types (feed types g v.1) (right_too right v.0 g) vs
 
 -- the verdict, where the list knows the entity
-abbrev pub verdictIf : Bool → Stepped → LayoutVerdict
-verdictIf inside g = cond inside (ended g) GoodVerdict
+abbrev pub verdict_if : Bool → Stepped → LayoutVerdict
+verdict_if inside g = cond inside (ended g) GoodVerdict
 
 -- 14, 15 by the verdict, then 18 by the marks; the entry line's own mark comes first
 unfoldable pub answer_of : Bool → Bool → Judged → ℕ → SheetPass
 answer_of inside marked j place =
-    passOf (fault (verdictIf inside j.state) place then λ _. demand (equal marked inside && j.right) Mark place)
+    pass_of (fault (verdict_if inside j.state) place then λ _. demand (equal marked inside && j.right) Mark place)

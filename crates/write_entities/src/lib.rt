@@ -4,13 +4,13 @@ mod naming;
 
 ghost use Rattle.std.specs.Prelude.{◌≡◌, true, ◌+◌, ◌≤◌, length};
 ghost use Rattle.layouts.specs.Walk.{stepped};
-ghost use Rattle.sheets_rows.specs.Rows.{linesAt, valuesFirst};
+ghost use Rattle.sheets_rows.specs.Rows.{lines_at, values_first};
 ghost use Rattle.model.specs.Write.{equal};
 ghost use Rattle.write_lines.specs.Lines.{or_else, Skipped};
-ghost use Rattle.write_lines.specs.Heads.{saidEntity};
-ghost use Rattle.write_lines.specs.Classes.{sheetTypes, Tabled};
-ghost use Rattle.write_entities.specs.Judging.{rightToo, judgedSo, judged, values_of, verdictIf, answer_of};
-ghost use Rattle.write_lines.specs.Passes.{referencesFrom, referencesPass, entitiesPass};
+ghost use Rattle.write_lines.specs.Heads.{said_entity};
+ghost use Rattle.write_lines.specs.Classes.{sheet_types, Tabled};
+ghost use Rattle.write_entities.specs.Judging.{right_too, judged_so, judged, values_of, verdict_if, answer_of};
+ghost use Rattle.write_lines.specs.Passes.{references_from, references_pass, entities_pass};
 
 use crate::naming::named_for;
 use columns::{Fault, SheetLine};
@@ -51,7 +51,7 @@ pub struct Asked {
 // The layout behind this value.
 fn step_at(classes: &[u8], n: usize, t: &[u8], g: Stepped, v: Value) -> Stepped
     requires { Tabled classes.now n t.now }
-    ensures { result ≡ stepped (sheetTypes t.now) g v }
+    ensures { result ≡ stepped (sheet_types t.now) g v }
 {
     match g {
         Stepped::Go(s) => {
@@ -73,7 +73,7 @@ fn same(a: bool, b: bool) -> bool
 
 // Whether this mark is right, as all before it.
 fn right_too(right: bool, reference: bool, g: Stepped) -> bool
-    ensures { result ≡ rightToo right reference g }
+    ensures { result ≡ right_too right reference g }
 {
     let mark = mark_of(g);
     let too = same(reference, mark);
@@ -99,8 +99,8 @@ fn values_of(state: Stepped, right: bool, next: usize, lines: usize) -> Values
 fn judge(classes: &[u8], n: usize, t: &[u8], from: usize, begun: Stepped) -> Values
     requires tabled { Tabled classes.now n t.now }
     requires from_in_bounds { from ≤ length t.now }
-    ensures right_value { judgedSo result.state result.right
-        ≡ judged (sheetTypes t.now) begun true (valuesFirst (linesAt t.now from)) }
+    ensures right_value { judged_so result.state result.right
+        ≡ judged (sheet_types t.now) begun true (values_first (lines_at t.now from)) }
     ensures skipped { Skipped t.now from result.next result.lines }
     ensures lines_bound { (from + result.lines ≤ result.next) × (result.next ≤ length t.now) }
 {
@@ -135,7 +135,7 @@ fn judge(classes: &[u8], n: usize, t: &[u8], from: usize, begun: Stepped) -> Val
 
 // The verdict of a layout, where the list knows the entity.
 fn verdict_if(inside: bool, g: Stepped) -> LayoutVerdict
-    ensures { result ≡ verdictIf inside g }
+    ensures { result ≡ verdict_if inside g }
 {
     if !inside {
         return LayoutVerdict::Good;
@@ -189,7 +189,7 @@ fn entity_of(
     requires tabled { Tabled classes.now n t.now }
     requires from_in_bounds { from ≤ length t.now }
     ensures found_value { result.found
-        ≡ saidEntity list (sheetTypes t.now) line.0 (valuesFirst (linesAt t.now from)) said }
+        ≡ said_entity list (sheet_types t.now) line.0 (values_first (lines_at t.now from)) said }
     ensures skipped { Skipped t.now from result.next result.lines }
     ensures lines_bound { (from + result.lines ≤ result.next) × (result.next ≤ length t.now) }
 {
@@ -233,7 +233,7 @@ fn refused_later(
     requires tabled { Tabled classes.now n t.now }
     requires from_in_bounds { from ≤ length t.now }
     requires place_bound { place.0 ≤ from + 1 }
-    ensures { result ≡ or_else (referencesFrom (sheetTypes t.now) t.now place.0 from) found }
+    ensures { result ≡ or_else (references_from (sheet_types t.now) t.now place.0 from) found }
 {
     let named = references(classes, n, t, from, place);
     match named {
@@ -245,7 +245,7 @@ fn refused_later(
 // All 10, then each entity 14, 15, 18, of a sheet of n entries. Behind a refused entity only 10 is left to ask.
 pub fn named_rules(list: u64, classes: &[u8], n: usize, t: &[u8]) -> SheetPass
     requires { Tabled classes.now n t.now }
-    ensures { result ≡ or_else (referencesPass t.now) (entitiesPass list t.now) }
+    ensures { result ≡ or_else (references_pass t.now) (entities_pass list t.now) }
 {
     let size = t.len();
     let mut at = 0;

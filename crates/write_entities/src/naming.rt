@@ -3,8 +3,8 @@
 ghost use Rattle.std.specs.Prelude.{◌≡◌, ◌||◌, leb};
 ghost use Rattle.layouts.specs.Machine.{kind_at, step};
 ghost use Rattle.layouts.specs.Named.{named};
-ghost use Rattle.write_lines.specs.Classes.{sheetTypes, tableSize, Tabled};
-ghost use Rattle.write_entities.specs.Typed.{asksType, someNamed};
+ghost use Rattle.write_lines.specs.Classes.{sheet_types, table_size, Tabled};
+ghost use Rattle.write_entities.specs.Typed.{asks_type, some_named};
 
 use columns::DirectoryNumber;
 use layouts::{Kind, LayoutState};
@@ -16,7 +16,7 @@ use write_lines::table::{TABLE, class_at, some_at};
 // The class of what a value names: only a whole number without a sign names an entry.
 fn named_at(classes: &[u8], n: usize, t: &[u8], v: Value) -> u8
     requires { Tabled classes.now n t.now }
-    ensures { result ≡ named (sheetTypes t.now) v }
+    ensures { result ≡ named (sheet_types t.now) v }
 {
     match v {
         Value::Whole { neg, size } => {
@@ -31,7 +31,7 @@ fn named_at(classes: &[u8], n: usize, t: &[u8], v: Value) -> u8
 
 // The same where no type is asked for.
 fn some_named(n: usize, v: Value) -> u8
-    ensures { result ≡ someNamed n v }
+    ensures { result ≡ some_named n v }
 {
     match v {
         Value::Whole { neg, size } => {
@@ -46,7 +46,7 @@ fn some_named(n: usize, v: Value) -> u8
 
 // Whether a place asks for a type.
 fn asks_type(k: Kind) -> bool
-    ensures { result ≡ asksType k }
+    ensures { result ≡ asks_type k }
 {
     match k {
         Kind::P { want } => ANY < want,
@@ -58,7 +58,7 @@ fn asks_type(k: Kind) -> bool
 
 // Whether the class of what is named is to be looked up: in a table of classes that costs nothing.
 fn is_looked_up(n: usize, s: LayoutState) -> bool
-    ensures { result ≡ leb n tableSize || asksType (kind_at s) }
+    ensures { result ≡ leb n table_size || asks_type (kind_at s) }
 {
     if n <= TABLE {
         return true;
@@ -71,7 +71,7 @@ fn is_looked_up(n: usize, s: LayoutState) -> bool
 // The class of what a value names, as far as its place asks for it.
 pub fn named_for(classes: &[u8], n: usize, t: &[u8], s: LayoutState, v: Value) -> u8
     requires { Tabled classes.now n t.now }
-    ensures { step s v result ≡ step s v (named (sheetTypes t.now) v) }
+    ensures { step s v result ≡ step s v (named (sheet_types t.now) v) }
 {
     if is_looked_up(n, s) {
         return named_at(classes, n, t, v);

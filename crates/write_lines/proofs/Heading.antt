@@ -14,43 +14,43 @@ use Rattle.columns.proofs.Columns.{columns-none, byte_of}
 use Rattle.columns.proofs.Tests.{cond_cases}
 use Rattle.values.specs.declared.Strict.{Strict}
 use Rattle.values.specs.declared.Strict.TheVariants.{Is, Not}
-use Rattle.values.specs.Strict.{strictOf}
+use Rattle.values.specs.Strict.{strict_of}
 use Rattle.records.proofs.Globals.{fits-seen}
 use Rattle.sheets.specs.declared.Said.{Said}
 use Rattle.sheets.specs.declared.Said.TheVariants.{Start, Global, Entry, Value as Given, Last, Nothing}
 use Rattle.sheets.specs.Plain.{plain_of, is_plain}
 use Rattle.sheets.specs.Line.{entry_of}
-use Rattle.sheets.specs.Sheet.{Line, isStart, startLine, globalLine, entryLineOf, value_of, lastLine, byMark, says_of, lineFrom, saidBy}
-use Rattle.model.specs.Write.{globalRule, rowRules, rowReferences, rowEntityRules}
-use Rattle.sheets_rows.specs.Rows.{valuesFirst}
+use Rattle.sheets.specs.Sheet.{Line, is_start, start_line, global_line, entry_line_of, value_of, last_line, by_mark, says_of, line_from, said_by}
+use Rattle.model.specs.Write.{global_rule, row_rules, row_references, row_entity_rules}
+use Rattle.sheets_rows.specs.Rows.{values_first}
 use Rattle.write_lines.specs.declared.SheetPass.{SheetPass}
 use Rattle.write_lines.specs.declared.SheetPass.TheVariants.{Good}
-use Rattle.write_lines.specs.Lines.{passOf, noRule, lineCheck}
-use Rattle.write_lines.specs.Heads.{isHead, head_of, saidRule, saidReferences, saidEntity}
+use Rattle.write_lines.specs.Lines.{pass_of, no_rule, line_check}
+use Rattle.write_lines.specs.Heads.{is_head, head_of, said_rule, said_references, said_entity}
 
 -- ---- the first byte
 
 module _ (b : ℕ) where
-  pub head-e : b ≡ 69 → true ≡ isHead b
-  unfolding isHead
-  head-e e = rw e
+  pub head_e : b ≡ 69 → true ≡ is_head b
+  unfolding is_head
+  head_e e = rw e
 
-  pub head-u : b ≡ 85 → true ≡ isHead b
-  unfolding isHead
+  pub head-u : b ≡ 85 → true ≡ is_head b
+  unfolding is_head
   head-u e = rw e
 
-  pub head-g : (b ≡ 69 → ⊥) → (b ≡ 85 → ⊥) → eqb b 71 ≡ isHead b
-  unfolding isHead
+  pub head-g : (b ≡ 69 → ⊥) → (b ≡ 85 → ⊥) → eqb b 71 ≡ is_head b
+  unfolding is_head
   head-g h k = simp (ne_eqb b 69 h, ne_eqb b 85 k)
 
-pub ruleset bytes = (head-e, head-u, head-g)
+pub ruleset bytes = (head_e, head-u, head-g)
 
 module _ (t : List ℕ) (at end : ℕ) where
   pub head-none : end ≡ at → Nothing false ≡ head_of (columns t at end)
-  unfolding head_of isHead
+  unfolding head_of is_head
   head-none e = rw (e, columns-none t at)
 
-  module _ (lo : at ≤ end) (h : end ≡ at → ⊥) (b : Bool) (eb : b ≡ isHead (get_or t at 0)) where
+  module _ (lo : at ≤ end) (h : end ≡ at → ⊥) (b : Bool) (eb : b ≡ is_head (get_or t at 0)) where
     first : get_or (columns t at end) 0 0 ≡ get_or t at 0
     first =
         let z : at + 0 ≡ at = omega arith in
@@ -76,29 +76,29 @@ Quiet (Given reference v) = Unit {0}
 Quiet (Last n) = Unit {0}
 Quiet (Nothing b) = Unit {0}
 
-quiet-value : (reference : Bool) (s : Strict) → Quiet (value_of reference s)
-quiet-value reference (Is v) = tt
-quiet-value reference Not = tt
+quiet_value : (reference : Bool) (s : Strict) → Quiet (value_of reference s)
+quiet_value reference (Is v) = tt
+quiet_value reference Not = tt
 
-quiet-mark : (b : ℕ) (l t : List ℕ) → isHead b ≡ false → Quiet (byMark b l t)
-unfolding isHead byMark startLine lastLine
-quiet-mark b l t h = by (eqb b 69) (eqb b 85) (eqb b 71) h
+quiet_mark : (b : ℕ) (l t : List ℕ) → is_head b ≡ false → Quiet (by_mark b l t)
+unfolding is_head by_mark start_line last_line
+quiet_mark b l t h = by (eqb b 69) (eqb b 85) (eqb b 71) h
   where
     by : (x y z : Bool) → x || (y || z) ≡ false
-        → Quiet (cond (eqb b 83) (cond (isStart t) Start (Nothing false))
-        (cond z (globalLine t) (cond (x || y) (entryLineOf (entry_of l)) (cond (eqb b 82) (value_of true (strictOf t)) (cond (eqb b 86) (value_of false (strictOf t)) (cond (eqb b 90) (cond (is_plain t) (Last (plain_of t)) (Nothing false)) (Nothing false)))))))
+        → Quiet (cond (eqb b 83) (cond (is_start t) Start (Nothing false))
+        (cond z (global_line t) (cond (x || y) (entry_line_of (entry_of l)) (cond (eqb b 82) (value_of true (strict_of t)) (cond (eqb b 86) (value_of false (strict_of t)) (cond (eqb b 90) (cond (is_plain t) (Last (plain_of t)) (Nothing false)) (Nothing false)))))))
     by false false false e =
-        cond_cases Quiet (eqb b 83) _ _ (λ _. cond_cases Quiet (isStart t) Start (Nothing false) (λ _. tt) (λ _. tt))
-        (λ _. cond_cases Quiet (eqb b 82) _ _ (λ _. quiet-value true (strictOf t))
-        (λ _. cond_cases Quiet (eqb b 86) _ _ (λ _. quiet-value false (strictOf t))
+        cond_cases Quiet (eqb b 83) _ _ (λ _. cond_cases Quiet (is_start t) Start (Nothing false) (λ _. tt) (λ _. tt))
+        (λ _. cond_cases Quiet (eqb b 82) _ _ (λ _. quiet_value true (strict_of t))
+        (λ _. cond_cases Quiet (eqb b 86) _ _ (λ _. quiet_value false (strict_of t))
         (λ _. cond_cases Quiet (eqb b 90) _ _ (λ _. cond_cases Quiet (is_plain t) (Last (plain_of t)) (Nothing false) (λ _. tt) (λ _. tt)) (λ _. tt))))
     by true y z e = let k : ◌≡◌ {A = ℕ} 0 1 = cc in absurd (omega arith)
     by false true z e = let k : ◌≡◌ {A = ℕ} 0 1 = cc in absurd (omega arith)
     by false false true e = let k : ◌≡◌ {A = ℕ} 0 1 = cc in absurd (omega arith)
 
-quiet_line : (l : List ℕ) → isHead (get_or l 0 0) ≡ false → Quiet (says_of l)
+quiet_line : (l : List ℕ) → is_head (get_or l 0 0) ≡ false → Quiet (says_of l)
 unfolding says_of
-quiet_line l h = cond_cases Quiet (eqb (get_or l 1 0) 9) _ _ (λ _. quiet-mark (get_or l 0 0) l (drop 2 l) h) (λ _. tt)
+quiet_line l h = cond_cases Quiet (eqb (get_or l 1 0) 9) _ _ (λ _. quiet_mark (get_or l 0 0) l (drop 2 l) h) (λ _. tt)
 
 -- ---- so a pass may leave it unread
 
@@ -106,30 +106,30 @@ quiet_line l h = cond_cases Quiet (eqb (get_or l 1 0) 9) _ _ (λ _. quiet-mark (
 module _ {A : Type 0} (tell : Said → A) (same : (x : Said) → Quiet x → tell x ≡ tell (Nothing false)) where
   pub head-tells : (l : List ℕ) → tell (head_of l) ≡ tell (says_of l)
   unfolding head_of
-  head-tells l = by (isHead (get_or l 0 0)) refl
+  head-tells l = by (is_head (get_or l 0 0)) refl
     where
-      by : (b : Bool) → isHead (get_or l 0 0) ≡ b → tell (cond b (says_of l) (Nothing false)) ≡ tell (says_of l)
+      by : (b : Bool) → is_head (get_or l 0 0) ≡ b → tell (cond b (says_of l) (Nothing false)) ≡ tell (says_of l)
       by true e = refl
       by false e = sym (same (says_of l) (quiet_line l e))
 
 -- ---- 8; 9, 13
 
-said-rule : (place : ℕ) (l : List ℕ) (ls : List Line) (x : Said) → saidRule place x ≡ lineCheck globalRule rowRules place (lineFrom l x) ls
-said-rule place l ls Start = refl
-said-rule place l ls (Global n at v) = ap (λ (b : Bool). passOf (demand b GlobalFault place)) (fits-seen (drop at l) n v)
-said-rule place l ls (Entry known n x) = refl
-said-rule place l ls (Given reference v) = refl
-said-rule place l ls (Last n) = refl
-said-rule place l ls (Nothing b) = refl
+said_rule_lem : (place : ℕ) (l : List ℕ) (ls : List Line) (x : Said) → said_rule place x ≡ line_check global_rule row_rules place (line_from l x) ls
+said_rule_lem place l ls Start = refl
+said_rule_lem place l ls (Global n at v) = ap (λ (b : Bool). pass_of (demand b GlobalFault place)) (fits-seen (drop at l) n v)
+said_rule_lem place l ls (Entry known n x) = refl
+said_rule_lem place l ls (Given reference v) = refl
+said_rule_lem place l ls (Last n) = refl
+said_rule_lem place l ls (Nothing b) = refl
 
-pub rule-said : (place : ℕ) (l : List ℕ) (ls : List Line) (x : Said) → x ≡ says_of l → saidRule place x ≡ lineCheck globalRule rowRules place (saidBy l) ls
-unfolding saidBy
-rule-said place l ls x ex = ap (saidRule place) ex ∙ said-rule place l ls (says_of l)
+pub rule_said : (place : ℕ) (l : List ℕ) (ls : List Line) (x : Said) → x ≡ says_of l → said_rule place x ≡ line_check global_rule row_rules place (said_by l) ls
+unfolding said_by
+rule_said place l ls x ex = ap (said_rule place) ex ∙ said_rule_lem place l ls (says_of l)
 
 -- ---- 10
 
 module _ (types : List ℕ) (place : ℕ) where
-  said-references : (l : List ℕ) (ls : List Line) (x : Said) → saidReferences types place x ≡ lineCheck noRule (rowReferences types) place (lineFrom l x) ls
+  said-references : (l : List ℕ) (ls : List Line) (x : Said) → said_references types place x ≡ line_check no_rule (row_references types) place (line_from l x) ls
   said-references l ls Start = refl
   said-references l ls (Global n at v) = refl
   said-references l ls (Entry known n x) = refl
@@ -137,22 +137,22 @@ module _ (types : List ℕ) (place : ℕ) where
   said-references l ls (Last n) = refl
   said-references l ls (Nothing b) = refl
 
-  quiet-references : (x : Said) → Quiet x → saidReferences types place x ≡ Good
-  quiet-references Start q = refl
-  quiet-references (Given reference v) q = refl
-  quiet-references (Last n) q = refl
-  quiet-references (Nothing b) q = refl
+  quiet_references : (x : Said) → Quiet x → said_references types place x ≡ Good
+  quiet_references Start q = refl
+  quiet_references (Given reference v) q = refl
+  quiet_references (Last n) q = refl
+  quiet_references (Nothing b) q = refl
 
-  pub references-line : (l : List ℕ) (ls : List Line) (x : Said) (r : SheetPass) → x ≡ head_of l → r ≡ saidReferences types place x
-      → r ≡ lineCheck noRule (rowReferences types) place (saidBy l) ls
-  unfolding saidBy
+  pub references-line : (l : List ℕ) (ls : List Line) (x : Said) (r : SheetPass) → x ≡ head_of l → r ≡ said_references types place x
+      → r ≡ line_check no_rule (row_references types) place (said_by l) ls
+  unfolding said_by
   references-line l ls x r ex er =
-      er ∙ ap (saidReferences types place) ex ∙ head-tells (saidReferences types place) quiet-references l ∙ said-references l ls (says_of l)
+      er ∙ ap (said_references types place) ex ∙ head-tells (said_references types place) quiet_references l ∙ said-references l ls (says_of l)
 
 -- ---- 14, 15, 18
 
 module _ (list : ℕ) (types : List ℕ) (place : ℕ) (ls : List Line) where
-  said-entity : (l : List ℕ) (x : Said) → saidEntity list types place (valuesFirst ls) x ≡ lineCheck noRule (rowEntityRules list types) place (lineFrom l x) ls
+  said-entity : (l : List ℕ) (x : Said) → said_entity list types place (values_first ls) x ≡ line_check no_rule (row_entity_rules list types) place (line_from l x) ls
   said-entity l Start = refl
   said-entity l (Global n at v) = refl
   said-entity l (Entry known n x) = refl
@@ -160,14 +160,14 @@ module _ (list : ℕ) (types : List ℕ) (place : ℕ) (ls : List Line) where
   said-entity l (Last n) = refl
   said-entity l (Nothing b) = refl
 
-  quiet-entity : (x : Said) → Quiet x → saidEntity list types place (valuesFirst ls) x ≡ Good
-  quiet-entity Start q = refl
-  quiet-entity (Given reference v) q = refl
-  quiet-entity (Last n) q = refl
-  quiet-entity (Nothing b) q = refl
+  quiet_entity : (x : Said) → Quiet x → said_entity list types place (values_first ls) x ≡ Good
+  quiet_entity Start q = refl
+  quiet_entity (Given reference v) q = refl
+  quiet_entity (Last n) q = refl
+  quiet_entity (Nothing b) q = refl
 
-  pub entity-line : (l : List ℕ) (x : Said) (r : SheetPass) → x ≡ head_of l → r ≡ saidEntity list types place (valuesFirst ls) x
-      → r ≡ lineCheck noRule (rowEntityRules list types) place (saidBy l) ls
-  unfolding saidBy
+  pub entity-line : (l : List ℕ) (x : Said) (r : SheetPass) → x ≡ head_of l → r ≡ said_entity list types place (values_first ls) x
+      → r ≡ line_check no_rule (row_entity_rules list types) place (said_by l) ls
+  unfolding said_by
   entity-line l x r ex er =
-      er ∙ ap (saidEntity list types place (valuesFirst ls)) ex ∙ head-tells (saidEntity list types place (valuesFirst ls)) quiet-entity l ∙ said-entity l (says_of l)
+      er ∙ ap (said_entity list types place (values_first ls)) ex ∙ head-tells (said_entity list types place (values_first ls)) quiet_entity l ∙ said-entity l (says_of l)

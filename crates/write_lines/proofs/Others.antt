@@ -14,28 +14,28 @@ use Rattle.sheets.specs.declared.Said.{Said}
 use Rattle.sheets.specs.declared.Said.TheVariants.{Start, Global, Entry, Value as Given, Last, Nothing}
 use Rattle.sheets.specs.contracts.Said.{the_type as saidType}
 use Rattle.write_lines.specs.declared.SheetPass.TheVariants.{Good}
-use Rattle.write_lines.specs.Heads.{saidRule, saidReferences, saidEntity}
-use Rattle.write_lines.specs.Classes.{saidClass}
+use Rattle.write_lines.specs.Heads.{said_rule, said_references, said_entity}
+use Rattle.write_lines.specs.Classes.{said_class}
 
 -- no G line and no entry line
-pub rule-other : (place : ℕ) (x : Said) → OneOf (0 ∷ 3 ∷ 4 ∷ 5 ∷ []) (tag_of saidType x) → Good ≡ saidRule place x
-rule-other place Start h = refl
-rule-other place (Global n at v) h = absurd (miss (0 ∷ 3 ∷ 4 ∷ 5 ∷ []) 1 tt h)
-rule-other place (Entry known n fields) h = absurd (miss (0 ∷ 3 ∷ 4 ∷ 5 ∷ []) 2 tt h)
-rule-other place (Given reference v) h = refl
-rule-other place (Last n) h = refl
-rule-other place (Nothing b) h = refl
+pub rule_other : (place : ℕ) (x : Said) → OneOf (0 ∷ 3 ∷ 4 ∷ 5 ∷ []) (tag_of saidType x) → Good ≡ said_rule place x
+rule_other place Start h = refl
+rule_other place (Global n at v) h = absurd (miss (0 ∷ 3 ∷ 4 ∷ 5 ∷ []) 1 tt h)
+rule_other place (Entry known n fields) h = absurd (miss (0 ∷ 3 ∷ 4 ∷ 5 ∷ []) 2 tt h)
+rule_other place (Given reference v) h = refl
+rule_other place (Last n) h = refl
+rule_other place (Nothing b) h = refl
 
 -- no entry line
-pub class-other : (x : Said) → OneOf (0 ∷ 1 ∷ 3 ∷ 4 ∷ 5 ∷ []) (tag_of saidType x) → 0 ≡ saidClass x
-class-other Start h = refl
-class-other (Global n at v) h = refl
-class-other (Entry known n fields) h = absurd (miss (0 ∷ 1 ∷ 3 ∷ 4 ∷ 5 ∷ []) 2 tt h)
-class-other (Given reference v) h = refl
-class-other (Last n) h = refl
-class-other (Nothing b) h = refl
+pub class_other : (x : Said) → OneOf (0 ∷ 1 ∷ 3 ∷ 4 ∷ 5 ∷ []) (tag_of saidType x) → 0 ≡ said_class x
+class_other Start h = refl
+class_other (Global n at v) h = refl
+class_other (Entry known n fields) h = absurd (miss (0 ∷ 1 ∷ 3 ∷ 4 ∷ 5 ∷ []) 2 tt h)
+class_other (Given reference v) h = refl
+class_other (Last n) h = refl
+class_other (Nothing b) h = refl
 
-pub references-other : (types : List ℕ) (place : ℕ) (x : Said) → OneOf (0 ∷ 1 ∷ 3 ∷ 4 ∷ 5 ∷ []) (tag_of saidType x) → Good ≡ saidReferences types place x
+pub references-other : (types : List ℕ) (place : ℕ) (x : Said) → OneOf (0 ∷ 1 ∷ 3 ∷ 4 ∷ 5 ∷ []) (tag_of saidType x) → Good ≡ said_references types place x
 references-other types place Start h = refl
 references-other types place (Global n at v) h = refl
 references-other types place (Entry known n fields) h = absurd (miss (0 ∷ 1 ∷ 3 ∷ 4 ∷ 5 ∷ []) 2 tt h)
@@ -44,7 +44,7 @@ references-other types place (Last n) h = refl
 references-other types place (Nothing b) h = refl
 
 pub entity-other : (list : ℕ) (types : List ℕ) (place : ℕ) (vs : List (Bool × Item)) (x : Said) → OneOf (0 ∷ 1 ∷ 3 ∷ 4 ∷ 5 ∷ []) (tag_of saidType x)
-    → Good ≡ saidEntity list types place vs x
+    → Good ≡ said_entity list types place vs x
 entity-other list types place vs Start h = refl
 entity-other list types place vs (Global n at v) h = refl
 entity-other list types place vs (Entry known n fields) h = absurd (miss (0 ∷ 1 ∷ 3 ∷ 4 ∷ 5 ∷ []) 2 tt h)

@@ -1,36 +1,36 @@
 -- The code's form: the passes over a sheet behind 17, as writing's order has them.
 use Rattle.std.specs.Prelude.{List, ℕ}
-use Rattle.sheets.specs.Sheet.{linesIn}
-use Rattle.sheets_rows.specs.Rows.{linesAt}
-use Rattle.model.specs.Write.{globalRule, rowRules, rowReferences, rowEntityRules}
+use Rattle.sheets.specs.Sheet.{lines_in}
+use Rattle.sheets_rows.specs.Rows.{lines_at}
+use Rattle.model.specs.Write.{global_rule, row_rules, row_references, row_entity_rules}
 use Rattle.write_lines.specs.declared.SheetPass.{SheetPass}
-use Rattle.write_lines.specs.Lines.{or_else, noRule, linesPass}
-use Rattle.write_lines.specs.Classes.{sheetTypes}
+use Rattle.write_lines.specs.Lines.{or_else, no_rule, lines_pass}
+use Rattle.write_lines.specs.Classes.{sheet_types}
 
 -- ---- from a place of the sheet on, where the line has this number
 
 -- 10
-abbrev pub referencesFrom : List ℕ → List ℕ → ℕ → ℕ → SheetPass
-referencesFrom types t place at = linesPass noRule (rowReferences types) place (linesAt t at)
+abbrev pub references_from : List ℕ → List ℕ → ℕ → ℕ → SheetPass
+references_from types t place at = lines_pass no_rule (row_references types) place (lines_at t at)
 
 -- 14, 15, 18
-abbrev pub entitiesFrom : ℕ → List ℕ → List ℕ → ℕ → ℕ → SheetPass
-entitiesFrom list types t place at = linesPass noRule (rowEntityRules list types) place (linesAt t at)
+abbrev pub entities_from : ℕ → List ℕ → List ℕ → ℕ → ℕ → SheetPass
+entities_from list types t place at = lines_pass no_rule (row_entity_rules list types) place (lines_at t at)
 
 -- ---- of all lines
 
 -- 8; each entry 9, 13
-unfoldable pub rulesPass : List ℕ → SheetPass
-rulesPass t = linesPass globalRule rowRules 1 (linesIn t)
+unfoldable pub rules_pass : List ℕ → SheetPass
+rules_pass t = lines_pass global_rule row_rules 1 (lines_in t)
 
 -- all 10
-unfoldable pub referencesPass : List ℕ → SheetPass
-referencesPass t = linesPass noRule (rowReferences (sheetTypes t)) 1 (linesIn t)
+unfoldable pub references_pass : List ℕ → SheetPass
+references_pass t = lines_pass no_rule (row_references (sheet_types t)) 1 (lines_in t)
 
 -- each entry 14, 15, 18
-unfoldable pub entitiesPass : ℕ → List ℕ → SheetPass
-entitiesPass list t = linesPass noRule (rowEntityRules list (sheetTypes t)) 1 (linesIn t)
+unfoldable pub entities_pass : ℕ → List ℕ → SheetPass
+entities_pass list t = lines_pass no_rule (row_entity_rules list (sheet_types t)) 1 (lines_in t)
 
 -- the passes behind 17
-unfoldable pub sheetPass : ℕ → List ℕ → SheetPass
-sheetPass list t = or_else (rulesPass t) (or_else (referencesPass t) (entitiesPass list t))
+unfoldable pub sheet_pass : ℕ → List ℕ → SheetPass
+sheet_pass list t = or_else (rules_pass t) (or_else (references_pass t) (entities_pass list t))

@@ -7,8 +7,8 @@
 // then left is halved down to 256 bytes, and these are walked over. What a look goes over to the next line is never gone over again, so
 // that a look-up costs at most the bytes of one part and some looks more than its length can be halved, whatever the entries' lengths are.
 ghost use Rattle.std.specs.Prelude.{◌≡◌, ◌+◌, ◌-◌, ◌*◌, ◌^◌, ◌≤◌, ◌<◌, length};
-ghost use Rattle.write_lines.specs.Classes.{tableSize, Tabled};
-ghost use Rattle.write_lines.specs.Shown.{beginsEntry, EntryAt, plainAt, plainClass, Shown};
+ghost use Rattle.write_lines.specs.Classes.{table_size, Tabled};
+ghost use Rattle.write_lines.specs.Shown.{begins_entry, EntryAt, plain_at, plain_class, Shown};
 
 use crate::table::PARTS;
 use columns::format::MOST_INTEGER_WIDE;
@@ -19,7 +19,7 @@ use sheets_numbers::{UNREAD, find, size_at};
 // What the table tells of part q, in four bytes.
 fn told(table: &[u8], q: usize) -> DirectoryNumber
     requires q_bound { q < 16666 }
-    requires table_len { length table.now ≡ tableSize }
+    requires table_len { length table.now ≡ table_size }
 {
     let i = 4 * q;
     let low = byte_u32(table[i]) + 256 * byte_u32(table[i + 1]);
@@ -29,7 +29,7 @@ fn told(table: &[u8], q: usize) -> DirectoryNumber
 
 // The last part before which no entry with a number above this one starts.
 fn part_of(table: &[u8], number: DirectoryNumber) -> usize
-    requires { length table.now ≡ tableSize }
+    requires { length table.now ≡ table_size }
     ensures { result < 16665 }
 {
     let mut low = 0;
@@ -48,7 +48,7 @@ fn part_of(table: &[u8], number: DirectoryNumber) -> usize
 
 // Whether a line that begins with b behind this byte is an entry's.
 fn begins_entry(before: u8, b: u8) -> bool
-    ensures { result ≡ beginsEntry before b }
+    ensures { result ≡ begins_entry before b }
 {
     if b == b'E' {
         return before == b'\n';
@@ -251,7 +251,7 @@ fn part_end(from: usize, part: usize, size: usize) -> usize
 
 // Where the table leads for this number.
 fn seek(table: &[u8], t: &[u8], number: DirectoryNumber) -> usize
-    requires table_len { length table.now ≡ tableSize }
+    requires table_len { length table.now ≡ table_size }
     requires in_bounds { 1 ≤ length t.now }
     ensures { (1 ≤ result) × (result ≤ length t.now) }
 {
@@ -271,7 +271,7 @@ fn seek(table: &[u8], t: &[u8], number: DirectoryNumber) -> usize
 // The class of the entry whose type stands from `at` on, if that has no sign: no rule lets one pass that has.
 fn class_typed(t: &[u8], at: usize) -> u8
     requires { at ≤ length t.now }
-    ensures { result ≡ plainClass (plainAt t.now at) }
+    ensures { result ≡ plain_class (plain_at t.now at) }
 {
     let tab = find(t, b'\t', at, t.len());
     let typ = size_at(t, UNREAD, at, tab);

@@ -1,14 +1,14 @@
 // The lines that a pass asks: G lines and entry lines. The others are not read.
 ghost use Rattle.std.specs.Prelude.{◌≡◌, ◌≤◌, length};
 ghost use Rattle.columns.specs.Columns.{columns};
-ghost use Rattle.write_lines.specs.Heads.{isHead, head_of};
+ghost use Rattle.write_lines.specs.Heads.{is_head, head_of};
 
 use sheets::Said;
 use sheets_read::line_at;
 
 // E, U or G.
 fn is_head(b: u8) -> bool
-    ensures { result ≡ isHead b }
+    ensures { result ≡ is_head b }
 {
     if b == b'E' {
         return true;

@@ -1,10 +1,10 @@
 // What the entries of a sheet name: an entry of it, of the type wanted (10).
 ghost use Rattle.std.specs.Prelude.{◌≡◌, ◌+◌, ◌≤◌, length};
 ghost use Rattle.directory.specs.Rules.{all_fit, references};
-ghost use Rattle.directory.specs.Asking.{asksOk};
-ghost use Rattle.write_lines.specs.Heads.{saidReferences};
-ghost use Rattle.write_lines.specs.Classes.{sheetTypes, Tabled};
-ghost use Rattle.write_lines.specs.Passes.{referencesFrom};
+ghost use Rattle.directory.specs.Asking.{asks_ok};
+ghost use Rattle.write_lines.specs.Heads.{said_references};
+ghost use Rattle.write_lines.specs.Classes.{sheet_types, Tabled};
+ghost use Rattle.write_lines.specs.Passes.{references_from};
 
 use crate::SheetPass;
 use crate::heads::head_at;
@@ -21,7 +21,7 @@ const REFERENCES: usize = 7;
 // Whether what is asked, if it is, names such an entry.
 fn asks_ok(classes: &[u8], n: usize, t: &[u8], w: Wanted) -> bool
     requires { Tabled classes.now n t.now }
-    ensures { result ≡ asksOk (sheetTypes t.now) w }
+    ensures { result ≡ asks_ok (sheet_types t.now) w }
 {
     if !w.asked {
         return true;
@@ -37,7 +37,7 @@ fn asks_ok(classes: &[u8], n: usize, t: &[u8], w: Wanted) -> bool
 // Whether all references of an entry do.
 fn all_ask_ok(classes: &[u8], n: usize, t: &[u8], e: Entry) -> bool
     requires { Tabled classes.now n t.now }
-    ensures { result ≡ all_fit (sheetTypes t.now) (references e) }
+    ensures { result ≡ all_fit (sheet_types t.now) (references e) }
 {
     let mut j = 0;
     while j < REFERENCES {
@@ -53,7 +53,7 @@ fn all_ask_ok(classes: &[u8], n: usize, t: &[u8], e: Entry) -> bool
 // What a line says, at its place.
 pub fn reference_of(classes: &[u8], n: usize, t: &[u8], said: Said, line: SheetLine) -> SheetPass
     requires { Tabled classes.now n t.now }
-    ensures { result ≡ saidReferences (sheetTypes t.now) line.0 said }
+    ensures { result ≡ said_references (sheet_types t.now) line.0 said }
 {
     let Said::Entry { fields, .. } = said else {
         return SheetPass::Good;
@@ -73,7 +73,7 @@ pub fn references(classes: &[u8], n: usize, t: &[u8], from: usize, first: SheetL
     requires tabled { Tabled classes.now n t.now }
     requires from_in_bounds { from ≤ length t.now }
     requires first_bound { first.0 ≤ from + 1 }
-    ensures { result ≡ referencesFrom (sheetTypes t.now) t.now first.0 from }
+    ensures { result ≡ references_from (sheet_types t.now) t.now first.0 from }
 {
     let size = t.len();
     let mut at = from;

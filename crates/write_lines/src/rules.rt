@@ -1,7 +1,7 @@
 // What lines are asked by themselves: 8 of a G line, 9 and 13 of an entry line. G lines stand before entries, so one walk asks them all.
 ghost use Rattle.std.specs.Prelude.{◌≡◌};
 ghost use Rattle.write_lines.specs.Lines.{or_else};
-ghost use Rattle.write_lines.specs.Heads.{saidRule};
+ghost use Rattle.write_lines.specs.Heads.{said_rule};
 
 use crate::SheetPass;
 use columns::{Fault, SheetLine};
@@ -10,7 +10,7 @@ use sheets::Said;
 
 // What a line says, at its place.
 fn rule_of(said: Said, line: SheetLine) -> SheetPass
-    ensures { result ≡ saidRule line.0 said }
+    ensures { result ≡ said_rule line.0 said }
 {
     match said {
         Said::Global { number, value, .. } => {
@@ -35,7 +35,7 @@ fn rule_of(said: Said, line: SheetLine) -> SheetPass
 
 // The first refusal so far, or that of this line.
 pub fn rule_too(first: SheetPass, said: Said, place: SheetLine) -> SheetPass
-    ensures { result ≡ or_else first (saidRule place.0 said) }
+    ensures { result ≡ or_else first (said_rule place.0 said) }
 {
     match first {
         SheetPass::Refused { fault, line } => SheetPass::Refused { fault, line },

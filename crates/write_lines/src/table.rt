@@ -4,9 +4,9 @@ ghost use Rattle.std.specs.Prelude.{◌≡◌, [], ◌+◌, ◌^◌, ◌≤◌, 
 ghost use Rattle.columns.specs.Columns.{columns};
 ghost use Rattle.columns.specs.Laid.{Wrote};
 ghost use Rattle.references.specs.References.{class_at};
-ghost use Rattle.sheets.specs.Sheet.{linesIn};
+ghost use Rattle.sheets.specs.Sheet.{lines_in};
 ghost use Rattle.write_lines.specs.Heads.{head_of};
-ghost use Rattle.write_lines.specs.Classes.{sheetTypes, classesIn, saidClass, withClass, someAt, Tabled};
+ghost use Rattle.write_lines.specs.Classes.{sheet_types, classes_in, said_class, with_class, some_at, Tabled};
 
 use crate::far::class_near;
 use crate::heads::head_at;
@@ -23,7 +23,7 @@ pub const PARTS: usize = 16665;
 
 // The class of the entry that a line heads.
 fn class_said(said: Said) -> u8
-    ensures { result ≡ saidClass said }
+    ensures { result ≡ said_class said }
 {
     match said {
         Said::Entry { fields, .. } => {
@@ -38,7 +38,7 @@ fn class_said(said: Said) -> u8
 fn class_on(t: &[u8], at: usize, end: usize) -> u8
     requires at_le_end { at ≤ end }
     requires end_in_bounds { end ≤ length t.now }
-    ensures { result ≡ saidClass (head_of (columns t.now at end)) }
+    ensures { result ≡ said_class (head_of (columns t.now at end)) }
 {
     let said = head_at(t, at, end);
     class_said(said)
@@ -47,7 +47,7 @@ fn class_on(t: &[u8], at: usize, end: usize) -> u8
 // Keeps the class of the entry that a line heads, if it heads one, as that of entry k.
 pub fn keep(classes: &mut [u8], k: usize, said: Said) -> usize
     requires { k + 1 < 2 ^ 64 }
-    ensures wrote { Wrote classes.old k (withClass (saidClass said) []) classes.new result }
+    ensures wrote { Wrote classes.old k (with_class (said_class said) []) classes.new result }
     ensures lower_bound { (k ≤ result) × (result ≤ k + 1) }
 {
     let class = class_said(said);
@@ -59,7 +59,7 @@ pub fn keep(classes: &mut [u8], k: usize, said: Said) -> usize
 
 // The class of entry i, read off the sheet.
 fn class_past(t: &[u8], i: usize) -> u8
-    ensures { result ≡ get_or (classesIn (linesIn t.now)) i 0 }
+    ensures { result ≡ get_or (classes_in (lines_in t.now)) i 0 }
 {
     let n = t.len();
     let mut at = 0;
@@ -84,7 +84,7 @@ fn class_past(t: &[u8], i: usize) -> u8
 
 // What a directory number names in a sheet of n entries, where no type is asked for: for that no entry is looked at.
 pub fn some_at(n: usize, number: DirectoryNumber) -> u8
-    ensures { result ≡ someAt n number.0 }
+    ensures { result ≡ some_at n number.0 }
 {
     if number.0 % 2 != 1 {
         return NO_ENTRY;
@@ -99,7 +99,7 @@ pub fn some_at(n: usize, number: DirectoryNumber) -> u8
 // The class of what a directory number names in a sheet of n entries.
 pub fn class_at(classes: &[u8], n: usize, t: &[u8], number: DirectoryNumber) -> u8
     requires { Tabled classes.now n t.now }
-    ensures { result ≡ class_at (sheetTypes t.now) number.0 }
+    ensures { result ≡ class_at (sheet_types t.now) number.0 }
 {
     if some_at(n, number) == NO_ENTRY {
         return NO_ENTRY;

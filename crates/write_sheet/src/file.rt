@@ -1,6 +1,6 @@
 // How long the canonical file of a sheet is.
 ghost use Rattle.std.specs.Prelude.{◌≡◌, ◌*◌};
-ghost use Rattle.columns.specs.Format.{lineBytes};
+ghost use Rattle.columns.specs.Format.{line_bytes};
 ghost use Rattle.cards.specs.Cards.{total};
 
 use cards::Counts;
@@ -9,7 +9,7 @@ use columns::wide;
 
 // The bytes of a file with these counts.
 pub fn bytes(c: Counts) -> usize
-    ensures { result ≡ lineBytes * total c }
+    ensures { result ≡ line_bytes * total c }
 {
     let lines = wide(c.s) + wide(c.g) + wide(c.d) + wide(c.p) + wide(c.t);
     LINE_BYTES * lines

@@ -3,7 +3,7 @@ mod file;
 
 ghost use Rattle.std.specs.Prelude.{◌≡◌, length};
 ghost use Rattle.model.specs.Write.{writes};
-ghost use Rattle.desk.specs.Answers.{answer_of, leftIn};
+ghost use Rattle.desk.specs.Answers.{answer_of, left_in};
 
 use columns::Fault;
 use desk::{Answer, answers};
@@ -13,7 +13,7 @@ use write_check::Ruled;
 // The canonical file of a sheet under a list. Its lines are counted first, since a refusal changes no byte of out.
 pub fn write(list: u64, sheet: &[u8], out: &mut [u8]) -> Answer
     ensures value { result ≡ answer_of (length out.old) (writes list sheet.now) }
-    ensures out_after { out.new ≡ leftIn out.old (writes list sheet.now) }
+    ensures out_after { out.new ≡ left_in out.old (writes list sheet.now) }
 {
     let told = write_check::check(list, sheet);
     match told {

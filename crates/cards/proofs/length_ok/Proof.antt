@@ -1,11 +1,11 @@
--- `length_ok`: the three tests of `lengthOk`, one after the other.
+-- `length_ok`: the three tests of `length_ok`, one after the other.
 use borrow.Author.Rules.{rules}
 use Rattle.cards.proofs.Laws.{lengths}
 use Rattle.cards.proofs.length_ok.Statement.{statement}
 use Rattle.cards.proofs.length_ok.Tie as tie
 
-pub length-ok-spec : {M : Type 1} → statement M
-length-ok-spec =
+pub length_ok_spec : {M : Type 1} → statement M
+length_ok_spec =
     tie.close
     (tie.spec
     (λ c. search (rules, lengths))

@@ -4,8 +4,8 @@ use Rattle.cards.proofs.Laws.{places}
 use Rattle.cards_line.proofs.here_if.Statement.{statement}
 use Rattle.cards_line.proofs.here_if.Tie as tie
 
-pub here-if-spec : {M : Type 1} → statement M
-here-if-spec =
+pub here_if_spec : {M : Type 1} → statement M
+here_if_spec =
     tie.close
     (tie.spec
     (λ c. search (rules, places))

@@ -4,8 +4,8 @@ use Rattle.cards.proofs.Laws.{lines}
 use Rattle.cards_line.proofs.line_ok.Statement.{statement}
 use Rattle.cards_line.proofs.line_ok.Tie as tie
 
-pub line-ok-spec : {M : Type 1} → statement M
-line-ok-spec =
+pub line_ok_spec : {M : Type 1} → statement M
+line_ok_spec =
     tie.close
     (tie.spec
     (λ c. search (rules, lines))

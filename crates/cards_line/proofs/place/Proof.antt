@@ -4,8 +4,8 @@ use Rattle.cards.proofs.Laws.{places}
 use Rattle.cards_line.proofs.place.Statement.{statement}
 use Rattle.cards_line.proofs.place.Tie as tie
 
-pub place-spec : {M : Type 1} → statement M
-place-spec =
+pub place_spec : {M : Type 1} → statement M
+place_spec =
     tie.close
     (tie.spec
     (λ c. search (rules, places))

@@ -3,8 +3,8 @@ use Rattle.columns.proofs.Decimals.{counts}
 use Rattle.columns_decimals.proofs.count_digits.Statement.{statement}
 use Rattle.columns_decimals.proofs.count_digits.Tie as tie
 
-pub count-digits-spec : {M : Type 1} → statement M
-count-digits-spec =
+pub count_digits_spec : {M : Type 1} → statement M
+count_digits_spec =
     tie.close
     (tie.spec
     (λ c κs. search (rules, counts))

@@ -16,8 +16,8 @@ invariant-loop out₀ at n end x₀ i₀ out x i =
 abbrev decreases-loop : tie.decreases-loop
 decreases-loop out₀ at n end x₀ i₀ out x i = x
 
-pub put-clipped-spec : {M : Type 1} → statement M
-put-clipped-spec =
+pub put_clipped_spec : {M : Type 1} → statement M
+put_clipped_spec =
     tie.close
     (tie.spec
     invariant-loop

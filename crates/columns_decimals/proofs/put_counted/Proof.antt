@@ -3,8 +3,8 @@ use Rattle.columns.proofs.Decimals.{decimals}
 use Rattle.columns_decimals.proofs.put_counted.Statement.{statement}
 use Rattle.columns_decimals.proofs.put_counted.Tie as tie
 
-pub put-counted-spec : {M : Type 1} → statement M
-put-counted-spec =
+pub put_counted_spec : {M : Type 1} → statement M
+put_counted_spec =
     tie.close
     (tie.spec
     (λ c. search (rules, decimals))

@@ -17,8 +17,8 @@ invariant-loop out₀ at n end x₀ i₀ out x i =
 abbrev decreases-loop : tie.decreases-loop
 decreases-loop out₀ at n end x₀ i₀ out x i = x
 
-pub put-inside-spec : {M : Type 1} → statement M
-put-inside-spec =
+pub put_inside_spec : {M : Type 1} → statement M
+put_inside_spec =
     tie.close
     (tie.spec
     invariant-loop

@@ -3,8 +3,8 @@ use Rattle.columns.proofs.Decimals.{columned}
 use Rattle.columns_decimals.proofs.put_signed.Statement.{statement}
 use Rattle.columns_decimals.proofs.put_signed.Tie as tie
 
-pub put-signed-spec : {M : Type 1} → statement M
-put-signed-spec =
+pub put_signed_spec : {M : Type 1} → statement M
+put_signed_spec =
     tie.close
     (tie.spec
     (λ c. search (rules, columned))

@@ -4,8 +4,8 @@ use Rattle.columns.proofs.Decimals.{columned}
 use Rattle.columns_decimals.proofs.put_signed_right.Statement.{statement}
 use Rattle.columns_decimals.proofs.put_signed_right.Tie as tie
 
-pub put-signed-right-spec : {M : Type 1} → statement M
-put-signed-right-spec =
+pub put_signed_right_spec : {M : Type 1} → statement M
+put_signed_right_spec =
     tie.close
     (tie.spec
     (λ c. search rules)

@@ -15,8 +15,8 @@ invariant-loop out₀ at s end i₀ out i =
 abbrev decreases-loop : tie.decreases-loop
 decreases-loop out₀ at s end i₀ out i = length s - i
 
-pub put-all-spec : {M : Type 1} → statement M
-put-all-spec =
+pub put_all_spec : {M : Type 1} → statement M
+put_all_spec =
     tie.close
     (tie.spec
     invariant-loop

@@ -15,8 +15,8 @@ invariant-loop out₀ at s next₀ i₀ out next i =
 abbrev decreases-loop : tie.decreases-loop
 decreases-loop out₀ at s next₀ i₀ out next i = length s - i
 
-pub put-all-clipped-spec : {M : Type 1} → statement M
-put-all-clipped-spec =
+pub put_all_clipped_spec : {M : Type 1} → statement M
+put_all_clipped_spec =
     tie.close
     (tie.spec
     invariant-loop

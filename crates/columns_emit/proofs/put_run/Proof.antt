@@ -15,8 +15,8 @@ invariant-loop out₀ at b count end i₀ out i =
 abbrev decreases-loop : tie.decreases-loop
 decreases-loop out₀ at b count end i₀ out i = count - i
 
-pub put-run-spec : {M : Type 1} → statement M
-put-run-spec =
+pub put_run_spec : {M : Type 1} → statement M
+put_run_spec =
     tie.close
     (tie.spec
     invariant-loop

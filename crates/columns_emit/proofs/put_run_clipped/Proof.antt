@@ -15,8 +15,8 @@ invariant-loop out₀ at b count next₀ i₀ out next i =
 abbrev decreases-loop : tie.decreases-loop
 decreases-loop out₀ at b count next₀ i₀ out next i = count - i
 
-pub put-run-clipped-spec : {M : Type 1} → statement M
-put-run-clipped-spec =
+pub put_run_clipped_spec : {M : Type 1} → statement M
+put_run_clipped_spec =
     tie.close
     (tie.spec
     invariant-loop

@@ -15,8 +15,8 @@ invariant-loop s at end i₀ i =
 abbrev decreases-loop : tie.decreases-loop
 decreases-loop s at end i₀ i = end - i
 
-pub behind-blanks-spec : {M : Type 1} → statement M
-behind-blanks-spec =
+pub behind_blanks_spec : {M : Type 1} → statement M
+behind_blanks_spec =
     tie.close
     (tie.spec
     invariant-loop

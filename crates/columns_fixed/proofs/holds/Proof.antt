@@ -3,8 +3,8 @@ use Rattle.columns.proofs.Fixed.{held}
 use Rattle.columns_fixed.proofs.holds.Statement.{statement}
 use Rattle.columns_fixed.proofs.holds.Tie as tie
 
-pub holds-spec : {M : Type 1} → statement M
-holds-spec =
+pub holds_spec : {M : Type 1} → statement M
+holds_spec =
     tie.close
     (tie.spec
     (λ c κs. search (rules, held))

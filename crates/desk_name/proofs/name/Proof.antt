@@ -4,8 +4,8 @@ use Rattle.desk_name.proofs.Naming.{parts}
 use Rattle.desk_name.proofs.name.Statement.{statement}
 use Rattle.desk_name.proofs.name.Tie as tie
 
-pub name-spec : {M : Type 1} → statement M
-name-spec =
+pub name_spec : {M : Type 1} → statement M
+name_spec =
     tie.close
     (tie.spec
     (λ c κs. search (rules, parts))

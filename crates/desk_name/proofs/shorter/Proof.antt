@@ -77,15 +77,15 @@ module _ {M : Type 1} {𝓤 : Ura M} (𝓛 : Logic 𝓤) (mem : Memory → SProp
 module _ {M : Type 1} {𝓤 : Ura M} (𝓛 : Logic 𝓤) (mem : Memory → SProp 𝓤) (run : Routine → Fun 𝓤) where
   open 𝓛 use {H}
 
-  shorter-walks : (C : Calls 𝓤 H) (Λ : Loops 𝓤 H) → Walks 𝓛 shorter.ended stayed (WpFn 𝓤 H C Λ code.function) (shorter.clauses 𝓛 mem run)
-  shorter-walks C Λ = walked 𝓛 shorter.ended stayed (shorter.clauses 𝓛 mem run) (WpFn 𝓤 H C Λ code.function) (λ κs. (shr_slice_vals, (shr_slice_vals, tt))) (λ κs. (shr_slice_Tells (named 0) κs.0 u8, (shr_slice_Tells (named 1) κs.1.0 u8, tt)))
+  shorter_walks : (C : Calls 𝓤 H) (Λ : Loops 𝓤 H) → Walks 𝓛 shorter.ended stayed (WpFn 𝓤 H C Λ code.function) (shorter.clauses 𝓛 mem run)
+  shorter_walks C Λ = walked 𝓛 shorter.ended stayed (shorter.clauses 𝓛 mem run) (WpFn 𝓤 H C Λ code.function) (λ κs. (shr_slice_vals, (shr_slice_vals, tt))) (λ κs. (shr_slice_Tells (named 0) κs.0 u8, (shr_slice_Tells (named 1) κs.1.0 u8, tt)))
       (λ κs qs bounds a g are. via 𝓤 _ (fst∗ 𝓤 _ (emp 𝓤)) (walk 𝓛 mem run κs.0 κs.1.0 qs.0 qs.1.0 bounds.0 a.0 a.1.0 C Λ are.0.0.1 are.1.0.0.1))
 
 shorter_meets : {M : Type 1} {𝓤 : Ura M} (𝓛 : Logic 𝓤) → (mem : Memory → SProp 𝓤) (run : Routine → Fun 𝓤) (𝓣 : Tables 𝓤 𝓛.H)
     → Meets 𝓛 shorter.signature (WpFn 𝓤 𝓛.H 𝓣.C 𝓣.Λ code.function) (shorter.spec 𝓛 mem run)
 shorter_meets {𝓤 = 𝓤} 𝓛 mem run 𝓣 =
     walk_Meets 𝓛 shorter.ended stayed (Goes-none_slice 𝓛 2 (0 ∷ []) tt (plain (λ _. u8)) yes, (Goes-none_slice 𝓛 2 (1 ∷ []) tt (plain (λ _. u8)) yes, tt)) (shorter.clauses 𝓛 mem run)
-    (WpFn 𝓤 𝓛.H 𝓣.C 𝓣.Λ code.function) (WpFn-mono 𝓤 𝓛.H 𝓛.laws 𝓣 code.function) (shorter-walks 𝓛 mem run 𝓣.C 𝓣.Λ)
+    (WpFn 𝓤 𝓛.H 𝓣.C 𝓣.Λ code.function) (WpFn-mono 𝓤 𝓛.H 𝓛.laws 𝓣 code.function) (shorter_walks 𝓛 mem run 𝓣.C 𝓣.Λ)
 
 pub shorter_spec : {M : Type 1} → stated.statement M
 unfolding code.routine tables_of

@@ -3,8 +3,8 @@ use Rattle.desk_pieces.proofs.Answers.{lists}
 use Rattle.desk_pieces.proofs.knows_both.Statement.{statement}
 use Rattle.desk_pieces.proofs.knows_both.Tie as tie
 
-pub knows-both-spec : {M : Type 1} → statement M
-knows-both-spec =
+pub knows_both_spec : {M : Type 1} → statement M
+knows_both_spec =
     tie.close
     (tie.spec
     (λ c κs. search (rules, lists))

@@ -3,8 +3,8 @@ use Rattle.desk_pieces.proofs.Answers.{told}
 use Rattle.desk_pieces.proofs.pieces.Statement.{statement}
 use Rattle.desk_pieces.proofs.pieces.Tie as tie
 
-pub pieces-spec : {M : Type 1} → statement M
-pieces-spec =
+pub pieces_spec : {M : Type 1} → statement M
+pieces_spec =
     tie.close
     (tie.spec
     (λ c κs. search (rules, told))

@@ -3,8 +3,8 @@ use Rattle.desk_pieces.proofs.Answers.{places}
 use Rattle.desk_pieces.proofs.places.Statement.{statement}
 use Rattle.desk_pieces.proofs.places.Tie as tie
 
-pub places-spec : {M : Type 1} → statement M
-places-spec =
+pub places_spec : {M : Type 1} → statement M
+places_spec =
     tie.close
     (tie.spec
     (λ c κs. search (rules, places))

@@ -4,8 +4,8 @@ use Rattle.desk_show.proofs.Shown.{shows}
 use Rattle.desk_show.proofs.show.Statement.{statement}
 use Rattle.desk_show.proofs.show.Tie as tie
 
-pub show-spec : {M : Type 1} → statement M
-show-spec =
+pub show_spec : {M : Type 1} → statement M
+show_spec =
     tie.close
     (tie.spec
     (λ c κs. search (rules, shows))

@@ -54,7 +54,7 @@ use Rattle.desk.proofs.Record.TheLaws as T'
 use Rattle.desk.specs.contracts.Answer as R
 use Rattle.desk.proofs.Answer.TheLaws as R'
 use Rattle.desk_table.specs.declared.Plan.{Plan}
-use Rattle.desk_table.specs.Tables.{plan_of, recordIn, HasEntry, filled}
+use Rattle.desk_table.specs.Tables.{plan_of, record_in, HasEntry, filled}
 use Rattle.desk_table.proofs.Plans.{length-filled, Planned, planned}
 use Rattle.desk_table.specs.contracts.Plan as P
 use Rattle.desk_table.proofs.Plan.TheLaws as P'
@@ -81,9 +81,9 @@ use Rattle.desk_table.proofs.directory.Code as code
 use Rattle.desk_table.proofs.directory.Code.Mir as piece
 
 -- the test of a `while`: each outcome has its premise
-while-test : {M : Type 1} {𝓤 : Ura M} {𝓛 : Logic 𝓤} {K : Type 0} {Γ : List (Item 𝓤)} {E : Env 𝓤 𝓛.H} {C : Calls 𝓤 𝓛.H} {Λ : Loops 𝓤 𝓛.H} {q : PostK 𝓤 𝓛.H} → K → {c : Operand} {n : ℕ} {b : Body} {y : Bool} → Opd K 𝓛 Γ E c (vbool y)
+while_test : {M : Type 1} {𝓤 : Ura M} {𝓛 : Logic 𝓤} {K : Type 0} {Γ : List (Item 𝓤)} {E : Env 𝓤 𝓛.H} {C : Calls 𝓤 𝓛.H} {Λ : Loops 𝓤 𝓛.H} {q : PostK 𝓤 𝓛.H} → K → {c : Operand} {n : ℕ} {b : Body} {y : Bool} → Opd K 𝓛 Γ E c (vbool y)
     → (Holds y → Seq K 𝓛 Γ (runs C Λ E b q)) → (Holds (not y) → Seq K 𝓛 Γ (prop (post 𝓤 𝓛.H q (exitsᴼ n)))) → Seq K 𝓛 Γ (runs C Λ E (seq (cond c skip (exit n)) b) q)
-while-test t o goes_on leaves = first t $ branches t o (λ h. skips t $ record { prf = (goes_on h).prf }) (λ h. jumps t $ record { prf = (leaves h).prf })
+while_test t o going_on leaves = first t $ branches t o (λ h. skips t $ record { prf = (going_on h).prf }) (λ h. jumps t $ record { prf = (leaves h).prf })
 
 abbrev stayed : Stays (directory.ended).signature.params (directory.ended).kept
 stayed = (stay_none (λ _. u64) yes, (stay_none_slice (0 ∷ []) tt (plain (λ _. u8)) yes, (stay_slice (1 ∷ []) tt (plain (λ _. T.the_row)), tt)))
@@ -135,36 +135,36 @@ module _ {M : Type 1} {𝓤 : Ura M} (𝓛 : Logic 𝓤) (mem : Memory → SProp
   Own = (ShrSlice (named 0) κ u8).own_val y (u₁ ∷ [])
 
   -- ---- the call of `plan_for`
-  abbrev for-args : ℕ × (Bor (List ℕ) × (ℕ × Unit {0}))
-  for-args = (list, (y, (length ys, tt)))
+  abbrev for_args : ℕ × (Bor (List ℕ) × (ℕ × Unit {0}))
+  for_args = (list, (y, (length ys, tt)))
 
-  abbrev for-vals : Vals plan-for.signature (κ, tt)
-  for-vals = (vint w64 list ∷ [], (u₁ ∷ [], (vint w64 (length ys) ∷ [], tt)))
+  abbrev for_vals : Vals plan-for.signature (κ, tt)
+  for_vals = (vint w64 list ∷ [], (u₁ ∷ [], (vint w64 (length ys) ∷ [], tt)))
 
-  abbrev to-plan : (PlanFor 𝓛 mem run).Ghost
-  to-plan = (((κ, tt), (q, tt), tt, for-args, for-vals), tt)
+  abbrev to_plan : (PlanFor 𝓛 mem run).Ghost
+  to_plan = (((κ, tt), (q, tt), tt, for_args, for_vals), tt)
 
-  asked-plan : ent 𝓤 (on_entry 𝓛 plan-for.signature (κ, tt) (q, tt) for-args for-vals) ((PlanFor 𝓛 mem run).pre to-plan)
-  asked-plan = qed 𝓛 ((‵ (flft κ q) ⊛ ‵ ftrue) ∷ ‵ (owns (u64 ∷ ShrSlice (named 0) κ u8 ∷ usize ∷ []) for-args for-vals) ∷ []) ∵ join ! $ frame ! $ done !
+  asked_plan : ent 𝓤 (on_entry 𝓛 plan-for.signature (κ, tt) (q, tt) for_args for_vals) ((PlanFor 𝓛 mem run).pre to_plan)
+  asked_plan = qed 𝓛 ((‵ (flft κ q) ⊛ ‵ ftrue) ∷ ‵ (owns (u64 ∷ ShrSlice (named 0) κ u8 ∷ usize ∷ []) for_args for_vals) ∷ []) ∵ join ! $ frame ! $ done !
 
   -- the file is Copy: the callee has one copy, and one is kept
-  apart-plan : list < 2 ^ 64 → length ys < 2 ^ 64 → ent 𝓤 (sep 𝓤 (A.lft κ q) (sem 𝓛 Own)) (sep 𝓤 ((PlanFor 𝓛 mem run).pre to-plan) (sem 𝓛 Own))
-  apart-plan list-fits fits =
+  apart_plan : list < 2 ^ 64 → length ys < 2 ^ 64 → ent 𝓤 (sep 𝓤 (A.lft κ q) (sem 𝓛 Own)) (sep 𝓤 ((PlanFor 𝓛 mem run).pre to_plan) (sem 𝓛 Own))
+  apart_plan list-fits fits =
       qed 𝓛 (‵ (flft κ q) ∷ ‵ Own ∷ []) ∵ move ! (1 ∷ []) $ use1 𝓛 (‵ Own ⊛ ‵ Own) ((shr_slice_copy 𝓛 (named 0) κ u8).twice y (u₁ ∷ [])) $ split ! $
       nothing ! $ owned ! usize (Is usize) (uint_Makes 𝓛 w64) (length ys) _ (refl, fits) $ fjoin ! $ move ! (1 ∷ 0 ∷ []) $ fjoin ! $
       owned ! u64 (Is u64) (uint_Makes 𝓛 w64) list _ (refl, list-fits) $ fjoin ! $ nothing ! $ move ! (3 ∷ 0 ∷ []) $ join ! $
-      use2 𝓛 (raw ((PlanFor 𝓛 mem run).pre to-plan)) asked-plan $ frame ! $ done !
+      use2 𝓛 (raw ((PlanFor 𝓛 mem run).pre to_plan)) asked_plan $ frame ! $ done !
 
-  said-plan : (r : Plan) → ent 𝓤 (ensured 𝓛 plan-for.ended (plan-for.clauses 𝓛 mem run) (κ, tt) for-args tt r) (fact 𝓤 (r ≡ plan_of list ss (length ys)))
-  said-plan r = ex_e 𝓤 _ (λ ws. snd∗ 𝓤 (sem 𝓛 (lasts plan-for.ended (κ, tt) for-args ws)) (fact 𝓤 (r ≡ plan_of list ss (length ys))))
+  said_plan : (r : Plan) → ent 𝓤 (ensured 𝓛 plan-for.ended (plan-for.clauses 𝓛 mem run) (κ, tt) for_args tt r) (fact 𝓤 (r ≡ plan_of list ss (length ys)))
+  said_plan r = ex_e 𝓤 _ (λ ws. snd∗ 𝓤 (sem 𝓛 (lasts plan-for.ended (κ, tt) for_args ws)) (fact 𝓤 (r ≡ plan_of list ss (length ys))))
 
   -- ---- the calls with the plan, which is p: its machine value is u
   module _ (p : Plan) (u : Val) where
     abbrev to-count : (CountOf 𝓛 mem run).Ghost
     to-count = ((tt, tt, tt, (p, tt), (u ∷ [], tt)), tt)
 
-    goes-count : ent 𝓤 (sem 𝓛 ((P.the_row).own_val p (u ∷ []))) ((CountOf 𝓛 mem run).pre to-count)
-    goes-count = qed 𝓛 (‵ ((P.the_row).own_val p (u ∷ [])) ∷ []) ∵ nothing ! $ move ! (1 ∷ 0 ∷ []) $ join ! $ nothing ! $ join ! $ frame ! $ done !
+    goes_count : ent 𝓤 (sem 𝓛 ((P.the_row).own_val p (u ∷ []))) ((CountOf 𝓛 mem run).pre to-count)
+    goes_count = qed 𝓛 (‵ ((P.the_row).own_val p (u ∷ [])) ∷ []) ∵ nothing ! $ move ! (1 ∷ 0 ∷ []) $ join ! $ nothing ! $ join ! $ frame ! $ done !
 
     said-count : (r : ℕ) → ent 𝓤 (ensured 𝓛 count_of.ended (count_of.clauses 𝓛 mem run) tt (p, tt) tt r) (fact 𝓤 (r ≡ p.count))
     said-count r = ex_e 𝓤 _ (λ ws. snd∗ 𝓤 (sem 𝓛 (lasts count_of.ended tt (p, tt) ws)) (fact 𝓤 (r ≡ p.count)))
@@ -172,36 +172,36 @@ module _ {M : Type 1} {𝓤 : Ura M} (𝓛 : Logic 𝓤) (mem : Memory → SProp
     abbrev to-answer : (AnswerOf 𝓛 mem run).Ghost
     to-answer = ((tt, tt, tt, (p, tt), (u ∷ [], tt)), tt)
 
-    goes-answer : ent 𝓤 (sem 𝓛 ((P.the_row).own_val p (u ∷ []))) ((AnswerOf 𝓛 mem run).pre to-answer)
-    goes-answer = qed 𝓛 (‵ ((P.the_row).own_val p (u ∷ [])) ∷ []) ∵ nothing ! $ move ! (1 ∷ 0 ∷ []) $ join ! $ nothing ! $ join ! $ frame ! $ done !
+    goes_answer : ent 𝓤 (sem 𝓛 ((P.the_row).own_val p (u ∷ []))) ((AnswerOf 𝓛 mem run).pre to-answer)
+    goes_answer = qed 𝓛 (‵ ((P.the_row).own_val p (u ∷ [])) ∷ []) ∵ nothing ! $ move ! (1 ∷ 0 ∷ []) $ join ! $ nothing ! $ join ! $ frame ! $ done !
 
     said-answer : (r : Answer) → ent 𝓤 (ensured 𝓛 answer-of.ended (answer-of.clauses 𝓛 mem run) tt (p, tt) tt r) (fact 𝓤 (r ≡ p.answer))
     said-answer r = ex_e 𝓤 _ (λ ws. snd∗ 𝓤 (sem 𝓛 (lasts answer-of.ended tt (p, tt) ws)) (fact 𝓤 (r ≡ p.answer)))
 
-    abbrev of-args : ℕ → ℕ × (Bor (List ℕ) × (Plan × (ℕ × Unit {0})))
-    of-args i = (list, (y, (p, (i, tt))))
+    abbrev of_args : ℕ → ℕ × (Bor (List ℕ) × (Plan × (ℕ × Unit {0})))
+    of_args i = (list, (y, (p, (i, tt))))
 
     abbrev of-vals : ℕ → Vals record_of.signature (κ, tt)
     of-vals i = (vint w64 list ∷ [], (u₁ ∷ [], (u ∷ [], (vint w64 i ∷ [], tt))))
 
-    abbrev to-record : ℕ → (RecordOf 𝓛 mem run).Ghost
-    to-record i = (((κ, tt), (q, tt), tt, of-args i, of-vals i), tt)
+    abbrev to_record : ℕ → (RecordOf 𝓛 mem run).Ghost
+    to_record i = (((κ, tt), (q, tt), tt, of_args i, of-vals i), tt)
 
-    asked-record : (i : ℕ) → HasEntry ss p.first i → ent 𝓤 (on_entry 𝓛 record_of.signature (κ, tt) (q, tt) (of-args i) (of-vals i)) ((RecordOf 𝓛 mem run).pre (to-record i))
-    asked-record i h = qed 𝓛 ((‵ (flft κ q) ⊛ ‵ ftrue) ∷ ‵ (owns (u64 ∷ ShrSlice (named 0) κ u8 ∷ P.the_row ∷ usize ∷ []) (of-args i) (of-vals i)) ∷ []) ∵ says ! h $ frame ! $ done !
+    asked_record : (i : ℕ) → HasEntry ss p.first i → ent 𝓤 (on_entry 𝓛 record_of.signature (κ, tt) (q, tt) (of_args i) (of-vals i)) ((RecordOf 𝓛 mem run).pre (to_record i))
+    asked_record i h = qed 𝓛 ((‵ (flft κ q) ⊛ ‵ ftrue) ∷ ‵ (owns (u64 ∷ ShrSlice (named 0) κ u8 ∷ P.the_row ∷ usize ∷ []) (of_args i) (of-vals i)) ∷ []) ∵ says ! h $ frame ! $ done !
 
-    said-record : (i : ℕ) (r : Record) → ent 𝓤 (ensured 𝓛 record_of.ended (record_of.clauses 𝓛 mem run) (κ, tt) (of-args i) tt r) (fact 𝓤 (r ≡ recordIn list ss p.first i))
-    said-record i r = ex_e 𝓤 _ (λ ws. snd∗ 𝓤 (sem 𝓛 (lasts record_of.ended (κ, tt) (of-args i) ws)) (fact 𝓤 (r ≡ recordIn list ss p.first i)))
+    said_record : (i : ℕ) (r : Record) → ent 𝓤 (ensured 𝓛 record_of.ended (record_of.clauses 𝓛 mem run) (κ, tt) (of_args i) tt r) (fact 𝓤 (r ≡ record_in list ss p.first i))
+    said_record i r = ex_e 𝓤 _ (λ ws. snd∗ 𝓤 (sem 𝓛 (lasts record_of.ended (κ, tt) (of_args i) ws)) (fact 𝓤 (r ≡ record_in list ss p.first i)))
 
     module _ (is : Is P.the_row p (u ∷ [])) where
-      apart-record : (i : ℕ) → list < 2 ^ 64 → i < 2 ^ 64 → HasEntry ss p.first i
-          → ent 𝓤 (sep 𝓤 (A.lft κ q) (sem 𝓛 Own)) (sep 𝓤 ((RecordOf 𝓛 mem run).pre (to-record i)) (sem 𝓛 Own))
-      apart-record i list-fits fits h =
+      apart_record : (i : ℕ) → list < 2 ^ 64 → i < 2 ^ 64 → HasEntry ss p.first i
+          → ent 𝓤 (sep 𝓤 (A.lft κ q) (sem 𝓛 Own)) (sep 𝓤 ((RecordOf 𝓛 mem run).pre (to_record i)) (sem 𝓛 Own))
+      apart_record i list-fits fits h =
           qed 𝓛 (‵ (flft κ q) ∷ ‵ Own ∷ []) ∵ move ! (1 ∷ []) $ use1 𝓛 (‵ Own ⊛ ‵ Own) ((shr_slice_copy 𝓛 (named 0) κ u8).twice y (u₁ ∷ [])) $ split ! $
           nothing ! $ owned ! usize (Is usize) (uint_Makes 𝓛 w64) i _ (refl, fits) $ fjoin ! $
           owned ! P.the_row (Is P.the_row) (LL.makes P.the_type P'.the_plain 𝓛) p (u ∷ []) is $ fjoin ! $ move ! (1 ∷ 0 ∷ []) $ fjoin ! $
           owned ! u64 (Is u64) (uint_Makes 𝓛 w64) list _ (refl, list-fits) $ fjoin ! $ nothing ! $ move ! (3 ∷ 0 ∷ []) $ join ! $
-          use2 𝓛 (raw ((RecordOf 𝓛 mem run).pre (to-record i))) (asked-record i h) $ frame ! $ done !
+          use2 𝓛 (raw ((RecordOf 𝓛 mem run).pre (to_record i))) (asked_record i h) $ frame ! $ done !
 
       module _ (list-fits : list < 2 ^ 64) (room-s : Room u8 (length ss)) (room : Room T.the_row (length ys)) (pl : Planned list ss ys p) where
         abbrev m : ℕ
@@ -268,13 +268,13 @@ module _ {M : Type 1} {𝓤 : Ura M} (𝓛 : Logic 𝓤) (mem : Memory → SProp
             unfolding after_turn
             turn t =
                 assigns ! (bin ! (load ! (from ! (stop !)) (look ! 16 refl)) (load ! (from ! (stop !)) (look ! 18 refl)) tt) (from ! (stop !)) (init ! 12 refl (tt, tt)) $
-                while-test ! (load ! (from ! (stop !)) (look ! 12 refl))
+                while_test ! (load ! (from ! (stop !)) (look ! 12 refl))
                 (λ h. let small = ltb→lt (m - t) m h in
-                move ! (5 ∷ 4 ∷ []) $ use2 𝓛 (raw ((RecordOf 𝓛 mem run).pre (to-record (m - t))) ⊛ ‵ Own) (apart-record (m - t) list-fits (omega (arith, small, m-fits)) (pl.inside (m - t) small)) $ split ! $
+                move ! (5 ∷ 4 ∷ []) $ use2 𝓛 (raw ((RecordOf 𝓛 mem run).pre (to_record (m - t))) ⊛ ‵ Own) (apart_record (m - t) list-fits (omega (arith, small, m-fits)) (pl.inside (m - t) small)) $ split ! $
                 -- [what `record_of` asks; Own; the row; the open borrow; obs; auth; _11; …]
-                calls_at ! (fm_of 𝓤 H 𝓛.laws 𝓣) (RecordOf 𝓛 mem run) known-record (to-record (m - t)) (and_then ! (load ! (from ! (stop !)) (look ! 26 refl)) (and_then ! (load ! (from ! (stop !)) (look ! 24 refl)) (and_then ! (load ! (from ! (stop !)) (look ! 20 refl)) (and_then ! (load ! (from ! (stop !)) (look ! 16 refl)) (no_more !))))) (λ v.
-                use1 𝓛 (later (some (λ (r : Record). ((‵ (flft κ q) ⊛ ‵ ftrue) ⊛ ‵ ((T.the_row).own_val r (v ∷ []))) ⊛ raw (ensured 𝓛 record_of.ended (record_of.clauses 𝓛 mem run) (κ, tt) (of-args (m - t)) tt r)))) (id⊢ 𝓤 _) $ await ! tt $ pick ! (λ r.
-                split ! $ move ! (1 ∷ []) $ use1 𝓛 (raw (fact 𝓤 (r ≡ recordIn list ss p.first (m - t)))) (said-record (m - t) r) $ heard ! (r ≡ recordIn list ss p.first (m - t)) (λ e. split ! $ move ! (1 ∷ []) $
+                calls_at ! (fm_of 𝓤 H 𝓛.laws 𝓣) (RecordOf 𝓛 mem run) known-record (to_record (m - t)) (and_then ! (load ! (from ! (stop !)) (look ! 26 refl)) (and_then ! (load ! (from ! (stop !)) (look ! 24 refl)) (and_then ! (load ! (from ! (stop !)) (look ! 20 refl)) (and_then ! (load ! (from ! (stop !)) (look ! 16 refl)) (no_more !))))) (λ v.
+                use1 𝓛 (later (some (λ (r : Record). ((‵ (flft κ q) ⊛ ‵ ftrue) ⊛ ‵ ((T.the_row).own_val r (v ∷ []))) ⊛ raw (ensured 𝓛 record_of.ended (record_of.clauses 𝓛 mem run) (κ, tt) (of_args (m - t)) tt r)))) (id⊢ 𝓤 _) $ await ! tt $ pick ! (λ r.
+                split ! $ move ! (1 ∷ []) $ use1 𝓛 (raw (fact 𝓤 (r ≡ record_in list ss p.first (m - t)))) (said_record (m - t) r) $ heard ! (r ≡ record_in list ss p.first (m - t)) (λ e. split ! $ move ! (1 ∷ []) $
                 peeks ! T.the_row (Is T.the_row) (shows 𝓛 T.the_row) r (v ∷ []) (λ is-r.
                 -- [what the record owns; the token; Own; the row; the open borrow; obs; auth; _11; …]
                 land ! (from ! (stop !)) (init ! 11 refl ((LL.lawful T.the_type T'.the_laws 𝓛).typed r _ is-r).0) $
@@ -297,7 +297,7 @@ module _ {M : Type 1} {𝓤 : Ura M} (𝓛 : Logic 𝓤) (mem : Memory → SProp
                 rewrite ! 0 (λ (l : List Record). ‵ (row T.the_row full_share l b o)) (ap at (done_all t all)) refl $
                 closes_slice ! tt T.the_row ys (at m) (at_length m) b o $
                 -- [obs; the borrow; the token of the table; Own; the token of the file; _11; …]
-                owned ! P.the_row (Is P.the_row) (LL.makes P.the_type P'.the_plain 𝓛) p (u ∷ []) is $ use1 𝓛 (raw ((AnswerOf 𝓛 mem run).pre to-answer)) goes-answer $
+                owned ! P.the_row (Is P.the_row) (LL.makes P.the_type P'.the_plain 𝓛) p (u ∷ []) is $ use1 𝓛 (raw ((AnswerOf 𝓛 mem run).pre to-answer)) goes_answer $
                 calls_at ! (fm_of 𝓤 H 𝓛.laws 𝓣) (AnswerOf 𝓛 mem run) known-answer to-answer (and_then ! (load ! (from ! (stop !)) (look ! 20 refl)) (no_more !)) (λ v.
                 use1 𝓛 (later (some (λ (r : Answer). (‵ ftrue ⊛ ‵ ((R.the_row).own_val r (v ∷ []))) ⊛ raw (ensured 𝓛 answer-of.ended (answer-of.clauses 𝓛 mem run) tt (p, tt) tt r)))) (id⊢ 𝓤 _) $ await ! tt $ pick ! (λ r.
                 split ! $ move ! (1 ∷ []) $ use1 𝓛 (raw (fact 𝓤 (r ≡ p.answer))) (said-answer r) $ heard ! (r ≡ p.answer) (λ e. split ! $ drop ! $
@@ -336,17 +336,17 @@ module _ {M : Type 1} {𝓤 : Ura M} (𝓛 : Logic 𝓤) (mem : Memory → SProp
         move ! (24 ∷ 25 ∷ 26 ∷ 27 ∷ 28 ∷ []) $
         -- [obs; the borrow; the token of the table; Own; the token of the file; _11; …]
         assigns ! (of_opd ! (load ! (from ! (fld ! refl (stop !))) (look_in ! 21 (sub ! 1 refl (whole !))))) (from ! (stop !)) (init ! 13 refl (tt, record { fits = room.0 })) $
-        move ! (4 ∷ 3 ∷ []) $ use2 𝓛 (raw ((PlanFor 𝓛 mem run).pre to-plan) ⊛ ‵ Own) (apart-plan list-fits room.0) $ split ! $
+        move ! (4 ∷ 3 ∷ []) $ use2 𝓛 (raw ((PlanFor 𝓛 mem run).pre to_plan) ⊛ ‵ Own) (apart_plan list-fits room.0) $ split ! $
         -- [what `plan_for` asks; Own; obs; the borrow; the token of the table; _11; …]
-        calls_at ! (fm_of 𝓤 H 𝓛.laws 𝓣) (PlanFor 𝓛 mem run) known-plan to-plan (and_then ! (load ! (from ! (stop !)) (look ! 25 refl)) (and_then ! (load ! (from ! (stop !)) (look ! 23 refl)) (and_then ! (load ! (from ! (stop !)) (look ! 13 refl)) (no_more !)))) (λ u.
-        use1 𝓛 (later (some (λ (p : Plan). ((‵ (flft κ q) ⊛ ‵ ftrue) ⊛ ‵ ((P.the_row).own_val p (u ∷ []))) ⊛ raw (ensured 𝓛 plan-for.ended (plan-for.clauses 𝓛 mem run) (κ, tt) for-args tt p)))) (id⊢ 𝓤 _) $ await ! tt $ pick ! (λ p.
-        split ! $ move ! (1 ∷ []) $ use1 𝓛 (raw (fact 𝓤 (p ≡ plan_of list ss (length ys)))) (said-plan p) $ heard ! (p ≡ plan_of list ss (length ys)) (λ e. split ! $ move ! (1 ∷ []) $
+        calls_at ! (fm_of 𝓤 H 𝓛.laws 𝓣) (PlanFor 𝓛 mem run) known-plan to_plan (and_then ! (load ! (from ! (stop !)) (look ! 25 refl)) (and_then ! (load ! (from ! (stop !)) (look ! 23 refl)) (and_then ! (load ! (from ! (stop !)) (look ! 13 refl)) (no_more !)))) (λ u.
+        use1 𝓛 (later (some (λ (p : Plan). ((‵ (flft κ q) ⊛ ‵ ftrue) ⊛ ‵ ((P.the_row).own_val p (u ∷ []))) ⊛ raw (ensured 𝓛 plan-for.ended (plan-for.clauses 𝓛 mem run) (κ, tt) for_args tt p)))) (id⊢ 𝓤 _) $ await ! tt $ pick ! (λ p.
+        split ! $ move ! (1 ∷ []) $ use1 𝓛 (raw (fact 𝓤 (p ≡ plan_of list ss (length ys)))) (said_plan p) $ heard ! (p ≡ plan_of list ss (length ys)) (λ e. split ! $ move ! (1 ∷ []) $
         facts ! P.the_row (Is P.the_row) (shows 𝓛 P.the_row) p (u ∷ []) (λ is.
         -- [the token of the file; Own; obs; the borrow; the token of the table; _11; …]
         land ! (from ! (stop !)) (init ! 19 refl ((LL.lawful P.the_type P'.the_laws 𝓛).typed p _ is).0) $ forget ! 13 refl $
         split ! $ move ! (1 ∷ []) $ drop ! $ move ! (2 ∷ 3 ∷ 4 ∷ 1 ∷ 0 ∷ []) $
         -- [obs; the borrow; the token of the table; Own; the token of the file; _11; …]
-        owned ! P.the_row (Is P.the_row) (LL.makes P.the_type P'.the_plain 𝓛) p (u ∷ []) is $ use1 𝓛 (raw ((CountOf 𝓛 mem run).pre (to-count p u))) (goes-count p u) $
+        owned ! P.the_row (Is P.the_row) (LL.makes P.the_type P'.the_plain 𝓛) p (u ∷ []) is $ use1 𝓛 (raw ((CountOf 𝓛 mem run).pre (to-count p u))) (goes_count p u) $
         calls_at ! (fm_of 𝓤 H 𝓛.laws 𝓣) (CountOf 𝓛 mem run) known-count (to-count p u) (and_then ! (load ! (from ! (stop !)) (look ! 20 refl)) (no_more !)) (λ v.
         use1 𝓛 (later (some (λ (r : ℕ). (‵ ftrue ⊛ ‵ (usize.own_val r (v ∷ []))) ⊛ raw (ensured 𝓛 count_of.ended (count_of.clauses 𝓛 mem run) tt (p, tt) tt r)))) (id⊢ 𝓤 _) $ await ! tt $ pick ! (λ r.
         split ! $ move ! (1 ∷ []) $ use1 𝓛 (raw (fact 𝓤 (r ≡ p.count))) (said-count p u r) $ heard ! (r ≡ p.count) (λ n. split ! $ drop ! $
@@ -360,23 +360,23 @@ module _ {M : Type 1} {𝓤 : Ura M} (𝓛 : Logic 𝓤) (mem : Memory → SProp
     (known-record : Triple 𝓤 (𝓣.C #desk_table·record-of) (RecordOf 𝓛 mem run)) (known-answer : Triple 𝓤 (𝓣.C #desk_table·answer-of) (AnswerOf 𝓛 mem run)) where
   open 𝓛 use {H}
 
-  directory-walks : Walks 𝓛 directory.ended stayed (WpFn 𝓤 H 𝓣.C 𝓣.Λ code.function) (directory.clauses 𝓛 mem run)
-  directory-walks = walked 𝓛 directory.ended stayed (directory.clauses 𝓛 mem run) (WpFn 𝓤 H 𝓣.C 𝓣.Λ code.function)
+  directory_walks : Walks 𝓛 directory.ended stayed (WpFn 𝓤 H 𝓣.C 𝓣.Λ code.function) (directory.clauses 𝓛 mem run)
+  directory_walks = walked 𝓛 directory.ended stayed (directory.clauses 𝓛 mem run) (WpFn 𝓤 H 𝓣.C 𝓣.Λ code.function)
       (λ κs. (uint_vals w64, (shr_slice_vals, (mut_slice_vals, tt)))) (λ κs. (uint_Tells w64, (shr_slice_Tells (named 0) κs.0 u8, (mut_slice_Tells (named 1) κs.1.0 T.the_row, tt))))
       (λ κs qs bounds a g are. via 𝓤 _ (fst∗ 𝓤 _ (emp 𝓤))
       (walk 𝓛 mem run κs.0 κs.1.0 qs.0 qs.1.0 a.0 a.1.0 a.1.1.0.ref_ptr.0 a.1.1.0.ref_ptr.1 a.1.1.0.ghost_name a.1.1.0.now are.0.1 are.1.0.0.1 are.1.1.0.0.1 𝓣 known-plan known-count known-record known-answer))
 
-  directory-meets : Meets 𝓛 directory.signature (WpFn 𝓤 H 𝓣.C 𝓣.Λ code.function) (directory.spec 𝓛 mem run)
-  directory-meets =
+  directory_meets : Meets 𝓛 directory.signature (WpFn 𝓤 H 𝓣.C 𝓣.Λ code.function) (directory.spec 𝓛 mem run)
+  directory_meets =
       walk_Meets 𝓛 directory.ended stayed (Goes-none 𝓛 2 (λ _. u64) yes (λ κs x f. refl), (Goes-none_slice 𝓛 2 (0 ∷ []) tt (plain (λ _. u8)) yes, (Goes-slice 𝓛 2 1 tt (plain (λ _. T.the_row)), tt))) (directory.clauses 𝓛 mem run)
-      (WpFn 𝓤 H 𝓣.C 𝓣.Λ code.function) (WpFn-mono 𝓤 H 𝓛.laws 𝓣 code.function) directory-walks
+      (WpFn 𝓤 H 𝓣.C 𝓣.Λ code.function) (WpFn-mono 𝓤 H 𝓛.laws 𝓣 code.function) directory_walks
 
-pub directory-spec : {M : Type 1} → stated.statement M
+pub directory_spec : {M : Type 1} → stated.statement M
 unfolding code.routine tables_of
-directory-spec 𝓤 𝓛 𝓜 𝓡 =
+directory_spec 𝓤 𝓛 𝓜 𝓡 =
     entered 𝓤 𝓛.H (triple_of 𝓛 directory.signature (directory.spec 𝓛 𝓜.mem 𝓡.run))
     (tables 𝓤 𝓛.H 𝓜 𝓡 code.env).C (tables 𝓤 𝓛.H 𝓜 𝓡 code.env).Λ #desk_table·directory code.function (code.unfolded 𝓤 𝓛.H 𝓜 𝓡)
-    (directory-meets 𝓛 𝓜.mem 𝓡.run (tables_of 𝓤 𝓛.H 𝓜 (tables 𝓤 𝓛.H 𝓜 𝓡 code.env))
+    (directory_meets 𝓛 𝓜.mem 𝓡.run (tables_of 𝓤 𝓛.H 𝓜 (tables 𝓤 𝓛.H 𝓜 𝓡 code.env))
     (cited 𝓤 𝓛.H (PlanFor 𝓛 𝓜.mem 𝓡.run) 𝓜 𝓡 code.env #desk_table·plan-for plan-for-def.routine code.calls-desk-table::plan-for (plan-for-thm.met 𝓤 𝓛 𝓜 𝓡))
     (cited 𝓤 𝓛.H (CountOf 𝓛 𝓜.mem 𝓡.run) 𝓜 𝓡 code.env #desk_table·count-of count-of-def.routine code.calls-desk-table::count-of (count-of-thm.met 𝓤 𝓛 𝓜 𝓡))
     (cited 𝓤 𝓛.H (RecordOf 𝓛 𝓜.mem 𝓡.run) 𝓜 𝓡 code.env #desk_table·record-of record-of-def.routine code.calls-desk-table::record-of (record-of-thm.met 𝓤 𝓛 𝓜 𝓡))

@@ -4,8 +4,8 @@ use Rattle.desk_table.proofs.Plans.{plans}
 use Rattle.desk_table.proofs.plan_for.Statement.{statement}
 use Rattle.desk_table.proofs.plan_for.Tie as tie
 
-pub plan-for-spec : {M : Type 1} → statement M
-plan-for-spec =
+pub plan_for_spec : {M : Type 1} → statement M
+plan_for_spec =
     tie.close
     (tie.spec
     (λ c κs. search (rules, plans))

@@ -4,8 +4,8 @@ use Rattle.desk_table.proofs.Plans.{plans}
 use Rattle.desk_table.proofs.plan_with.Statement.{statement}
 use Rattle.desk_table.proofs.plan_with.Tie as tie
 
-pub plan-with-spec : {M : Type 1} → statement M
-plan-with-spec =
+pub plan_with_spec : {M : Type 1} → statement M
+plan_with_spec =
     tie.close
     (tie.spec
     (λ c κs. search (rules, plans))

@@ -4,8 +4,8 @@ use Rattle.desk_table.proofs.Slots.{slotted}
 use Rattle.desk_table.proofs.record_of.Statement.{statement}
 use Rattle.desk_table.proofs.record_of.Tie as tie
 
-pub record-of-spec : {M : Type 1} → statement M
-record-of-spec =
+pub record_of_spec : {M : Type 1} → statement M
+record_of_spec =
     tie.close
     (tie.spec
     (λ c κs. search (rules, slotted))

@@ -1,11 +1,11 @@
 -- The first nine fields.
 use borrow.Author.Rules.{rules}
-use Rattle.directory.proofs.Puts.{wrote-first}
+use Rattle.directory.proofs.Puts.{wrote_first}
 use Rattle.directory_lay.proofs.put_first.Statement.{statement}
 use Rattle.directory_lay.proofs.put_first.Tie as tie
 
-pub put-first-spec : {M : Type 1} → statement M
-put-first-spec =
+pub put_first_spec : {M : Type 1} → statement M
+put_first_spec =
     tie.close
     (tie.spec
     (λ c κs. search rules)
@@ -22,4 +22,4 @@ put-first-spec =
     let c3 = c2.before.before.before.before in
     let c4 = c3.before.before.before.before in
     let c5 = c4.before.before.before.before.before in
-    (wrote-first _ _ c5.put-number.ensures.0 c4.put_right.ensures.0 c3.put_three.ensures.0 c2.put-three2.ensures.0 c1.put-right2.ensures.0, search rules)))
+    (wrote_first _ _ c5.put-number.ensures.0 c4.put_right.ensures.0 c3.put_three.ensures.0 c2.put-three2.ensures.0 c1.put-right2.ensures.0, search rules)))

@@ -1,11 +1,11 @@
 -- The other nine; the two reserved ones are one run.
 use borrow.Author.Rules.{rules}
-use Rattle.directory.proofs.Puts.{wrote-second}
+use Rattle.directory.proofs.Puts.{wrote_second}
 use Rattle.directory_lay.proofs.put_second.Statement.{statement}
 use Rattle.directory_lay.proofs.put_second.Tie as tie
 
-pub put-second-spec : {M : Type 1} → statement M
-put-second-spec =
+pub put_second_spec : {M : Type 1} → statement M
+put_second_spec =
     tie.close
     (tie.spec
     (λ c κs. search rules)
@@ -22,4 +22,4 @@ put-second-spec =
     let c4 = c3.before.before.before.before in
     let c5 = c4.before.before.before.before in
     let c6 = c5.before.before.before.before in
-    (wrote-second _ _ _ c6.put_three.ensures.0 c5.put_right.ensures.0 c4.put-number.ensures.0 c3.put-run.ensures.0 c2.put_all_lem.ensures.0 c1.put-number2.ensures.0, search rules)))
+    (wrote_second _ _ _ c6.put_three.ensures.0 c5.put_right.ensures.0 c4.put-number.ensures.0 c3.put-run.ensures.0 c2.put_all_lem.ensures.0 c1.put-number2.ensures.0, search rules)))

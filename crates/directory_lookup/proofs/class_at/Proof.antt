@@ -4,8 +4,8 @@ use Rattle.directory_lookup.proofs.Names.{names}
 use Rattle.directory_lookup.proofs.class_at.Statement.{statement}
 use Rattle.directory_lookup.proofs.class_at.Tie as tie
 
-pub class-at-spec : {M : Type 1} → statement M
-class-at-spec =
+pub class_at_spec : {M : Type 1} → statement M
+class_at_spec =
     tie.close
     (tie.spec
     (λ c. search (rules, names))

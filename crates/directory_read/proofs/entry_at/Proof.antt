@@ -2,20 +2,20 @@
 use mathlib.Core.Path.{◌≡◌}
 use Prim.Native.Nat.{◌+◌, ◌-◌, ◌≤◌}
 use lib.ListN.{length, take}
-use Rattle.directory.specs.Lines.{numbersFrom}
+use Rattle.directory.specs.Lines.{numbers_from}
 use borrow.Author.Rules.{rules}
 use Rattle.directory_read.proofs.Spelt.{ahead, entries}
 use Rattle.directory_read.proofs.entry_at.Statement.{statement}
 use Rattle.directory_read.proofs.entry_at.Tie as tie
 
 abbrev invariant-loop : tie.invariant-loop
-invariant-loop file k xs₀ n₀ xs n = (n ≤ 12) × (length xs ≡ 12) × (ahead (take n xs) (numbersFrom file k n (12 - n)) ≡ numbersFrom file k 0 12)
+invariant-loop file k xs₀ n₀ xs n = (n ≤ 12) × (length xs ≡ 12) × (ahead (take n xs) (numbers_from file k n (12 - n)) ≡ numbers_from file k 0 12)
 
 abbrev decreases-loop : tie.decreases-loop
 decreases-loop file k xs₀ n₀ xs n = 12 - n
 
-pub entry-at-spec : {M : Type 1} → statement M
-entry-at-spec =
+pub entry_at_spec : {M : Type 1} → statement M
+entry_at_spec =
     tie.close
     (tie.spec
     invariant-loop

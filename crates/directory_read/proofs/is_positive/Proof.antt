@@ -4,8 +4,8 @@ use Rattle.directory_read.proofs.Spelt.{fielded}
 use Rattle.directory_read.proofs.is_positive.Statement.{statement}
 use Rattle.directory_read.proofs.is_positive.Tie as tie
 
-pub is-positive-spec : {M : Type 1} → statement M
-is-positive-spec =
+pub is_positive_spec : {M : Type 1} → statement M
+is_positive_spec =
     tie.close
     (tie.spec
     (λ c. search (rules, fielded))

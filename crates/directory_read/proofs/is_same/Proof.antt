@@ -4,8 +4,8 @@ use Rattle.directory_read.proofs.Spelt.{fielded}
 use Rattle.directory_read.proofs.is_same.Statement.{statement}
 use Rattle.directory_read.proofs.is_same.Tie as tie
 
-pub is-same-spec : {M : Type 1} → statement M
-is-same-spec =
+pub is_same_spec : {M : Type 1} → statement M
+is_same_spec =
     tie.close
     (tie.spec
     (λ c. search (rules, fielded))

@@ -4,8 +4,8 @@ use Rattle.directory.proofs.Slots.{slotted}
 use Rattle.directory_read.proofs.number_in.Statement.{statement}
 use Rattle.directory_read.proofs.number_in.Tie as tie
 
-pub number-in-spec : {M : Type 1} → statement M
-number-in-spec =
+pub number_in_spec : {M : Type 1} → statement M
+number_in_spec =
     tie.close
     (tie.spec
     (λ c κs. search (rules, slotted))

@@ -4,8 +4,8 @@ use Rattle.directory.proofs.Slots.{slotted}
 use Rattle.directory_read.proofs.plain.Statement.{statement}
 use Rattle.directory_read.proofs.plain.Tie as tie
 
-pub plain-spec : {M : Type 1} → statement M
-plain-spec =
+pub plain_spec : {M : Type 1} → statement M
+plain_spec =
     tie.close
     (tie.spec
     (λ c. search (rules, slotted))

@@ -4,8 +4,8 @@ use Rattle.directory.proofs.Slots.{slotted}
 use Rattle.directory_read.proofs.plain_in.Statement.{statement}
 use Rattle.directory_read.proofs.plain_in.Tie as tie
 
-pub plain-in-spec : {M : Type 1} → statement M
-plain-in-spec =
+pub plain_in_spec : {M : Type 1} → statement M
+plain_in_spec =
     tie.close
     (tie.spec
     (λ c κs. search (rules, slotted))

@@ -4,8 +4,8 @@ use Rattle.directory_read.proofs.Spelt.{sizes}
 use Rattle.directory_read.proofs.pointer_at.Statement.{statement}
 use Rattle.directory_read.proofs.pointer_at.Tie as tie
 
-pub pointer-at-spec : {M : Type 1} → statement M
-pointer-at-spec =
+pub pointer_at_spec : {M : Type 1} → statement M
+pointer_at_spec =
     tie.close
     (tie.spec
     (λ c κs. search (rules, sizes))

@@ -4,8 +4,8 @@ use Rattle.directory.proofs.Slots.{slotted}
 use Rattle.directory_read.proofs.signed_in.Statement.{statement}
 use Rattle.directory_read.proofs.signed_in.Tie as tie
 
-pub signed-in-spec : {M : Type 1} → statement M
-signed-in-spec =
+pub signed_in_spec : {M : Type 1} → statement M
+signed_in_spec =
     tie.close
     (tie.spec
     (λ c κs. search (rules, slotted))

@@ -4,8 +4,8 @@ use Rattle.directory_read.proofs.Spelt.{sizes}
 use Rattle.directory_read.proofs.size_in.Statement.{statement}
 use Rattle.directory_read.proofs.size_in.Tie as tie
 
-pub size-in-spec : {M : Type 1} → statement M
-size-in-spec =
+pub size_in_spec : {M : Type 1} → statement M
+size_in_spec =
     tie.close
     (tie.spec
     (λ c κs. search (rules, sizes))

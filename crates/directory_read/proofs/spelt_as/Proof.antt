@@ -4,8 +4,8 @@ use Rattle.directory_read.proofs.Spelt.{spelling}
 use Rattle.directory_read.proofs.spelt_as.Statement.{statement}
 use Rattle.directory_read.proofs.spelt_as.Tie as tie
 
-pub spelt-as-spec : {M : Type 1} → statement M
-spelt-as-spec =
+pub spelt_as_spec : {M : Type 1} → statement M
+spelt_as_spec =
     tie.close
     (tie.spec
     (λ c κs. search (rules, spelling))

@@ -15,8 +15,8 @@ invariant-loop xs n₀ n =
 abbrev decreases-loop : tie.decreases-loop
 decreases-loop xs n₀ n = 12 - n
 
-pub all-narrow-spec : {M : Type 1} → statement M
-all-narrow-spec =
+pub all_narrow_spec : {M : Type 1} → statement M
+all_narrow_spec =
     tie.close
     (tie.spec
     invariant-loop

@@ -4,8 +4,8 @@ use Rattle.directory.proofs.Asked.{meaning}
 use Rattle.directory_rules.proofs.entry_of.Statement.{statement}
 use Rattle.directory_rules.proofs.entry_of.Tie as tie
 
-pub entry-of-spec : {M : Type 1} → statement M
-entry-of-spec =
+pub entry_of_spec : {M : Type 1} → statement M
+entry_of_spec =
     tie.close
     (tie.spec
     (λ c κs. search (rules, meaning))

@@ -4,8 +4,8 @@ use Rattle.directory.proofs.Ranges.{ranging}
 use Rattle.directory_rules.proofs.limits_ok.Statement.{statement}
 use Rattle.directory_rules.proofs.limits_ok.Tie as tie
 
-pub limits-ok-spec : {M : Type 1} → statement M
-limits-ok-spec =
+pub limits_ok_spec : {M : Type 1} → statement M
+limits_ok_spec =
     tie.close
     (tie.spec
     (λ c κs. search (rules, ranging))

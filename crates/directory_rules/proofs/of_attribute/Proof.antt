@@ -4,8 +4,8 @@ use Rattle.directory.proofs.Asked.{wanting}
 use Rattle.directory_rules.proofs.of_attribute.Statement.{statement}
 use Rattle.directory_rules.proofs.of_attribute.Tie as tie
 
-pub of-attribute-spec : {M : Type 1} → statement M
-of-attribute-spec =
+pub of_attribute_spec : {M : Type 1} → statement M
+of_attribute_spec =
     tie.close
     (tie.spec
     (λ c. search (rules, wanting))

@@ -4,8 +4,8 @@ use Rattle.directory.proofs.Asked.{wanting}
 use Rattle.directory_rules.proofs.wanted.Statement.{statement}
 use Rattle.directory_rules.proofs.wanted.Tie as tie
 
-pub wanted-spec : {M : Type 1} → statement M
-wanted-spec =
+pub wanted_spec : {M : Type 1} → statement M
+wanted_spec =
     tie.close
     (tie.spec
     (λ c κs. search (rules, wanting))

@@ -4,8 +4,8 @@ use Rattle.file_globals.proofs.Fielded.{fielded}
 use Rattle.file_globals.proofs.field_at.Statement.{statement}
 use Rattle.file_globals.proofs.field_at.Tie as tie
 
-pub field-at-spec : {M : Type 1} → statement M
-field-at-spec =
+pub field_at_spec : {M : Type 1} → statement M
+field_at_spec =
     tie.close
     (tie.spec
     (λ c κs. search (rules, fielded))

@@ -15,8 +15,8 @@ invariant-loop out₀ q lines at₀ i₀ out at i = (i ≤ lines) × (at ≡ q +
 abbrev decreases-loop : tie.decreases-loop
 decreases-loop out₀ q lines at₀ i₀ out at i = lines - i
 
-pub put-tails-spec : {M : Type 1} → statement M
-put-tails-spec =
+pub put_tails_spec : {M : Type 1} → statement M
+put_tails_spec =
     tie.close
     (tie.spec
     invariant-loop

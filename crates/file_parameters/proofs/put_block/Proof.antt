@@ -1,11 +1,11 @@
 -- The type, the values, the end of the record, the ends of its lines.
 use borrow.Author.Rules.{rules}
-use Rattle.file_parameters.proofs.Blocked.{blocking, block-count, blocked}
+use Rattle.file_parameters.proofs.Blocked.{blocking, block_count_lem, blocked}
 use Rattle.file_parameters.proofs.put_block.Statement.{statement}
 use Rattle.file_parameters.proofs.put_block.Tie as tie
 
-pub put-block-spec : {M : Type 1} → statement M
-put-block-spec =
+pub put_block_spec : {M : Type 1} → statement M
+put_block_spec =
     tie.close
     (tie.spec
     (λ c. search (rules, blocking))
@@ -15,4 +15,4 @@ put-block-spec =
     (λ c. search (rules, blocking))
     (λ c κs. search (rules, blocking))
     (λ c. search (rules, blocking))
-    (λ c. (search (rules, blocked), (search (rules, block-count), (search rules, search rules)))))
+    (λ c. (search (rules, blocked), (search (rules, block_count_lem), (search rules, search rules)))))

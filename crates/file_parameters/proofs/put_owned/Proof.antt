@@ -4,8 +4,8 @@ use Rattle.file_blocks.proofs.Lined.{owning}
 use Rattle.file_parameters.proofs.put_owned.Statement.{statement}
 use Rattle.file_parameters.proofs.put_owned.Tie as tie
 
-pub put-owned-spec : {M : Type 1} → statement M
-put-owned-spec =
+pub put_owned_spec : {M : Type 1} → statement M
+put_owned_spec =
     tie.close
     (tie.spec
     (λ c κs. search (rules, owning))

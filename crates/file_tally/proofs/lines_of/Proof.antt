@@ -4,8 +4,8 @@ use Rattle.file_canonical.proofs.Tallies.{fullness}
 use Rattle.file_tally.proofs.lines_of.Statement.{statement}
 use Rattle.file_tally.proofs.lines_of.Tie as tie
 
-pub lines-of-spec : {M : Type 1} → statement M
-lines-of-spec =
+pub lines_of_spec : {M : Type 1} → statement M
+lines_of_spec =
     tie.close
     (tie.spec
     (λ c κs. search (rules, fullness))

@@ -4,8 +4,8 @@ use Rattle.file_canonical.proofs.Tallies.{said}
 use Rattle.file_tally.proofs.tally_said.Statement.{statement}
 use Rattle.file_tally.proofs.tally_said.Tie as tie
 
-pub tally-said-spec : {M : Type 1} → statement M
-tally-said-spec =
+pub tally_said_spec : {M : Type 1} → statement M
+tally_said_spec =
     tie.close
     (tie.spec
     (λ c. search (rules, said))

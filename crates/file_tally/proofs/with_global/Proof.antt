@@ -4,8 +4,8 @@ use Rattle.file_canonical.proofs.Tallies.{tallies}
 use Rattle.file_tally.proofs.with_global.Statement.{statement}
 use Rattle.file_tally.proofs.with_global.Tie as tie
 
-pub with-global-spec : {M : Type 1} → statement M
-with-global-spec =
+pub with_global_spec : {M : Type 1} → statement M
+with_global_spec =
     tie.close
     (tie.spec
     (λ c κs. search (rules, tallies))

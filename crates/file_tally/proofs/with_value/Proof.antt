@@ -4,8 +4,8 @@ use Rattle.file_canonical.proofs.Tallies.{tallies}
 use Rattle.file_tally.proofs.with_value.Statement.{statement}
 use Rattle.file_tally.proofs.with_value.Tie as tie
 
-pub with-value-spec : {M : Type 1} → statement M
-with-value-spec =
+pub with_value_spec : {M : Type 1} → statement M
+with_value_spec =
     tie.close
     (tie.spec
     (λ c κs. search (rules, tallies))

@@ -4,8 +4,8 @@ use Rattle.file_canonical.proofs.Tallies.{fullness}
 use Rattle.file_tally.proofs.with_values.Statement.{statement}
 use Rattle.file_tally.proofs.with_values.Tie as tie
 
-pub with-values-spec : {M : Type 1} → statement M
-with-values-spec =
+pub with_values_spec : {M : Type 1} → statement M
+with_values_spec =
     tie.close
     (tie.spec
     (λ c κs. search (rules, fullness))

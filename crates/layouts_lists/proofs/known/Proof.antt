@@ -4,8 +4,8 @@ use Rattle.layouts.proofs.Tables.{known-bit, known-not}
 use Rattle.layouts_lists.proofs.known.Statement.{statement}
 use Rattle.layouts_lists.proofs.known.Tie as tie
 
-pub known-spec : {M : Type 1} → statement M
-known-spec =
+pub known_spec : {M : Type 1} → statement M
+known_spec =
     tie.close
     (tie.spec
     (λ c κs. search rules)

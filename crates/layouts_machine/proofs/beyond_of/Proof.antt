@@ -4,8 +4,8 @@ use Rattle.layouts.proofs.Moves.{moves}
 use Rattle.layouts_machine.proofs.beyond_of.Statement.{statement}
 use Rattle.layouts_machine.proofs.beyond_of.Tie as tie
 
-pub beyond-of-spec : {M : Type 1} → statement M
-beyond-of-spec =
+pub beyond_of_spec : {M : Type 1} → statement M
+beyond_of_spec =
     tie.close
     (tie.spec
     (λ c κs. search (rules, moves))

@@ -13,8 +13,8 @@ invariant-loop t₀ n₀ t n = (end t₀ ≡ finish n t) × (n ≤ 16)
 abbrev decreases-loop : tie.decreases-loop
 decreases-loop t₀ n₀ t n = n
 
-pub end-spec : {M : Type 1} → statement M
-end-spec =
+pub end_spec : {M : Type 1} → statement M
+end_spec =
     tie.close
     (tie.spec
     invariant-loop

@@ -4,8 +4,8 @@ use Rattle.layouts.proofs.Moves.{moves}
 use Rattle.layouts_machine.proofs.enter_at.Statement.{statement}
 use Rattle.layouts_machine.proofs.enter_at.Tie as tie
 
-pub enter-at-spec : {M : Type 1} → statement M
-enter-at-spec =
+pub enter_at_spec : {M : Type 1} → statement M
+enter_at_spec =
     tie.close
     (tie.spec
     (λ c κs. search (rules, moves))

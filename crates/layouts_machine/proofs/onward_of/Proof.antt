@@ -4,8 +4,8 @@ use Rattle.layouts.proofs.Moves.{moves}
 use Rattle.layouts_machine.proofs.onward_of.Statement.{statement}
 use Rattle.layouts_machine.proofs.onward_of.Tie as tie
 
-pub onward-of-spec : {M : Type 1} → statement M
-onward-of-spec =
+pub onward_of_spec : {M : Type 1} → statement M
+onward_of_spec =
     tie.close
     (tie.spec
     (λ c. search (rules, moves))

@@ -4,8 +4,8 @@ use Rattle.layouts.proofs.Steps.{running}
 use Rattle.layouts_machine.proofs.runs_on.Statement.{statement}
 use Rattle.layouts_machine.proofs.runs_on.Tie as tie
 
-pub runs-on-spec : {M : Type 1} → statement M
-runs-on-spec =
+pub runs_on_spec : {M : Type 1} → statement M
+runs_on_spec =
     tie.close
     (tie.spec
     (λ c. search (rules, running))

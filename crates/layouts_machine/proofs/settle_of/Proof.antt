@@ -4,8 +4,8 @@ use Rattle.layouts.proofs.Moves.{moves}
 use Rattle.layouts_machine.proofs.settle_of.Statement.{statement}
 use Rattle.layouts_machine.proofs.settle_of.Tie as tie
 
-pub settle-of-spec : {M : Type 1} → statement M
-settle-of-spec =
+pub settle_of_spec : {M : Type 1} → statement M
+settle_of_spec =
     tie.close
     (tie.spec
     (λ c κs. search (rules, moves))

@@ -6,9 +6,9 @@ use Rattle.layouts.proofs.Steps.{start-past}
 use Rattle.layouts_machine.proofs.start_of.Statement.{statement}
 use Rattle.layouts_machine.proofs.start_of.Tie as tie
 
-pub start-of-spec : {M : Type 1} → statement M
+pub start_of_spec : {M : Type 1} → statement M
 unfolding start_of paper
-start-of-spec =
+start_of_spec =
     tie.close
     (tie.spec
     (λ c. search rules)

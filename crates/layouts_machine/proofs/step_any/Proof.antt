@@ -4,8 +4,8 @@ use Rattle.layouts.proofs.Steps.{same_step}
 use Rattle.layouts_machine.proofs.step_any.Statement.{statement}
 use Rattle.layouts_machine.proofs.step_any.Tie as tie
 
-pub step-any-spec : {M : Type 1} → statement M
-step-any-spec =
+pub step_any_spec : {M : Type 1} → statement M
+step_any_spec =
     tie.close
     (tie.spec
     (λ c κs. search rules)

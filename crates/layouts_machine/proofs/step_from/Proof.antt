@@ -4,8 +4,8 @@ use Rattle.layouts.proofs.Steps.{steps}
 use Rattle.layouts_machine.proofs.step_from.Statement.{statement}
 use Rattle.layouts_machine.proofs.step_from.Tie as tie
 
-pub step-from-spec : {M : Type 1} → statement M
-step-from-spec =
+pub step_from_spec : {M : Type 1} → statement M
+step_from_spec =
     tie.close
     (tie.spec
     (λ c κs. search (rules, steps))

@@ -4,8 +4,8 @@ use Rattle.layouts.proofs.Values.{places}
 use Rattle.layouts_machine.proofs.times_in.Statement.{statement}
 use Rattle.layouts_machine.proofs.times_in.Tie as tie
 
-pub times-in-spec : {M : Type 1} → statement M
-times-in-spec =
+pub times_in_spec : {M : Type 1} → statement M
+times_in_spec =
     tie.close
     (tie.spec
     (λ c. search (rules, places))

@@ -4,8 +4,8 @@ use Rattle.layouts.proofs.Tables.{bits}
 use Rattle.layouts_machine.proofs.told_by.Statement.{statement}
 use Rattle.layouts_machine.proofs.told_by.Tie as tie
 
-pub told-by-spec : {M : Type 1} → statement M
-told-by-spec =
+pub told_by_spec : {M : Type 1} → statement M
+told_by_spec =
     tie.close
     (tie.spec
     (λ c. search (rules, bits))

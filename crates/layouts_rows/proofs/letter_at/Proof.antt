@@ -2,14 +2,14 @@
 use mathlib.Core.Path.{refl}
 use Prim.Native.Char.{code}
 use lib.ListN.{take, drop}
-use Rattle.layouts.specs.Coded.{shapes, codes, letterAt}
-use Rattle.layouts.proofs.Tables.{spots, letter-is, letter-rest}
+use Rattle.layouts.specs.Coded.{shapes, codes, letter_at}
+use Rattle.layouts.proofs.Tables.{spots, letter-is, letter_rest}
 use Rattle.layouts_rows.proofs.letter_at.Statement.{statement}
 use Rattle.layouts_rows.proofs.letter_at.Tie as tie
 
-pub letter-at-spec : {M : Type 1} → statement M
-unfolding letterAt codes shapes
-letter-at-spec =
+pub letter_at_spec : {M : Type 1} → statement M
+unfolding letter_at codes shapes
+letter_at_spec =
     tie.close
     (tie.spec
     (λ c. letter-is (spots (code "3") 0 codes) c.before.args.at (code "3") refl c.match.keys1)
@@ -44,4 +44,4 @@ letter-at-spec =
     (λ c. letter-is (spots (code "b") 0 codes) c.before.args.at (code "b") refl c.match.keys30)
     (λ c. letter-is (spots (code "u") 0 codes) c.before.args.at (code "u") refl c.match.keys31)
     (λ c. letter-is (spots (code "I") 0 codes) c.before.args.at (code "I") refl c.match.keys32)
-    (λ c. letter-rest c.before.args.at c.match.rest))
+    (λ c. letter_rest c.before.args.at c.match.rest))

@@ -2,13 +2,13 @@
 use mathlib.Core.Path.{refl}
 use borrow.Author.Rules.{rules}
 use Rattle.layouts.specs.Coded.{shapes, shape_of}
-use Rattle.layouts.proofs.Tables.{shape_is, shape-none}
+use Rattle.layouts.proofs.Tables.{shape_is, shape_none}
 use Rattle.layouts_rows.proofs.shape.Statement.{statement}
 use Rattle.layouts_rows.proofs.shape.Tie as tie
 
-pub shape-spec : {M : Type 1} → statement M
+pub shape_spec : {M : Type 1} → statement M
 unfolding shape_of shapes
-shape-spec =
+shape_spec =
     tie.close
     (tie.spec
     (λ c κs. search rules)
@@ -72,4 +72,4 @@ shape-spec =
     (λ c. shape_is _ _ _ _ c.before.match.keys28 c.of28.ensures refl)
     (λ c. shape_is _ _ _ _ c.before.match.keys29 c.of29.ensures refl)
     (λ c. shape_is _ _ _ _ c.before.match.keys30 c.of30.ensures refl)
-    (λ c. shape-none _ _ c.before.match.rest c.of31.ensures))
+    (λ c. shape_none _ _ c.before.match.rest c.of31.ensures))

@@ -4,8 +4,8 @@ use Rattle.layouts.proofs.Values.{places}
 use Rattle.layouts_takes.proofs.need_of.Statement.{statement}
 use Rattle.layouts_takes.proofs.need_of.Tie as tie
 
-pub need-of-spec : {M : Type 1} → statement M
-need-of-spec =
+pub need_of_spec : {M : Type 1} → statement M
+need_of_spec =
     tie.close
     (tie.spec
     (λ c. search (rules, places))

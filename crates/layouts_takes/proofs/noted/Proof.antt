@@ -4,8 +4,8 @@ use Rattle.layouts.proofs.Values.{places}
 use Rattle.layouts_takes.proofs.noted.Statement.{statement}
 use Rattle.layouts_takes.proofs.noted.Tie as tie
 
-pub noted-spec : {M : Type 1} → statement M
-noted-spec =
+pub noted_spec : {M : Type 1} → statement M
+noted_spec =
     tie.close
     (tie.spec
     (λ c κs. search (rules, places))

@@ -4,8 +4,8 @@ use Rattle.layouts.proofs.Values.{places}
 use Rattle.layouts_takes.proofs.refer_in.Statement.{statement}
 use Rattle.layouts_takes.proofs.refer_in.Tie as tie
 
-pub refer-in-spec : {M : Type 1} → statement M
-refer-in-spec =
+pub refer_in_spec : {M : Type 1} → statement M
+refer_in_spec =
     tie.close
     (tie.spec
     (λ c. search (rules, places))

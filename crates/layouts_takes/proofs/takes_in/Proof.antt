@@ -4,8 +4,8 @@ use Rattle.layouts_takes.proofs.Taking.{kinds}
 use Rattle.layouts_takes.proofs.takes_in.Statement.{statement}
 use Rattle.layouts_takes.proofs.takes_in.Tie as tie
 
-pub takes-in-spec : {M : Type 1} → statement M
-takes-in-spec =
+pub takes_in_spec : {M : Type 1} → statement M
+takes_in_spec =
     tie.close
     (tie.spec
     (λ c. search (rules, kinds))

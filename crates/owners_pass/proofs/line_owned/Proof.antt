@@ -4,8 +4,8 @@ use Rattle.owners.proofs.Laws.{tests}
 use Rattle.owners_pass.proofs.line_owned.Statement.{statement}
 use Rattle.owners_pass.proofs.line_owned.Tie as tie
 
-pub line-owned-spec : {M : Type 1} → statement M
-line-owned-spec =
+pub line_owned_spec : {M : Type 1} → statement M
+line_owned_spec =
     tie.close
     (tie.spec
     (λ c κs. search (rules, tests))

@@ -16,8 +16,8 @@ invariant-loop file at line lines p base q₀ q =
 abbrev decreases-loop : tie.decreases-loop
 decreases-loop file at line lines p base q₀ q = lines * 64 - q
 
-pub behind-blanks-spec : {M : Type 1} → statement M
-behind-blanks-spec =
+pub behind_blanks_spec : {M : Type 1} → statement M
+behind_blanks_spec =
     tie.close
     (tie.spec
     invariant-loop

@@ -1,19 +1,19 @@
 -- A string that runs into the text's end is refused; else what stands behind it decides.
 use borrow.Author.Rules.{rules}
-use Rattle.records_read.proofs.Laws.{ends-laws}
+use Rattle.records_read.proofs.Laws.{ends_laws}
 use Rattle.pieces_ahead.proofs.Jumps.{mapped}
 use Rattle.pieces_ahead.proofs.count_at.Statement.{statement}
 use Rattle.pieces_ahead.proofs.count_at.Tie as tie
 
-pub count-at-spec : {M : Type 1} → statement M
-count-at-spec =
+pub count_at_spec : {M : Type 1} → statement M
+count_at_spec =
     tie.close
     (tie.spec
-    (λ c. search (rules, ends-laws, mapped))
-    (λ c. search (rules, ends-laws, mapped))
-    (λ c. search (rules, ends-laws, mapped))
-    (λ c. search (rules, ends-laws, mapped))
-    (λ c. search (rules, ends-laws, mapped))
-    (λ c κs. search (rules, ends-laws, mapped))
-    (λ c κs. search (rules, ends-laws, mapped))
-    (λ c. search (rules, ends-laws, mapped)))
+    (λ c. search (rules, ends_laws, mapped))
+    (λ c. search (rules, ends_laws, mapped))
+    (λ c. search (rules, ends_laws, mapped))
+    (λ c. search (rules, ends_laws, mapped))
+    (λ c. search (rules, ends_laws, mapped))
+    (λ c κs. search (rules, ends_laws, mapped))
+    (λ c κs. search (rules, ends_laws, mapped))
+    (λ c. search (rules, ends_laws, mapped)))

@@ -4,8 +4,8 @@ use Rattle.pieces_ahead.proofs.Values.{defaults}
 use Rattle.pieces_ahead.proofs.default_of.Statement.{statement}
 use Rattle.pieces_ahead.proofs.default_of.Tie as tie
 
-pub default-of-spec : {M : Type 1} → statement M
-default-of-spec =
+pub default_of_spec : {M : Type 1} → statement M
+default_of_spec =
     tie.close
     (tie.spec
     (λ c. search (rules, defaults))

@@ -4,8 +4,8 @@ use Rattle.pieces_ahead.proofs.Jumps.{jumps}
 use Rattle.pieces_ahead.proofs.jump.Statement.{statement}
 use Rattle.pieces_ahead.proofs.jump.Tie as tie
 
-pub jump-spec : {M : Type 1} → statement M
-jump-spec =
+pub jump_spec : {M : Type 1} → statement M
+jump_spec =
     tie.close
     (tie.spec
     (λ c. search (rules, jumps))

@@ -4,8 +4,8 @@ use Rattle.pieces_ahead.proofs.Values.{shorts}
 use Rattle.pieces_ahead.proofs.short_at.Statement.{statement}
 use Rattle.pieces_ahead.proofs.short_at.Tie as tie
 
-pub short-at-spec : {M : Type 1} → statement M
-short-at-spec =
+pub short_at_spec : {M : Type 1} → statement M
+short_at_spec =
     tie.close
     (tie.spec
     (λ c. search (rules, shorts))

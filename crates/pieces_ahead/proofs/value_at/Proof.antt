@@ -4,8 +4,8 @@ use Rattle.pieces_ahead.proofs.Values.{given}
 use Rattle.pieces_ahead.proofs.value_at.Statement.{statement}
 use Rattle.pieces_ahead.proofs.value_at.Tie as tie
 
-pub value-at-spec : {M : Type 1} → statement M
-value-at-spec =
+pub value_at_spec : {M : Type 1} → statement M
+value_at_spec =
     tie.close
     (tie.spec
     (λ c κs. search (rules, given))

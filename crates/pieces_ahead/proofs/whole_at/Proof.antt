@@ -4,8 +4,8 @@ use Rattle.pieces_ahead.proofs.Values.{wholes}
 use Rattle.pieces_ahead.proofs.whole_at.Statement.{statement}
 use Rattle.pieces_ahead.proofs.whole_at.Tie as tie
 
-pub whole-at-spec : {M : Type 1} → statement M
-whole-at-spec =
+pub whole_at_spec : {M : Type 1} → statement M
+whole_at_spec =
     tie.close
     (tie.spec
     (λ c. search (rules, wholes))

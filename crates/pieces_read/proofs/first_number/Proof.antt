@@ -4,8 +4,8 @@ use Rattle.pieces_read.proofs.Entries.{packs}
 use Rattle.pieces_read.proofs.first_number.Statement.{statement}
 use Rattle.pieces_read.proofs.first_number.Tie as tie
 
-pub first-number-spec : {M : Type 1} → statement M
-first-number-spec =
+pub first_number_spec : {M : Type 1} → statement M
+first_number_spec =
     tie.close
     (tie.spec
     (λ c κs. search (rules, packs))

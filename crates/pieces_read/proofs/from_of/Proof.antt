@@ -4,8 +4,8 @@ use Rattle.pieces_read.proofs.Entries.{reads}
 use Rattle.pieces_read.proofs.from_of.Statement.{statement}
 use Rattle.pieces_read.proofs.from_of.Tie as tie
 
-pub from-of-spec : {M : Type 1} → statement M
-from-of-spec =
+pub from_of_spec : {M : Type 1} → statement M
+from_of_spec =
     tie.close
     (tie.spec
     (λ c κs. search (rules, reads))

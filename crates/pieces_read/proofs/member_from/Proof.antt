@@ -4,8 +4,8 @@ use Rattle.pieces_read.proofs.Entries.{packs}
 use Rattle.pieces_read.proofs.member_from.Statement.{statement}
 use Rattle.pieces_read.proofs.member_from.Tie as tie
 
-pub member-from-spec : {M : Type 1} → statement M
-member-from-spec =
+pub member_from_spec : {M : Type 1} → statement M
+member_from_spec =
     tie.close
     (tie.spec
     (λ c κs. search (rules, packs))

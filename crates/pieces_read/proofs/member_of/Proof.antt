@@ -4,8 +4,8 @@ use Rattle.pieces_read.proofs.Entries.{kinds}
 use Rattle.pieces_read.proofs.member_of.Statement.{statement}
 use Rattle.pieces_read.proofs.member_of.Tie as tie
 
-pub member-of-spec : {M : Type 1} → statement M
-member-of-spec =
+pub member_of_spec : {M : Type 1} → statement M
+member_of_spec =
     tie.close
     (tie.spec
     (λ c κs. search (rules, kinds))

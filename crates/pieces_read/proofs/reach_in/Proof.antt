@@ -4,8 +4,8 @@ use Rattle.pieces_read.proofs.Entries.{packs}
 use Rattle.pieces_read.proofs.reach_in.Statement.{statement}
 use Rattle.pieces_read.proofs.reach_in.Tie as tie
 
-pub reach-in-spec : {M : Type 1} → statement M
-reach-in-spec =
+pub reach_in_spec : {M : Type 1} → statement M
+reach_in_spec =
     tie.close
     (tie.spec
     (λ c κs. search (rules, packs))

@@ -4,8 +4,8 @@ use Rattle.print.proofs.Given.{counting}
 use Rattle.print_globals.proofs.count_from.Statement.{statement}
 use Rattle.print_globals.proofs.count_from.Tie as tie
 
-pub count-from-spec : {M : Type 1} → statement M
-count-from-spec =
+pub count_from_spec : {M : Type 1} → statement M
+count_from_spec =
     tie.close
     (tie.spec
     (λ c κs. search (rules, counting))

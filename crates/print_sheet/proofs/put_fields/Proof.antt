@@ -4,8 +4,8 @@ use Rattle.print.proofs.Wholes.{wholes}
 use Rattle.print_sheet.proofs.put_fields.Statement.{statement}
 use Rattle.print_sheet.proofs.put_fields.Tie as tie
 
-pub put-fields-spec : {M : Type 1} → statement M
-put-fields-spec =
+pub put_fields_spec : {M : Type 1} → statement M
+put_fields_spec =
     tie.close
     (tie.spec
     (λ c. search (rules, wholes))

@@ -4,8 +4,8 @@ use Rattle.print.proofs.Wholes.{wholes}
 use Rattle.print_sheet.proofs.put_sheet.Statement.{statement}
 use Rattle.print_sheet.proofs.put_sheet.Tie as tie
 
-pub put-sheet-spec : {M : Type 1} → statement M
-put-sheet-spec =
+pub put_sheet_spec : {M : Type 1} → statement M
+put_sheet_spec =
     tie.close
     (tie.spec
     (λ c. search (rules, wholes))

@@ -8,9 +8,9 @@ use Rattle.columns.specs.Laid.{Owes}
 use Rattle.values.specs.Value.{item_of}
 use Rattle.directory.specs.Naming.{types_at}
 use Rattle.layouts.specs.Walk.{run}
-use Rattle.read_entities.specs.Marks.{markedFrom}
+use Rattle.read_entities.specs.Marks.{marked_from}
 use Rattle.read_entities.specs.Walking.{owing}
-use Rattle.print.specs.Bytes.{valueBytes}
+use Rattle.print.specs.Bytes.{value_bytes}
 use borrow.Author.Rules.{rules}
 use Rattle.print.proofs.Valued.{owed}
 use Rattle.print_values.proofs.put_owed.Statement.{statement}
@@ -20,14 +20,14 @@ abbrev invariant-loop : tie.invariant-loop
 invariant-loop out₀ at file base lines first n owed v s₀ left₀ next₀ out s left next =
     (next + 1100 * left ≤ at + 1100 * owed) × (length out ≡ length out₀)
     × (run (types_at file first n) s (owing left (item_of (text_of file base 64 lines) v ∷ [])) ≡ run (types_at file first n) s₀ (owing owed (item_of (text_of file base 64 lines) v ∷ [])))
-    × Owes out₀ at (valueBytes (markedFrom (types_at file first n) s₀ (owing owed (item_of (text_of file base 64 lines) v ∷ [])))) out next
-    (valueBytes (markedFrom (types_at file first n) s (owing left (item_of (text_of file base 64 lines) v ∷ []))))
+    × Owes out₀ at (value_bytes (marked_from (types_at file first n) s₀ (owing owed (item_of (text_of file base 64 lines) v ∷ [])))) out next
+    (value_bytes (marked_from (types_at file first n) s (owing left (item_of (text_of file base 64 lines) v ∷ []))))
 
 abbrev decreases-loop : tie.decreases-loop
 decreases-loop out₀ at file base lines first n owed v s₀ left₀ next₀ out s left next = left
 
-pub put-owed-spec : {M : Type 1} → statement M
-put-owed-spec =
+pub put_owed_spec : {M : Type 1} → statement M
+put_owed_spec =
     tie.close
     (tie.spec
     invariant-loop

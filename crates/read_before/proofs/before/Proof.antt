@@ -4,8 +4,8 @@ use Rattle.read_passes.proofs.Whole.{wholes}
 use Rattle.read_before.proofs.before.Statement.{statement}
 use Rattle.read_before.proofs.before.Tie as tie
 
-pub before-spec : {M : Type 1} → statement M
-before-spec =
+pub before_spec : {M : Type 1} → statement M
+before_spec =
     tie.close
     (tie.spec
     (λ c κs. search (rules, wholes))

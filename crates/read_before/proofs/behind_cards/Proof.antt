@@ -4,8 +4,8 @@ use Rattle.read_passes.proofs.Whole.{wholes}
 use Rattle.read_before.proofs.behind_cards.Statement.{statement}
 use Rattle.read_before.proofs.behind_cards.Tie as tie
 
-pub behind-cards-spec : {M : Type 1} → statement M
-behind-cards-spec =
+pub behind_cards_spec : {M : Type 1} → statement M
+behind_cards_spec =
     tie.close
     (tie.spec
     (λ c κs. search (rules, wholes))

@@ -4,8 +4,8 @@ use Rattle.read_weights.proofs.Weights.{weighs}
 use Rattle.read_check.proofs.weigh.Statement.{statement}
 use Rattle.read_check.proofs.weigh.Tie as tie
 
-pub weigh-spec : {M : Type 1} → statement M
-weigh-spec =
+pub weigh_spec : {M : Type 1} → statement M
+weigh_spec =
     tie.close
     (tie.spec
     (λ c κs. search (rules, weighs))

@@ -4,8 +4,8 @@ use Rattle.read_passes.proofs.Referring.{turns}
 use Rattle.read_directory.proofs.entry_check.Statement.{statement}
 use Rattle.read_directory.proofs.entry_check.Tie as tie
 
-pub entry-check-spec : {M : Type 1} → statement M
-entry-check-spec =
+pub entry_check_spec : {M : Type 1} → statement M
+entry_check_spec =
     tie.close
     (tie.spec
     (λ c κs. search (rules, turns))

@@ -4,8 +4,8 @@ use Rattle.read_entity.proofs.Weighing.{passes}
 use Rattle.read_entity.proofs.entity_pass.Statement.{statement}
 use Rattle.read_entity.proofs.entity_pass.Tie as tie
 
-pub entity-pass-spec : {M : Type 1} → statement M
-entity-pass-spec =
+pub entity_pass_spec : {M : Type 1} → statement M
+entity_pass_spec =
     tie.close
     (tie.spec
     (λ c κs. search (rules, passes))

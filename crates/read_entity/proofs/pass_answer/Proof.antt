@@ -4,8 +4,8 @@ use Rattle.read_entity.proofs.Weighing.{answers}
 use Rattle.read_entity.proofs.pass_answer.Statement.{statement}
 use Rattle.read_entity.proofs.pass_answer.Tie as tie
 
-pub pass-answer-spec : {M : Type 1} → statement M
-pass-answer-spec =
+pub pass_answer_spec : {M : Type 1} → statement M
+pass_answer_spec =
     tie.close
     (tie.spec
     (λ c. search (rules, answers))

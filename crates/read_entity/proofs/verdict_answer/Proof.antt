@@ -4,8 +4,8 @@ use Rattle.read_entities.proofs.Passes.{answering}
 use Rattle.read_entity.proofs.verdict_answer.Statement.{statement}
 use Rattle.read_entity.proofs.verdict_answer.Tie as tie
 
-pub verdict-answer-spec : {M : Type 1} → statement M
-verdict-answer-spec =
+pub verdict_answer_spec : {M : Type 1} → statement M
+verdict_answer_spec =
     tie.close
     (tie.spec
     (λ c. search (rules, answering))

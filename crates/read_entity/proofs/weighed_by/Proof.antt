@@ -4,8 +4,8 @@ use Rattle.read_entity.proofs.Weighing.{weighed}
 use Rattle.read_entity.proofs.weighed_by.Statement.{statement}
 use Rattle.read_entity.proofs.weighed_by.Tie as tie
 
-pub weighed-by-spec : {M : Type 1} → statement M
-weighed-by-spec =
+pub weighed_by_spec : {M : Type 1} → statement M
+weighed_by_spec =
     tie.close
     (tie.spec
     (λ c. search rules)

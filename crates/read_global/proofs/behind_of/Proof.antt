@@ -4,8 +4,8 @@ use Rattle.read_passes.proofs.GlobalText.{gots}
 use Rattle.read_global.proofs.behind_of.Statement.{statement}
 use Rattle.read_global.proofs.behind_of.Tie as tie
 
-pub behind-of-spec : {M : Type 1} → statement M
-behind-of-spec =
+pub behind_of_spec : {M : Type 1} → statement M
+behind_of_spec =
     tie.close
     (tie.spec
     (λ c. search (rules, gots))

@@ -4,8 +4,8 @@ use Rattle.read_global.proofs.GlobalAnswers.{answering}
 use Rattle.read_global.proofs.done_pass.Statement.{statement}
 use Rattle.read_global.proofs.done_pass.Tie as tie
 
-pub done-pass-spec : {M : Type 1} → statement M
-done-pass-spec =
+pub done_pass_spec : {M : Type 1} → statement M
+done_pass_spec =
     tie.close
     (tie.spec
     (λ c κs. search (rules, answering))

@@ -4,8 +4,8 @@ use Rattle.read_global.proofs.GlobalAnswers.{answering}
 use Rattle.read_global.proofs.globals.Statement.{statement}
 use Rattle.read_global.proofs.globals.Tie as tie
 
-pub globals-spec : {M : Type 1} → statement M
-globals-spec =
+pub globals_spec : {M : Type 1} → statement M
+globals_spec =
     tie.close
     (tie.spec
     (λ c κs. search (rules, answering))

@@ -4,8 +4,8 @@ use Rattle.read_passes.proofs.GlobalText.{texts}
 use Rattle.read_global.proofs.no_stray.Statement.{statement}
 use Rattle.read_global.proofs.no_stray.Tie as tie
 
-pub no-stray-spec : {M : Type 1} → statement M
-no-stray-spec =
+pub no_stray_spec : {M : Type 1} → statement M
+no_stray_spec =
     tie.close
     (tie.spec
     (λ c κs. search (rules, texts))

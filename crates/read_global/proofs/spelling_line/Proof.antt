@@ -4,8 +4,8 @@ use Rattle.read_passes.proofs.GlobalText.{texts}
 use Rattle.read_global.proofs.spelling_line.Statement.{statement}
 use Rattle.read_global.proofs.spelling_line.Tie as tie
 
-pub spelling-line-spec : {M : Type 1} → statement M
-spelling-line-spec =
+pub spelling_line_spec : {M : Type 1} → statement M
+spelling_line_spec =
     tie.close
     (tie.spec
     (λ c κs. search (rules, texts))

@@ -4,8 +4,8 @@ use Rattle.read_passes.proofs.GlobalText.{gots}
 use Rattle.read_global.proofs.start_of.Statement.{statement}
 use Rattle.read_global.proofs.start_of.Tie as tie
 
-pub start-of-spec : {M : Type 1} → statement M
-start-of-spec =
+pub start_of_spec : {M : Type 1} → statement M
+start_of_spec =
     tie.close
     (tie.spec
     (λ c. search (rules, gots))

@@ -4,8 +4,8 @@ use Rattle.read_global.proofs.GlobalAnswers.{answering}
 use Rattle.read_global.proofs.values_pass.Statement.{statement}
 use Rattle.read_global.proofs.values_pass.Tie as tie
 
-pub values-pass-spec : {M : Type 1} → statement M
-values-pass-spec =
+pub values_pass_spec : {M : Type 1} → statement M
+values_pass_spec =
     tie.close
     (tie.spec
     (λ c κs. search (rules, answering))

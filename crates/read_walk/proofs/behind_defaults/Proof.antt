@@ -15,8 +15,8 @@ invariant-loop file first n owed state₀ left₀ state left = run (types_at fil
 abbrev decreases-loop : tie.decreases-loop
 decreases-loop file first n owed state₀ left₀ state left = left
 
-pub behind-defaults-spec : {M : Type 1} → statement M
-behind-defaults-spec =
+pub behind_defaults_spec : {M : Type 1} → statement M
+behind_defaults_spec =
     tie.close
     (tie.spec
     invariant-loop

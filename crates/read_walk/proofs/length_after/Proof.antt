@@ -4,8 +4,8 @@ use Rattle.read_entities.proofs.Walks.{measures}
 use Rattle.read_walk.proofs.length_after.Statement.{statement}
 use Rattle.read_walk.proofs.length_after.Tie as tie
 
-pub length-after-spec : {M : Type 1} → statement M
-length-after-spec =
+pub length_after_spec : {M : Type 1} → statement M
+length_after_spec =
     tie.close
     (tie.spec
     (λ c. search rules)

@@ -4,8 +4,8 @@ use Rattle.read_entities.proofs.Walks.{owes}
 use Rattle.read_walk.proofs.owed_after.Statement.{statement}
 use Rattle.read_walk.proofs.owed_after.Tie as tie
 
-pub owed-after-spec : {M : Type 1} → statement M
-owed-after-spec =
+pub owed_after_spec : {M : Type 1} → statement M
+owed_after_spec =
     tie.close
     (tie.spec
     (λ c κs. search (rules, owes))

@@ -4,8 +4,8 @@ use Rattle.read_entities.proofs.Walks.{states}
 use Rattle.read_walk.proofs.state_after.Statement.{statement}
 use Rattle.read_walk.proofs.state_after.Tie as tie
 
-pub state-after-spec : {M : Type 1} → statement M
-state-after-spec =
+pub state_after_spec : {M : Type 1} → statement M
+state_after_spec =
     tie.close
     (tie.spec
     (λ c κs. search rules)

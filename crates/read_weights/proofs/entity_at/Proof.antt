@@ -4,8 +4,8 @@ use Rattle.read_weights.proofs.Weighing.{ones}
 use Rattle.read_weights.proofs.entity_at.Statement.{statement}
 use Rattle.read_weights.proofs.entity_at.Tie as tie
 
-pub entity-at-spec : {M : Type 1} → statement M
-entity-at-spec =
+pub entity_at_spec : {M : Type 1} → statement M
+entity_at_spec =
     tie.close
     (tie.spec
     (λ c κs. search (rules, ones))

@@ -4,8 +4,8 @@ use Rattle.read_weights.proofs.Entity.{records}
 use Rattle.read_weights.proofs.record_answer.Statement.{statement}
 use Rattle.read_weights.proofs.record_answer.Tie as tie
 
-pub record-answer-spec : {M : Type 1} → statement M
-record-answer-spec =
+pub record_answer_spec : {M : Type 1} → statement M
+record_answer_spec =
     tie.close
     (tie.spec
     (λ c κs. search (rules, records))

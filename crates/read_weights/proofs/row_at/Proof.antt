@@ -4,8 +4,8 @@ use Rattle.read_weights.proofs.Weighing.{parts}
 use Rattle.read_weights.proofs.row_at.Statement.{statement}
 use Rattle.read_weights.proofs.row_at.Tie as tie
 
-pub row-at-spec : {M : Type 1} → statement M
-row-at-spec =
+pub row_at_spec : {M : Type 1} → statement M
+row_at_spec =
     tie.close
     (tie.spec
     (λ c κs. search (rules, parts))

@@ -4,8 +4,8 @@ use Rattle.records.proofs.Puts.{puts}
 use Rattle.records_flow.proofs.gap_of.Statement.{statement}
 use Rattle.records_flow.proofs.gap_of.Tie as tie
 
-pub gap-of-spec : {M : Type 1} → statement M
-gap-of-spec =
+pub gap_of_spec : {M : Type 1} → statement M
+gap_of_spec =
     tie.close
     (tie.spec
     (λ c κs. search (rules, puts))

@@ -4,8 +4,8 @@ use Rattle.records.proofs.Puts.{ends}
 use Rattle.records_flow.proofs.piece_end.Statement.{statement}
 use Rattle.records_flow.proofs.piece_end.Tie as tie
 
-pub piece-end-spec : {M : Type 1} → statement M
-piece-end-spec =
+pub piece_end_spec : {M : Type 1} → statement M
+piece_end_spec =
     tie.close
     (tie.spec
     (λ c κs. search (rules, ends))

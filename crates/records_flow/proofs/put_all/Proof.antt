@@ -4,8 +4,8 @@ use Rattle.records.proofs.Puts.{puts}
 use Rattle.records_flow.proofs.put_all.Statement.{statement}
 use Rattle.records_flow.proofs.put_all.Tie as tie
 
-pub put-all-spec : {M : Type 1} → statement M
-put-all-spec =
+pub put_all_spec : {M : Type 1} → statement M
+put_all_spec =
     tie.close
     (tie.spec
     (λ c κs. search (rules, puts))

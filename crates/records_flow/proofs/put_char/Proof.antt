@@ -4,8 +4,8 @@ use Rattle.records.proofs.Puts.{puts}
 use Rattle.records_flow.proofs.put_char.Statement.{statement}
 use Rattle.records_flow.proofs.put_char.Tie as tie
 
-pub put-char-spec : {M : Type 1} → statement M
-put-char-spec =
+pub put_char_spec : {M : Type 1} → statement M
+put_char_spec =
     tie.close
     (tie.spec
     (λ c. search (rules, puts))

@@ -15,8 +15,8 @@ invariant-loop out₀ base w p s next₀ i₀ out next i =
 abbrev decreases-loop : tie.decreases-loop
 decreases-loop out₀ base w p s next₀ i₀ out next i = length s - i
 
-pub put-each-spec : {M : Type 1} → statement M
-put-each-spec =
+pub put_each_spec : {M : Type 1} → statement M
+put_each_spec =
     tie.close
     (tie.spec
     invariant-loop

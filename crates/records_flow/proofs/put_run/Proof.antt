@@ -4,8 +4,8 @@ use Rattle.records.proofs.Puts.{puts}
 use Rattle.records_flow.proofs.put_run.Statement.{statement}
 use Rattle.records_flow.proofs.put_run.Tie as tie
 
-pub put-run-spec : {M : Type 1} → statement M
-put-run-spec =
+pub put_run_spec : {M : Type 1} → statement M
+put_run_spec =
     tie.close
     (tie.spec
     (λ c. search (rules, puts))

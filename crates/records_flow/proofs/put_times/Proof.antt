@@ -15,8 +15,8 @@ invariant-loop out₀ base w p b count next₀ i₀ out next i =
 abbrev decreases-loop : tie.decreases-loop
 decreases-loop out₀ base w p b count next₀ i₀ out next i = count - i
 
-pub put-times-spec : {M : Type 1} → statement M
-put-times-spec =
+pub put_times_spec : {M : Type 1} → statement M
+put_times_spec =
     tie.close
     (tie.spec
     invariant-loop

@@ -4,8 +4,8 @@ use Rattle.records.proofs.Globals.{fields}
 use Rattle.records_global.proofs.global_fits.Statement.{statement}
 use Rattle.records_global.proofs.global_fits.Tie as tie
 
-pub global-fits-spec : {M : Type 1} → statement M
-global-fits-spec =
+pub global_fits_spec : {M : Type 1} → statement M
+global_fits_spec =
     tie.close
     (tie.spec
     (λ c. search (rules, fields))

@@ -4,8 +4,8 @@ use Rattle.records.proofs.Globals.{fields}
 use Rattle.records_global.proofs.is_kind.Statement.{statement}
 use Rattle.records_global.proofs.is_kind.Tie as tie
 
-pub is-kind-spec : {M : Type 1} → statement M
-is-kind-spec =
+pub is_kind_spec : {M : Type 1} → statement M
+is_kind_spec =
     tie.close
     (tie.spec
     (λ c. search (rules, fields))

@@ -6,9 +6,9 @@ use Rattle.records.proofs.Globals.{fields}
 use Rattle.records_global.proofs.kind_of.Statement.{statement}
 use Rattle.records_global.proofs.kind_of.Tie as tie
 
-pub kind-of-spec : {M : Type 1} → statement M
+pub kind_of_spec : {M : Type 1} → statement M
 unfolding kind_of
-kind-of-spec =
+kind_of_spec =
     tie.close
     (tie.spec
     (λ c. sym (ap kind_of c.match.keys1))

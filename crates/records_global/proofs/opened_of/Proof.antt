@@ -4,8 +4,8 @@ use Rattle.records.proofs.Globals.{marks}
 use Rattle.records_global.proofs.opened_of.Statement.{statement}
 use Rattle.records_global.proofs.opened_of.Tie as tie
 
-pub opened-of-spec : {M : Type 1} → statement M
-opened-of-spec =
+pub opened_of_spec : {M : Type 1} → statement M
+opened_of_spec =
     tie.close
     (tie.spec
     (λ c κs. search (rules, marks))

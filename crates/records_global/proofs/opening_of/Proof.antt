@@ -4,8 +4,8 @@ use Rattle.records.proofs.Globals.{openings}
 use Rattle.records_global.proofs.opening_of.Statement.{statement}
 use Rattle.records_global.proofs.opening_of.Tie as tie
 
-pub opening-of-spec : {M : Type 1} → statement M
-opening-of-spec =
+pub opening_of_spec : {M : Type 1} → statement M
+opening_of_spec =
     tie.close
     (tie.spec
     (λ c κs. search (rules, openings))

@@ -4,8 +4,8 @@ use Rattle.records.proofs.Globals.{marks}
 use Rattle.records_global.proofs.sets_apart.Statement.{statement}
 use Rattle.records_global.proofs.sets_apart.Tie as tie
 
-pub sets-apart-spec : {M : Type 1} → statement M
-sets-apart-spec =
+pub sets_apart_spec : {M : Type 1} → statement M
+sets_apart_spec =
     tie.close
     (tie.spec
     (λ c. search (rules, marks))

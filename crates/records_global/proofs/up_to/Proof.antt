@@ -4,8 +4,8 @@ use Rattle.records.proofs.Globals.{fields}
 use Rattle.records_global.proofs.up_to.Statement.{statement}
 use Rattle.records_global.proofs.up_to.Tie as tie
 
-pub up-to-spec : {M : Type 1} → statement M
-up-to-spec =
+pub up_to_spec : {M : Type 1} → statement M
+up_to_spec =
     tie.close
     (tie.spec
     (λ c. search (rules, fields))

@@ -16,8 +16,8 @@ invariant-loop file base w lines p q₀ q =
 abbrev decreases-loop : tie.decreases-loop
 decreases-loop file base w lines p q₀ q = lines * w - q
 
-pub behind-blanks-spec : {M : Type 1} → statement M
-behind-blanks-spec =
+pub behind_blanks_spec : {M : Type 1} → statement M
+behind_blanks_spec =
     tie.close
     (tie.spec
     invariant-loop

@@ -4,8 +4,8 @@ use Rattle.records_read.proofs.Laws.{laws}
 use Rattle.records_read.proofs.char_at.Statement.{statement}
 use Rattle.records_read.proofs.char_at.Tie as tie
 
-pub char-at-spec : {M : Type 1} → statement M
-char-at-spec =
+pub char_at_spec : {M : Type 1} → statement M
+char_at_spec =
     tie.close
     (tie.spec
     (λ c. search (rules, laws))

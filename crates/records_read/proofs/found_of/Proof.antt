@@ -4,8 +4,8 @@ use Rattle.records_read.proofs.Laws.{laws}
 use Rattle.records_read.proofs.found_of.Statement.{statement}
 use Rattle.records_read.proofs.found_of.Tie as tie
 
-pub found-of-spec : {M : Type 1} → statement M
-found-of-spec =
+pub found_of_spec : {M : Type 1} → statement M
+found_of_spec =
     tie.close
     (tie.spec
     (λ c. search (rules, laws))

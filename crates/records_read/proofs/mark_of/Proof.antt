@@ -4,8 +4,8 @@ use Rattle.records_read.proofs.Laws.{laws}
 use Rattle.records_read.proofs.mark_of.Statement.{statement}
 use Rattle.records_read.proofs.mark_of.Tie as tie
 
-pub mark-of-spec : {M : Type 1} → statement M
-mark-of-spec =
+pub mark_of_spec : {M : Type 1} → statement M
+mark_of_spec =
     tie.close
     (tie.spec
     (λ c. search (rules, laws))

@@ -4,8 +4,8 @@ use Rattle.records_read.proofs.Laws.{laws}
 use Rattle.records_read.proofs.next_at.Statement.{statement}
 use Rattle.records_read.proofs.next_at.Tie as tie
 
-pub next-at-spec : {M : Type 1} → statement M
-next-at-spec =
+pub next_at_spec : {M : Type 1} → statement M
+next_at_spec =
     tie.close
     (tie.spec
     (λ c κs. search (rules, laws))

@@ -4,8 +4,8 @@ use Rattle.records_read.proofs.Laws.{laws}
 use Rattle.records_read.proofs.plain_of.Statement.{statement}
 use Rattle.records_read.proofs.plain_of.Tie as tie
 
-pub plain-of-spec : {M : Type 1} → statement M
-plain-of-spec =
+pub plain_of_spec : {M : Type 1} → statement M
+plain_of_spec =
     tie.close
     (tie.spec
     (λ c. search (rules, laws))

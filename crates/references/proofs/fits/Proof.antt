@@ -3,8 +3,8 @@ use Rattle.references.proofs.Classes.{classes}
 use Rattle.references.proofs.fits.Statement.{statement}
 use Rattle.references.proofs.fits.Tie as tie
 
-pub fits-spec : {M : Type 1} → statement M
-fits-spec =
+pub fits_spec : {M : Type 1} → statement M
+fits_spec =
     tie.close
     (tie.spec
     (λ c. search (rules, classes))

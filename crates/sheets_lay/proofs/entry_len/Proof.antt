@@ -4,8 +4,8 @@ use Rattle.sheets.proofs.Measured.{measured}
 use Rattle.sheets_lay.proofs.entry_len.Statement.{statement}
 use Rattle.sheets_lay.proofs.entry_len.Tie as tie
 
-pub entry-len-spec : {M : Type 1} → statement M
-entry-len-spec =
+pub entry_len_spec : {M : Type 1} → statement M
+entry_len_spec =
     tie.close
     (tie.spec
     (λ c κs. search (rules, measured))

@@ -15,8 +15,8 @@ invariant-loop numbers xs₀ k₀ xs k =
 abbrev decreases-loop : tie.decreases-loop
 decreases-loop numbers xs₀ k₀ xs k = 12 - k
 
-pub in-order-spec : {M : Type 1} → statement M
-in-order-spec =
+pub in_order_spec : {M : Type 1} → statement M
+in_order_spec =
     tie.close
     (tie.spec
     invariant-loop

@@ -4,8 +4,8 @@ use Rattle.sheets.proofs.Measured.{measured}
 use Rattle.sheets_lay.proofs.num_len.Statement.{statement}
 use Rattle.sheets_lay.proofs.num_len.Tie as tie
 
-pub num-len-spec : {M : Type 1} → statement M
-num-len-spec =
+pub num_len_spec : {M : Type 1} → statement M
+num_len_spec =
     tie.close
     (tie.spec
     (λ c κs. search (rules, measured))

@@ -14,8 +14,8 @@ invariant-loop xs left₀ k₀ size₀ left k size = (k + left ≡ 13) × (size 
 abbrev decreases-loop : tie.decreases-loop
 decreases-loop xs left₀ k₀ size₀ left k size = left
 
-pub numbers-len-spec : {M : Type 1} → statement M
-numbers-len-spec =
+pub numbers_len_spec : {M : Type 1} → statement M
+numbers_len_spec =
     tie.close
     (tie.spec
     invariant-loop

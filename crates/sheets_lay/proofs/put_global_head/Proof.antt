@@ -4,8 +4,8 @@ use Rattle.sheets.proofs.Written.{heads}
 use Rattle.sheets_lay.proofs.put_global_head.Statement.{statement}
 use Rattle.sheets_lay.proofs.put_global_head.Tie as tie
 
-pub put-global-head-spec : {M : Type 1} → statement M
-put-global-head-spec =
+pub put_global_head_spec : {M : Type 1} → statement M
+put_global_head_spec =
     tie.close
     (tie.spec
     (λ c κs. search (rules, heads))

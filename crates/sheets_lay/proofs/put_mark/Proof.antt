@@ -4,8 +4,8 @@ use Rattle.sheets.proofs.Written.{puts}
 use Rattle.sheets_lay.proofs.put_mark.Statement.{statement}
 use Rattle.sheets_lay.proofs.put_mark.Tie as tie
 
-pub put-mark-spec : {M : Type 1} → statement M
-put-mark-spec =
+pub put_mark_spec : {M : Type 1} → statement M
+put_mark_spec =
     tie.close
     (tie.spec
     (λ c κs. search (rules, puts))

@@ -4,8 +4,8 @@ use Rattle.sheets.proofs.Written.{written}
 use Rattle.sheets_lay.proofs.put_num.Statement.{statement}
 use Rattle.sheets_lay.proofs.put_num.Tie as tie
 
-pub put-num-spec : {M : Type 1} → statement M
-put-num-spec =
+pub put_num_spec : {M : Type 1} → statement M
+put_num_spec =
     tie.close
     (tie.spec
     (λ c. search (rules, written))

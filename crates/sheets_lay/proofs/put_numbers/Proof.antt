@@ -15,8 +15,8 @@ invariant-loop out₀ at xs left₀ k₀ next₀ out left k next = (k + left ≡
 abbrev decreases-loop : tie.decreases-loop
 decreases-loop out₀ at xs left₀ k₀ next₀ out left k next = left
 
-pub put-numbers-spec : {M : Type 1} → statement M
-put-numbers-spec =
+pub put_numbers_spec : {M : Type 1} → statement M
+put_numbers_spec =
     tie.close
     (tie.spec
     invariant-loop

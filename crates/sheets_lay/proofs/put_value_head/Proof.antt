@@ -4,8 +4,8 @@ use Rattle.sheets.proofs.Written.{heads}
 use Rattle.sheets_lay.proofs.put_value_head.Statement.{statement}
 use Rattle.sheets_lay.proofs.put_value_head.Tie as tie
 
-pub put-value-head-spec : {M : Type 1} → statement M
-put-value-head-spec =
+pub put_value_head_spec : {M : Type 1} → statement M
+put_value_head_spec =
     tie.close
     (tie.spec
     (λ c κs. search (rules, heads))

@@ -4,7 +4,7 @@ use Prim.Native.Nat.{◌+◌, ◌-◌, ◌≤◌}
 use Rattle.columns.specs.Columns.{columns}
 use Rattle.sheets.specs.Line.{run}
 use borrow.Author.Rules.{rules}
-use Rattle.sheets.proofs.Plains.{end-0, end-1, end-2, end-3, on-4, end_rest}
+use Rattle.sheets.proofs.Plains.{end_0, end_1, end_2, end_3, on_4, end_rest}
 use Rattle.sheets_numbers.proofs.find.Statement.{statement}
 use Rattle.sheets_numbers.proofs.find.Tie as tie
 
@@ -23,21 +23,21 @@ find_spec =
     (λ c. search rules)
     (λ c. search rules)
     (λ c. search rules)
-    (λ c. search (rules, end-0))
+    (λ c. search (rules, end_0))
     (λ c. search rules)
     (λ c. search rules)
     (λ c. search rules)
-    (λ c. search (rules, end-1))
+    (λ c. search (rules, end_1))
     (λ c. search rules)
     (λ c. search rules)
     (λ c. search rules)
-    (λ c. search (rules, end-2))
+    (λ c. search (rules, end_2))
     (λ c. search rules)
     (λ c. search rules)
     (λ c. search rules)
-    (λ c. search (rules, end-3))
+    (λ c. search (rules, end_3))
     (λ c. search rules)
     (λ c. search rules)
-    (λ c. search (rules, on-4))
+    (λ c. search (rules, on_4))
     (λ c κs. search rules)
     (λ c. search (rules, end_rest)))

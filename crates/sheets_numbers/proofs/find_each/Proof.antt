@@ -14,8 +14,8 @@ invariant-loop s c at end i₀ i = (at ≤ i) × (i ≤ end) × (i + run c (colu
 abbrev decreases-loop : tie.decreases-loop
 decreases-loop s c at end i₀ i = end - i
 
-pub find-each-spec : {M : Type 1} → statement M
-find-each-spec =
+pub find_each_spec : {M : Type 1} → statement M
+find_each_spec =
     tie.close
     (tie.spec
     invariant-loop

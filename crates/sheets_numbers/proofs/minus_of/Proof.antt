@@ -4,8 +4,8 @@ use Rattle.sheets.proofs.Plains.{numbers}
 use Rattle.sheets_numbers.proofs.minus_of.Statement.{statement}
 use Rattle.sheets_numbers.proofs.minus_of.Tie as tie
 
-pub minus-of-spec : {M : Type 1} → statement M
-minus-of-spec =
+pub minus_of_spec : {M : Type 1} → statement M
+minus_of_spec =
     tie.close
     (tie.spec
     (λ c. search (rules, numbers))

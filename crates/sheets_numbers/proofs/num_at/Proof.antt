@@ -4,8 +4,8 @@ use Rattle.sheets.proofs.Plains.{numbers}
 use Rattle.sheets_numbers.proofs.num_at.Statement.{statement}
 use Rattle.sheets_numbers.proofs.num_at.Tie as tie
 
-pub num-at-spec : {M : Type 1} → statement M
-num-at-spec =
+pub num_at_spec : {M : Type 1} → statement M
+num_at_spec =
     tie.close
     (tie.spec
     (λ c κs. search (rules, numbers))

@@ -4,8 +4,8 @@ use Rattle.sheets.proofs.Plains.{numbers}
 use Rattle.sheets_numbers.proofs.signed_at.Statement.{statement}
 use Rattle.sheets_numbers.proofs.signed_at.Tie as tie
 
-pub signed-at-spec : {M : Type 1} → statement M
-signed-at-spec =
+pub signed_at_spec : {M : Type 1} → statement M
+signed_at_spec =
     tie.close
     (tie.spec
     (λ c. search (rules, numbers))

@@ -4,8 +4,8 @@ use Rattle.sheets.proofs.Plains.{tabs}
 use Rattle.sheets_numbers.proofs.tabbed_at.Statement.{statement}
 use Rattle.sheets_numbers.proofs.tabbed_at.Tie as tie
 
-pub tabbed-at-spec : {M : Type 1} → statement M
-tabbed-at-spec =
+pub tabbed_at_spec : {M : Type 1} → statement M
+tabbed_at_spec =
     tie.close
     (tie.spec
     (λ c. search (rules, tabs))

@@ -4,8 +4,8 @@ use Rattle.sheets.proofs.Machine.{marks}
 use Rattle.sheets_read.proofs.by_mark.Statement.{statement}
 use Rattle.sheets_read.proofs.by_mark.Tie as tie
 
-pub by-mark-spec : {M : Type 1} → statement M
-by-mark-spec =
+pub by_mark_spec : {M : Type 1} → statement M
+by_mark_spec =
     tie.close
     (tie.spec
     (λ c. search (rules, marks))

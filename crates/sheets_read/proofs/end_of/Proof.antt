@@ -4,8 +4,8 @@ use Rattle.sheets.proofs.Machine.{end_of}
 use Rattle.sheets_read.proofs.end_of.Statement.{statement}
 use Rattle.sheets_read.proofs.end_of.Tie as tie
 
-pub end-of-spec : {M : Type 1} → statement M
-end-of-spec =
+pub end_of_spec : {M : Type 1} → statement M
+end_of_spec =
     tie.close
     (tie.spec
     (λ c κs. search (rules, end_of))

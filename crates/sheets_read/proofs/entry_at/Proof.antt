@@ -4,8 +4,8 @@ use Rattle.sheets_read.proofs.Entries.{line}
 use Rattle.sheets_read.proofs.entry_at.Statement.{statement}
 use Rattle.sheets_read.proofs.entry_at.Tie as tie
 
-pub entry-at-spec : {M : Type 1} → statement M
-entry-at-spec =
+pub entry_at_spec : {M : Type 1} → statement M
+entry_at_spec =
     tie.close
     (tie.spec
     (λ c. search (rules, line))

@@ -4,8 +4,8 @@ use Rattle.sheets_read.proofs.Entries.{rows}
 use Rattle.sheets_read.proofs.entry_from.Statement.{statement}
 use Rattle.sheets_read.proofs.entry_from.Tie as tie
 
-pub entry-from-spec : {M : Type 1} → statement M
-entry-from-spec =
+pub entry_from_spec : {M : Type 1} → statement M
+entry_from_spec =
     tie.close
     (tie.spec
     (λ c. search (rules, rows))

@@ -4,8 +4,8 @@ use Rattle.sheets.proofs.Machine.{lines}
 use Rattle.sheets_read.proofs.entry_said.Statement.{statement}
 use Rattle.sheets_read.proofs.entry_said.Tie as tie
 
-pub entry-said-spec : {M : Type 1} → statement M
-entry-said-spec =
+pub entry_said_spec : {M : Type 1} → statement M
+entry_said_spec =
     tie.close
     (tie.spec
     (λ c. search (rules, lines))

@@ -4,8 +4,8 @@ use Rattle.sheets.proofs.Machine.{globals}
 use Rattle.sheets_read.proofs.global_of.Statement.{statement}
 use Rattle.sheets_read.proofs.global_of.Tie as tie
 
-pub global-of-spec : {M : Type 1} → statement M
-global-of-spec =
+pub global_of_spec : {M : Type 1} → statement M
+global_of_spec =
     tie.close
     (tie.spec
     (λ c. search (rules, globals))

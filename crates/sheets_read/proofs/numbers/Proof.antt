@@ -4,20 +4,20 @@ use Prim.Native.Nat.{◌+◌, ◌-◌, ◌≤◌}
 use mathlib.Core.List.{[]}
 use lib.ListN.{length, take}
 use Rattle.columns.specs.Columns.{columns}
-use Rattle.sheets.specs.Line.{numbersOf}
+use Rattle.sheets.specs.Line.{numbers_of}
 use borrow.Author.Rules.{rules}
 use Rattle.sheets_read.proofs.Entries.{rows}
 use Rattle.sheets_read.proofs.numbers.Statement.{statement}
 use Rattle.sheets_read.proofs.numbers.Tie as tie
 
 abbrev invariant-loop : tie.invariant-loop
-invariant-loop s at end known xs₀ left₀ k₀ i₀ xs left k i = (k + left ≡ 13) × (length xs ≡ 13) × (at ≤ i) × (i ≤ end) × (numbersOf known left (take k xs) (columns s i end) ≡ numbersOf known 13 [] (columns s at end))
+invariant-loop s at end known xs₀ left₀ k₀ i₀ xs left k i = (k + left ≡ 13) × (length xs ≡ 13) × (at ≤ i) × (i ≤ end) × (numbers_of known left (take k xs) (columns s i end) ≡ numbers_of known 13 [] (columns s at end))
 
 abbrev decreases-loop : tie.decreases-loop
 decreases-loop s at end known xs₀ left₀ k₀ i₀ xs left k i = left
 
-pub numbers-spec : {M : Type 1} → statement M
-numbers-spec =
+pub numbers_spec : {M : Type 1} → statement M
+numbers_spec =
     tie.close
     (tie.spec
     invariant-loop

@@ -5,8 +5,8 @@ use Rattle.sheets.proofs.Bounds.{within}
 use Rattle.sheets_read.proofs.strict_at.Statement.{statement}
 use Rattle.sheets_read.proofs.strict_at.Tie as tie
 
-pub strict-at-spec : {M : Type 1} → statement M
-strict-at-spec =
+pub strict_at_spec : {M : Type 1} → statement M
+strict_at_spec =
     tie.close
     (tie.spec
     (λ c. search (rules, values, within))

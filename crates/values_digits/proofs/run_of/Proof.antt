@@ -4,8 +4,8 @@ use Rattle.values.proofs.Steps.{parts}
 use Rattle.values_digits.proofs.run_of.Statement.{statement}
 use Rattle.values_digits.proofs.run_of.Tie as tie
 
-pub run-of-spec : {M : Type 1} → statement M
-run-of-spec =
+pub run_of_spec : {M : Type 1} → statement M
+run_of_spec =
     tie.close
     (tie.spec
     (λ c. search (rules, parts))

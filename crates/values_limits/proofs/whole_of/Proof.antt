@@ -4,8 +4,8 @@ use Rattle.values.proofs.Steps.{parts}
 use Rattle.values_limits.proofs.whole_of.Statement.{statement}
 use Rattle.values_limits.proofs.whole_of.Tie as tie
 
-pub whole-of-spec : {M : Type 1} → statement M
-whole-of-spec =
+pub whole_of_spec : {M : Type 1} → statement M
+whole_of_spec =
     tie.close
     (tie.spec
     (λ c. search (rules, parts))

@@ -4,8 +4,8 @@ use Rattle.values.proofs.Steps.{numbered}
 use Rattle.values_read.proofs.before_of.Statement.{statement}
 use Rattle.values_read.proofs.before_of.Tie as tie
 
-pub before-of-spec : {M : Type 1} → statement M
-before-of-spec =
+pub before_of_spec : {M : Type 1} → statement M
+before_of_spec =
     tie.close
     (tie.spec
     (λ c. search (rules, numbered))

@@ -4,8 +4,8 @@ use Rattle.values.proofs.Heads.{heads}
 use Rattle.values_read.proofs.head_of.Statement.{statement}
 use Rattle.values_read.proofs.head_of.Tie as tie
 
-pub head-of-spec : {M : Type 1} → statement M
-head-of-spec =
+pub head_of_spec : {M : Type 1} → statement M
+head_of_spec =
     tie.close
     (tie.spec
     (λ c κs. search (rules, heads))

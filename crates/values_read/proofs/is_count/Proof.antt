@@ -4,8 +4,8 @@ use Rattle.values.proofs.Heads.{heads}
 use Rattle.values_read.proofs.is_count.Statement.{statement}
 use Rattle.values_read.proofs.is_count.Tie as tie
 
-pub is-count-spec : {M : Type 1} → statement M
-is-count-spec =
+pub is_count_spec : {M : Type 1} → statement M
+is_count_spec =
     tie.close
     (tie.spec
     (λ c. search (rules, heads))

@@ -4,8 +4,8 @@ use Rattle.values.proofs.Steps.{parts}
 use Rattle.values_read.proofs.point_len.Statement.{statement}
 use Rattle.values_read.proofs.point_len.Tie as tie
 
-pub point-len-spec : {M : Type 1} → statement M
-point-len-spec =
+pub point_len_spec : {M : Type 1} → statement M
+point_len_spec =
     tie.close
     (tie.spec
     (λ c. search (rules, parts))

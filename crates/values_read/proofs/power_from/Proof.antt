@@ -4,8 +4,8 @@ use Rattle.values.proofs.Laws.{laws}
 use Rattle.values_read.proofs.power_from.Statement.{statement}
 use Rattle.values_read.proofs.power_from.Tie as tie
 
-pub power-from-spec : {M : Type 1} → statement M
-power-from-spec =
+pub power_from_spec : {M : Type 1} → statement M
+power_from_spec =
     tie.close
     (tie.spec
     (λ c. search (rules, laws))

@@ -4,8 +4,8 @@ use Rattle.values.proofs.Steps.{powers}
 use Rattle.values_read.proofs.power_of.Statement.{statement}
 use Rattle.values_read.proofs.power_of.Tie as tie
 
-pub power-of-spec : {M : Type 1} → statement M
-power-of-spec =
+pub power_of_spec : {M : Type 1} → statement M
+power_of_spec =
     tie.close
     (tie.spec
     (λ c κs. search (rules, powers))

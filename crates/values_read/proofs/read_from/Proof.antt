@@ -5,8 +5,8 @@ use Rattle.values.proofs.Steps.{numbered}
 use Rattle.values_read.proofs.read_from.Statement.{statement}
 use Rattle.values_read.proofs.read_from.Tie as tie
 
-pub read-from-spec : {M : Type 1} → statement M
-read-from-spec =
+pub read_from_spec : {M : Type 1} → statement M
+read_from_spec =
     tie.close
     (tie.spec
     (λ c κs. search (rules, numbered))

@@ -4,8 +4,8 @@ use Rattle.values.proofs.Steps.{parts}
 use Rattle.values_read.proofs.sign_len.Statement.{statement}
 use Rattle.values_read.proofs.sign_len.Tie as tie
 
-pub sign-len-spec : {M : Type 1} → statement M
-sign-len-spec =
+pub sign_len_spec : {M : Type 1} → statement M
+sign_len_spec =
     tie.close
     (tie.spec
     (λ c. search (rules, parts))

@@ -4,8 +4,8 @@ use Rattle.values_spell.proofs.Lengths.{lengths}
 use Rattle.values_spell.proofs.exponent_len.Statement.{statement}
 use Rattle.values_spell.proofs.exponent_len.Tie as tie
 
-pub exponent-len-spec : {M : Type 1} → statement M
-exponent-len-spec =
+pub exponent_len_spec : {M : Type 1} → statement M
+exponent_len_spec =
     tie.close
     (tie.spec
     (λ c κs. search (rules, lengths))

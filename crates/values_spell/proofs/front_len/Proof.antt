@@ -4,8 +4,8 @@ use Rattle.values_spell.proofs.Lengths.{lengths}
 use Rattle.values_spell.proofs.front_len.Statement.{statement}
 use Rattle.values_spell.proofs.front_len.Tie as tie
 
-pub front-len-spec : {M : Type 1} → statement M
-front-len-spec =
+pub front_len_spec : {M : Type 1} → statement M
+front_len_spec =
     tie.close
     (tie.spec
     (λ c. search rules)

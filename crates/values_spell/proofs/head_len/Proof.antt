@@ -4,8 +4,8 @@ use Rattle.values_spell.proofs.Lengths.{lengths}
 use Rattle.values_spell.proofs.head_len.Statement.{statement}
 use Rattle.values_spell.proofs.head_len.Tie as tie
 
-pub head-len-spec : {M : Type 1} → statement M
-head-len-spec =
+pub head_len_spec : {M : Type 1} → statement M
+head_len_spec =
     tie.close
     (tie.spec
     (λ c κs. search rules)

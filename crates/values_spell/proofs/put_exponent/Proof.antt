@@ -4,8 +4,8 @@ use Rattle.values.proofs.Spells.{spells}
 use Rattle.values_spell.proofs.put_exponent.Statement.{statement}
 use Rattle.values_spell.proofs.put_exponent.Tie as tie
 
-pub put-exponent-spec : {M : Type 1} → statement M
-put-exponent-spec =
+pub put_exponent_spec : {M : Type 1} → statement M
+put_exponent_spec =
     tie.close
     (tie.spec
     (λ c κs. search (rules, spells))

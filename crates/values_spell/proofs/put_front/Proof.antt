@@ -4,8 +4,8 @@ use Rattle.values.proofs.Spells.{spells}
 use Rattle.values_spell.proofs.put_front.Statement.{statement}
 use Rattle.values_spell.proofs.put_front.Tie as tie
 
-pub put-front-spec : {M : Type 1} → statement M
-put-front-spec =
+pub put_front_spec : {M : Type 1} → statement M
+put_front_spec =
     tie.close
     (tie.spec
     (λ c. search (rules, spells))

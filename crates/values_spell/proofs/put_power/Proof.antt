@@ -4,8 +4,8 @@ use Rattle.values.proofs.Spells.{spells}
 use Rattle.values_spell.proofs.put_power.Statement.{statement}
 use Rattle.values_spell.proofs.put_power.Tie as tie
 
-pub put-power-spec : {M : Type 1} → statement M
-put-power-spec =
+pub put_power_spec : {M : Type 1} → statement M
+put_power_spec =
     tie.close
     (tie.spec
     (λ c κs. search (rules, spells))

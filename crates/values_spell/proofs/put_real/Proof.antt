@@ -4,8 +4,8 @@ use Rattle.values.proofs.Spells.{spells}
 use Rattle.values_spell.proofs.put_real.Statement.{statement}
 use Rattle.values_spell.proofs.put_real.Tie as tie
 
-pub put-real-spec : {M : Type 1} → statement M
-put-real-spec =
+pub put_real_spec : {M : Type 1} → statement M
+put_real_spec =
     tie.close
     (tie.spec
     (λ c κs. search (rules, spells))

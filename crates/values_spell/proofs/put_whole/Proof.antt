@@ -4,8 +4,8 @@ use Rattle.values.proofs.Spells.{spells}
 use Rattle.values_spell.proofs.put_whole.Statement.{statement}
 use Rattle.values_spell.proofs.put_whole.Tie as tie
 
-pub put-whole-spec : {M : Type 1} → statement M
-put-whole-spec =
+pub put_whole_spec : {M : Type 1} → statement M
+put_whole_spec =
     tie.close
     (tie.spec
     (λ c κs. search (rules, spells))

@@ -4,8 +4,8 @@ use Rattle.values_spell.proofs.Lengths.{lengths}
 use Rattle.values_spell.proofs.real_len.Statement.{statement}
 use Rattle.values_spell.proofs.real_len.Tie as tie
 
-pub real-len-spec : {M : Type 1} → statement M
-real-len-spec =
+pub real_len_spec : {M : Type 1} → statement M
+real_len_spec =
     tie.close
     (tie.spec
     (λ c κs. search rules)

@@ -4,8 +4,8 @@ use Rattle.values_spell.proofs.Lengths.{lengths}
 use Rattle.values_spell.proofs.whole_len.Statement.{statement}
 use Rattle.values_spell.proofs.whole_len.Tie as tie
 
-pub whole-len-spec : {M : Type 1} → statement M
-whole-len-spec =
+pub whole_len_spec : {M : Type 1} → statement M
+whole_len_spec =
     tie.close
     (tie.spec
     (λ c κs. search rules)

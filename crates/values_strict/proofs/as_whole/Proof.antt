@@ -4,8 +4,8 @@ use Rattle.values.proofs.Backs.{limits}
 use Rattle.values_strict.proofs.as_whole.Statement.{statement}
 use Rattle.values_strict.proofs.as_whole.Tie as tie
 
-pub as-whole-spec : {M : Type 1} → statement M
-as-whole-spec =
+pub as_whole_spec : {M : Type 1} → statement M
+as_whole_spec =
     tie.close
     (tie.spec
     (λ c κs. search (rules, limits))

@@ -4,8 +4,8 @@ use Rattle.values.proofs.Backs.{behinds}
 use Rattle.values_strict.proofs.behind_count.Statement.{statement}
 use Rattle.values_strict.proofs.behind_count.Tie as tie
 
-pub behind-count-spec : {M : Type 1} → statement M
-behind-count-spec =
+pub behind_count_spec : {M : Type 1} → statement M
+behind_count_spec =
     tie.close
     (tie.spec
     (λ c. search (rules, behinds))

@@ -4,8 +4,8 @@ use Rattle.values.proofs.Backs.{behinds}
 use Rattle.values_strict.proofs.behind_letter.Statement.{statement}
 use Rattle.values_strict.proofs.behind_letter.Tie as tie
 
-pub behind-letter-spec : {M : Type 1} → statement M
-behind-letter-spec =
+pub behind_letter_spec : {M : Type 1} → statement M
+behind_letter_spec =
     tie.close
     (tie.spec
     (λ c κs. search (rules, behinds))

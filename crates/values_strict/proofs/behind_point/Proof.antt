@@ -4,8 +4,8 @@ use Rattle.values.proofs.Backs.{behinds}
 use Rattle.values_strict.proofs.behind_point.Statement.{statement}
 use Rattle.values_strict.proofs.behind_point.Tie as tie
 
-pub behind-point-spec : {M : Type 1} → statement M
-behind-point-spec =
+pub behind_point_spec : {M : Type 1} → statement M
+behind_point_spec =
     tie.close
     (tie.spec
     (λ c κs. search (rules, behinds))

@@ -14,8 +14,8 @@ invariant-loop l at c v₀ k₀ stop v k = (longer (drop k l) v k ≡ decimal (d
 abbrev decreases-loop : tie.decreases-loop
 decreases-loop l at c v₀ k₀ stop v k = stop - k
 
-pub decimal-at-spec : {M : Type 1} → statement M
-decimal-at-spec =
+pub decimal_at_spec : {M : Type 1} → statement M
+decimal_at_spec =
     tie.close
     (tie.spec
     invariant-loop

@@ -4,8 +4,8 @@ use Rattle.values.proofs.Backs.{limits}
 use Rattle.values_strict.proofs.is_letter.Statement.{statement}
 use Rattle.values_strict.proofs.is_letter.Tie as tie
 
-pub is-letter-spec : {M : Type 1} → statement M
-is-letter-spec =
+pub is_letter_spec : {M : Type 1} → statement M
+is_letter_spec =
     tie.close
     (tie.spec
     (λ c. search (rules, limits))

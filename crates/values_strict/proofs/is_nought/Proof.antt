@@ -4,8 +4,8 @@ use Rattle.values.proofs.Backs.{limits}
 use Rattle.values_strict.proofs.is_nought.Statement.{statement}
 use Rattle.values_strict.proofs.is_nought.Tie as tie
 
-pub is-nought-spec : {M : Type 1} → statement M
-is-nought-spec =
+pub is_nought_spec : {M : Type 1} → statement M
+is_nought_spec =
     tie.close
     (tie.spec
     (λ c. search (rules, limits))

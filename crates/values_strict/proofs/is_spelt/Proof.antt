@@ -4,8 +4,8 @@ use Rattle.values.proofs.Backs.{limits}
 use Rattle.values_strict.proofs.is_spelt.Statement.{statement}
 use Rattle.values_strict.proofs.is_spelt.Tie as tie
 
-pub is-spelt-spec : {M : Type 1} → statement M
-is-spelt-spec =
+pub is_spelt_spec : {M : Type 1} → statement M
+is_spelt_spec =
     tie.close
     (tie.spec
     (λ c. search (rules, limits))

@@ -4,8 +4,8 @@ use Rattle.values.proofs.Backs.{limits}
 use Rattle.values_strict.proofs.is_whole.Statement.{statement}
 use Rattle.values_strict.proofs.is_whole.Tie as tie
 
-pub is-whole-spec : {M : Type 1} → statement M
-is-whole-spec =
+pub is_whole_spec : {M : Type 1} → statement M
+is_whole_spec =
     tie.close
     (tie.spec
     (λ c. search (rules, limits))

@@ -4,8 +4,8 @@ use Rattle.values.proofs.Backs.{backs}
 use Rattle.values_strict.proofs.strict.Statement.{statement}
 use Rattle.values_strict.proofs.strict.Tie as tie
 
-pub strict-spec : {M : Type 1} → statement M
-strict-spec =
+pub strict_spec : {M : Type 1} → statement M
+strict_spec =
     tie.close
     (tie.spec
     (λ c. search (rules, backs))

@@ -13,8 +13,8 @@ invariant-loop p out₀ tried₀ passed₀ at₀ t13 out tried passed at = (pass
 abbrev decreases-loop : tie.decreases-loop
 decreases-loop p out₀ tried₀ passed₀ at₀ t13 out tried passed at = length p - at
 
-pub all-spec : {M : Type 1} → statement M
-all-spec =
+pub all_spec : {M : Type 1} → statement M
+all_spec =
     tie.close
     (tie.spec
     invariant-loop

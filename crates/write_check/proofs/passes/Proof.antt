@@ -4,8 +4,8 @@ use Rattle.write_check.proofs.Checking.{passing}
 use Rattle.write_check.proofs.passes.Statement.{statement}
 use Rattle.write_check.proofs.passes.Tie as tie
 
-pub passes-spec : {M : Type 1} → statement M
-passes-spec =
+pub passes_spec : {M : Type 1} → statement M
+passes_spec =
     tie.close
     (tie.spec
     (λ c. search (rules, passing))

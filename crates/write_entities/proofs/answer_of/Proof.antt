@@ -4,8 +4,8 @@ use Rattle.write_entities.proofs.Judging.{answers}
 use Rattle.write_entities.proofs.answer_of.Statement.{statement}
 use Rattle.write_entities.proofs.answer_of.Tie as tie
 
-pub answer-of-spec : {M : Type 1} → statement M
-answer-of-spec =
+pub answer_of_spec : {M : Type 1} → statement M
+answer_of_spec =
     tie.close
     (tie.spec
     (λ c κs. search (rules, answers))

@@ -5,8 +5,8 @@ use Rattle.write_entities.proofs.Judging.{entities}
 use Rattle.write_entities.proofs.entity_of.Statement.{statement}
 use Rattle.write_entities.proofs.entity_of.Tie as tie
 
-pub entity-of-spec : {M : Type 1} → statement M
-entity-of-spec =
+pub entity_of_spec : {M : Type 1} → statement M
+entity_of_spec =
     tie.close
     (tie.spec
     (λ c. search (rules, entities))

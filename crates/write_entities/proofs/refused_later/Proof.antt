@@ -4,8 +4,8 @@ use Rattle.write_lines.proofs.Naming.{firsts}
 use Rattle.write_entities.proofs.refused_later.Statement.{statement}
 use Rattle.write_entities.proofs.refused_later.Tie as tie
 
-pub refused-later-spec : {M : Type 1} → statement M
-refused-later-spec =
+pub refused_later_spec : {M : Type 1} → statement M
+refused_later_spec =
     tie.close
     (tie.spec
     (λ c κs. search (rules, firsts))

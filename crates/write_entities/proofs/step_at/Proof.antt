@@ -4,8 +4,8 @@ use Rattle.write_entities.proofs.Judging.{values}
 use Rattle.write_entities.proofs.step_at.Statement.{statement}
 use Rattle.write_entities.proofs.step_at.Tie as tie
 
-pub step-at-spec : {M : Type 1} → statement M
-step-at-spec =
+pub step_at_spec : {M : Type 1} → statement M
+step_at_spec =
     tie.close
     (tie.spec
     (λ c. search (rules, values))

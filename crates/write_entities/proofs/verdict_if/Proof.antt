@@ -4,8 +4,8 @@ use Rattle.write_entities.proofs.Judging.{verdicts}
 use Rattle.write_entities.proofs.verdict_if.Statement.{statement}
 use Rattle.write_entities.proofs.verdict_if.Tie as tie
 
-pub verdict-if-spec : {M : Type 1} → statement M
-verdict-if-spec =
+pub verdict_if_spec : {M : Type 1} → statement M
+verdict_if_spec =
     tie.close
     (tie.spec
     (λ c. search (rules, verdicts))

@@ -4,8 +4,8 @@ use Rattle.cards.proofs.Laws.{ends}
 use Rattle.cards_pass.proofs.terminate.closes_at.Statement.{statement}
 use Rattle.cards_pass.proofs.terminate.closes_at.Tie as tie
 
-pub closes-at-spec : {M : Type 1} → statement M
-closes-at-spec =
+pub closes_at_spec : {M : Type 1} → statement M
+closes_at_spec =
     tie.close
     (tie.spec
     (λ c. search (rules, ends))

@@ -4,8 +4,8 @@ use Rattle.cards.proofs.Laws.{ends}
 use Rattle.cards_pass.proofs.terminate.tells_at.Statement.{statement}
 use Rattle.cards_pass.proofs.terminate.tells_at.Tie as tie
 
-pub tells-at-spec : {M : Type 1} → statement M
-tells-at-spec =
+pub tells_at_spec : {M : Type 1} → statement M
+tells_at_spec =
     tie.close
     (tie.spec
     (λ c. search (rules, ends))

@@ -14,8 +14,8 @@ invariant-loop s at end i₀ i =
 abbrev decreases-loop : tie.decreases-loop
 decreases-loop s at end i₀ i = end - i
 
-pub is-blank-spec : {M : Type 1} → statement M
-is-blank-spec =
+pub is_blank_spec : {M : Type 1} → statement M
+is_blank_spec =
     tie.close
     (tie.spec
     invariant-loop

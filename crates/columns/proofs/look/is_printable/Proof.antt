@@ -14,8 +14,8 @@ invariant-loop s at end low₀ high₀ i₀ low high i =
 abbrev decreases-loop : tie.decreases-loop
 decreases-loop s at end low₀ high₀ i₀ low high i = end - i
 
-pub is-printable-spec : {M : Type 1} → statement M
-is-printable-spec =
+pub is_printable_spec : {M : Type 1} → statement M
+is_printable_spec =
     tie.close
     (tie.spec
     invariant-loop

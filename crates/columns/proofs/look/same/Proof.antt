@@ -2,7 +2,7 @@
 use mathlib.Core.Path.{◌≡◌}
 use Prim.Native.Nat.{◌-◌, ◌≤◌}
 use lib.ListN.{length}
-use Rattle.columns.specs.Columns.{columns, sameBytes}
+use Rattle.columns.specs.Columns.{columns, same_bytes}
 use borrow.Author.Rules.{rules}
 use Rattle.columns.proofs.Looks.{looks}
 use Rattle.columns.proofs.look.same.Statement.{statement}
@@ -10,7 +10,7 @@ use Rattle.columns.proofs.look.same.Tie as tie
 
 abbrev invariant-loop : tie.invariant-loop
 invariant-loop a b i₀ i =
-    (i ≤ length a) × (sameBytes (columns a i (length a)) (columns b i (length b)) ≡ sameBytes a b)
+    (i ≤ length a) × (same_bytes (columns a i (length a)) (columns b i (length b)) ≡ same_bytes a b)
 
 abbrev decreases-loop : tie.decreases-loop
 decreases-loop a b i₀ i = length a - i

@@ -4,8 +4,8 @@ use Rattle.desk.proofs.Numbers.{numbers}
 use Rattle.desk.proofs.answers.number_of.Statement.{statement}
 use Rattle.desk.proofs.answers.number_of.Tie as tie
 
-pub number-of-spec : {M : Type 1} → statement M
-number-of-spec =
+pub number_of_spec : {M : Type 1} → statement M
+number_of_spec =
     tie.close
     (tie.spec
     (λ c. search rules)

@@ -4,8 +4,8 @@ use Rattle.desk.proofs.Numbers.{numbers}
 use Rattle.desk.proofs.answers.refusal.Statement.{statement}
 use Rattle.desk.proofs.answers.refusal.Tie as tie
 
-pub refusal-spec : {M : Type 1} → statement M
-refusal-spec =
+pub refusal_spec : {M : Type 1} → statement M
+refusal_spec =
     tie.close
     (tie.spec
     (λ c κs. search (rules, numbers))

@@ -4,8 +4,8 @@ use Rattle.desk_table.proofs.Slots.{slotted}
 use Rattle.desk_table.proofs.slot.record_at.Statement.{statement}
 use Rattle.desk_table.proofs.slot.record_at.Tie as tie
 
-pub record-at-spec : {M : Type 1} → statement M
-record-at-spec =
+pub record_at_spec : {M : Type 1} → statement M
+record_at_spec =
     tie.close
     (tie.spec
     (λ c κs. search (rules, slotted))

@@ -4,8 +4,8 @@ use Rattle.file_blocks.proofs.Lined.{counted}
 use Rattle.file_blocks.proofs.lines.put_count.Statement.{statement}
 use Rattle.file_blocks.proofs.lines.put_count.Tie as tie
 
-pub put-count-spec : {M : Type 1} → statement M
-put-count-spec =
+pub put_count_spec : {M : Type 1} → statement M
+put_count_spec =
     tie.close
     (tie.spec
     (λ c κs. search (rules, counted))

@@ -4,8 +4,8 @@ use Rattle.file_blocks.proofs.Lined.{entering}
 use Rattle.file_blocks.proofs.lines.put_entry_lines.Statement.{statement}
 use Rattle.file_blocks.proofs.lines.put_entry_lines.Tie as tie
 
-pub put-entry-lines-spec : {M : Type 1} → statement M
-put-entry-lines-spec =
+pub put_entry_lines_spec : {M : Type 1} → statement M
+put_entry_lines_spec =
     tie.close
     (tie.spec
     (λ c. search (rules, entering))

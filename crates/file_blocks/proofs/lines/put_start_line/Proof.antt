@@ -4,8 +4,8 @@ use Rattle.file_blocks.proofs.Lined.{starting}
 use Rattle.file_blocks.proofs.lines.put_start_line.Statement.{statement}
 use Rattle.file_blocks.proofs.lines.put_start_line.Tie as tie
 
-pub put-start-line-spec : {M : Type 1} → statement M
-put-start-line-spec =
+pub put_start_line_spec : {M : Type 1} → statement M
+put_start_line_spec =
     tie.close
     (tie.spec
     (λ c κs. search (rules, starting))

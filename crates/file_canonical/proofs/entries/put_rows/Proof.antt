@@ -2,20 +2,20 @@
 use mathlib.Core.Path.{◌≡◌}
 use Prim.Native.Nat.{◌+◌, ◌-◌}
 use lib.ListN.{length}
-use Rattle.file_canonical.specs.Laying.{entries_at, OwingAt, bothLaid, Turn}
+use Rattle.file_canonical.specs.Laying.{entries_at, OwingAt, both_laid, Turn}
 use borrow.Author.Rules.{rules}
 use Rattle.file_canonical.proofs.Rowed.{rowing}
 use Rattle.file_canonical.proofs.entries.put_rows.Statement.{statement}
 use Rattle.file_canonical.proofs.entries.put_rows.Tie as tie
 
 abbrev invariant-loop : tie.invariant-loop
-invariant-loop out₀ t n y₀ k₀ out y k = (k + length (entries_at t y.at) ≡ n) × Turn t y k × OwingAt (bothLaid out₀ t y₀ 0) out t y k
+invariant-loop out₀ t n y₀ k₀ out y k = (k + length (entries_at t y.at) ≡ n) × Turn t y k × OwingAt (both_laid out₀ t y₀ 0) out t y k
 
 abbrev decreases-loop : tie.decreases-loop
 decreases-loop out₀ t n y₀ k₀ out y k = n - k
 
-pub put-rows-spec : {M : Type 1} → statement M
-put-rows-spec =
+pub put_rows_spec : {M : Type 1} → statement M
+put_rows_spec =
     tie.close
     (tie.spec
     invariant-loop

@@ -4,8 +4,8 @@ use Rattle.file_canonical.proofs.Readied.{readied}
 use Rattle.file_canonical.proofs.file.put_file.Statement.{statement}
 use Rattle.file_canonical.proofs.file.put_file.Tie as tie
 
-pub put-file-spec : {M : Type 1} → statement M
-put-file-spec =
+pub put_file_spec : {M : Type 1} → statement M
+put_file_spec =
     tie.close
     (tie.spec
     (λ c κs. search (rules, readied))

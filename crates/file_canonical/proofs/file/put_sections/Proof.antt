@@ -4,8 +4,8 @@ use Rattle.file_canonical.proofs.Whole.{laying}
 use Rattle.file_canonical.proofs.file.put_sections.Statement.{statement}
 use Rattle.file_canonical.proofs.file.put_sections.Tie as tie
 
-pub put-sections-spec : {M : Type 1} → statement M
-put-sections-spec =
+pub put_sections_spec : {M : Type 1} → statement M
+put_sections_spec =
     tie.close
     (tie.spec
     (λ c κs. search (rules, laying))

@@ -3,8 +3,8 @@ use mathlib.Core.Path.{◌≡◌}
 use Prim.Native.Nat.{◌+◌, ◌-◌, ◌*◌, ◌≤◌}
 use lib.ListN.{length, drop}
 use Rattle.columns.specs.Laid.{Owes}
-use Rattle.sheets.specs.Sheet.{linesIn}
-use Rattle.file_canonical.specs.Laying.{startsFirst, behindStarts, startBytes}
+use Rattle.sheets.specs.Sheet.{lines_in}
+use Rattle.file_canonical.specs.Laying.{starts_first, behind_starts, start_bytes}
 use borrow.Author.Rules.{rules}
 use Rattle.file_canonical.proofs.Started.{starts}
 use Rattle.file_canonical.proofs.starts.put_starts.Statement.{statement}
@@ -12,14 +12,14 @@ use Rattle.file_canonical.proofs.starts.put_starts.Tie as tie
 
 abbrev invariant-loop : tie.invariant-loop
 invariant-loop out₀ t s at₀ next₀ k₀ out at next k =
-    (at ≤ length t) × (next ≡ 81 * k) × (k + length (startsFirst (linesIn (drop at t))) ≡ s) × (behindStarts (linesIn (drop at t)) ≡ behindStarts (linesIn t))
-    × Owes out₀ 0 (startBytes 1 (startsFirst (linesIn t))) out next (startBytes (k + 1) (startsFirst (linesIn (drop at t))))
+    (at ≤ length t) × (next ≡ 81 * k) × (k + length (starts_first (lines_in (drop at t))) ≡ s) × (behind_starts (lines_in (drop at t)) ≡ behind_starts (lines_in t))
+    × Owes out₀ 0 (start_bytes 1 (starts_first (lines_in t))) out next (start_bytes (k + 1) (starts_first (lines_in (drop at t))))
 
 abbrev decreases-loop : tie.decreases-loop
 decreases-loop out₀ t s at₀ next₀ k₀ out at next k = s - k
 
-pub put-starts-spec : {M : Type 1} → statement M
-put-starts-spec =
+pub put_starts_spec : {M : Type 1} → statement M
+put_starts_spec =
     tie.close
     (tie.spec
     invariant-loop

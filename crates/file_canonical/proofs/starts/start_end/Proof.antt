@@ -4,8 +4,8 @@ use Rattle.file_canonical.proofs.Started.{starts}
 use Rattle.file_canonical.proofs.starts.start_end.Statement.{statement}
 use Rattle.file_canonical.proofs.starts.start_end.Tie as tie
 
-pub start-end-spec : {M : Type 1} → statement M
-start-end-spec =
+pub start_end_spec : {M : Type 1} → statement M
+start_end_spec =
     tie.close
     (tie.spec
     (λ c κs. search (rules, starts))

@@ -4,8 +4,8 @@ use Rattle.layouts.proofs.Values.{values}
 use Rattle.layouts_rows.proofs.told.above_in.Statement.{statement}
 use Rattle.layouts_rows.proofs.told.above_in.Tie as tie
 
-pub above-in-spec : {M : Type 1} → statement M
-above-in-spec =
+pub above_in_spec : {M : Type 1} → statement M
+above_in_spec =
     tie.close
     (tie.spec
     (λ c. search (rules, values))

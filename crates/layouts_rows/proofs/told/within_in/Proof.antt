@@ -4,8 +4,8 @@ use Rattle.layouts.proofs.Values.{values}
 use Rattle.layouts_rows.proofs.told.within_in.Statement.{statement}
 use Rattle.layouts_rows.proofs.told.within_in.Tie as tie
 
-pub within-in-spec : {M : Type 1} → statement M
-within-in-spec =
+pub within_in_spec : {M : Type 1} → statement M
+within_in_spec =
     tie.close
     (tie.spec
     (λ c. search (rules, values))

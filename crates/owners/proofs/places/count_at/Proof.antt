@@ -1,11 +1,11 @@
--- `count_at`: the line is where `entryLine` has it.
+-- `count_at`: the line is where `entry_line` has it.
 use borrow.Author.Rules.{rules}
 use Rattle.owners.proofs.Laws.{fields}
 use Rattle.owners.proofs.places.count_at.Statement.{statement}
 use Rattle.owners.proofs.places.count_at.Tie as tie
 
-pub count-at-spec : {M : Type 1} → statement M
-count-at-spec =
+pub count_at_spec : {M : Type 1} → statement M
+count_at_spec =
     tie.close
     (tie.spec
     (λ c κs. search (rules, fields))

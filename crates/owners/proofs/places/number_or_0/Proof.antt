@@ -4,8 +4,8 @@ use Rattle.owners.proofs.Laws.{fields}
 use Rattle.owners.proofs.places.number_or_0.Statement.{statement}
 use Rattle.owners.proofs.places.number_or_0.Tie as tie
 
-pub number-or-0-spec : {M : Type 1} → statement M
-number-or-0-spec =
+pub number_or_0_spec : {M : Type 1} → statement M
+number_or_0_spec =
     tie.close
     (tie.spec
     (λ c. search (rules, fields))

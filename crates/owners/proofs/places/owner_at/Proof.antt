@@ -1,11 +1,11 @@
--- `owner_at`: the line is where `parameterLine` has it.
+-- `owner_at`: the line is where `parameter_line` has it.
 use borrow.Author.Rules.{rules}
 use Rattle.owners.proofs.Laws.{fields}
 use Rattle.owners.proofs.places.owner_at.Statement.{statement}
 use Rattle.owners.proofs.places.owner_at.Tie as tie
 
-pub owner-at-spec : {M : Type 1} → statement M
-owner-at-spec =
+pub owner_at_spec : {M : Type 1} → statement M
+owner_at_spec =
     tie.close
     (tie.spec
     (λ c κs. search (rules, fields))

@@ -4,8 +4,8 @@ use Rattle.owners.proofs.Laws.{fields}
 use Rattle.owners.proofs.places.size_at.Statement.{statement}
 use Rattle.owners.proofs.places.size_at.Tie as tie
 
-pub size-at-spec : {M : Type 1} → statement M
-size-at-spec =
+pub size_at_spec : {M : Type 1} → statement M
+size_at_spec =
     tie.close
     (tie.spec
     (λ c κs. search (rules, fields))

@@ -4,8 +4,8 @@ use Rattle.owners.proofs.Laws.{fields}
 use Rattle.owners.proofs.places.size_or_0.Statement.{statement}
 use Rattle.owners.proofs.places.size_or_0.Tie as tie
 
-pub size-or-0-spec : {M : Type 1} → statement M
-size-or-0-spec =
+pub size_or_0_spec : {M : Type 1} → statement M
+size_or_0_spec =
     tie.close
     (tie.spec
     (λ c. search (rules, fields))

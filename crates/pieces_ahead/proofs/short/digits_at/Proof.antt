@@ -14,8 +14,8 @@ invariant-loop l i k₀ v₀ k v = (value 0 (digits (drop i l)) ≡ value v (dig
 abbrev decreases-loop : tie.decreases-loop
 decreases-loop l i k₀ v₀ k v = length l - k
 
-pub digits-at-spec : {M : Type 1} → statement M
-digits-at-spec =
+pub digits_at_spec : {M : Type 1} → statement M
+digits_at_spec =
     tie.close
     (tie.spec
     invariant-loop

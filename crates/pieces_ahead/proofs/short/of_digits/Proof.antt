@@ -4,8 +4,8 @@ use Rattle.pieces_ahead.proofs.Shorts.{shorts}
 use Rattle.pieces_ahead.proofs.short.of_digits.Statement.{statement}
 use Rattle.pieces_ahead.proofs.short.of_digits.Tie as tie
 
-pub of-digits-spec : {M : Type 1} → statement M
-of-digits-spec =
+pub of_digits_spec : {M : Type 1} → statement M
+of_digits_spec =
     tie.close
     (tie.spec
     (λ c. search (rules, shorts))

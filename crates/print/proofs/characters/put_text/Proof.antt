@@ -16,8 +16,8 @@ invariant-loop out₀ at file base w lines start count next₀ i₀ out next i =
 abbrev decreases-loop : tie.decreases-loop
 decreases-loop out₀ at file base w lines start count next₀ i₀ out next i = count - i
 
-pub put-text-spec : {M : Type 1} → statement M
-put-text-spec =
+pub put_text_spec : {M : Type 1} → statement M
+put_text_spec =
     tie.close
     (tie.spec
     invariant-loop

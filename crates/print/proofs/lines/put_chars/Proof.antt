@@ -4,8 +4,8 @@ use Rattle.print.proofs.Texts.{lined}
 use Rattle.print.proofs.lines.put_chars.Statement.{statement}
 use Rattle.print.proofs.lines.put_chars.Tie as tie
 
-pub put-chars-spec : {M : Type 1} → statement M
-put-chars-spec =
+pub put_chars_spec : {M : Type 1} → statement M
+put_chars_spec =
     tie.close
     (tie.spec
     (λ c. search (rules, lined))

@@ -4,8 +4,8 @@ use Rattle.print.proofs.Texts.{lined}
 use Rattle.print.proofs.lines.put_global_line.Statement.{statement}
 use Rattle.print.proofs.lines.put_global_line.Tie as tie
 
-pub put-global-line-spec : {M : Type 1} → statement M
-put-global-line-spec =
+pub put_global_line_spec : {M : Type 1} → statement M
+put_global_line_spec =
     tie.close
     (tie.spec
     (λ c κs. search (rules, lined))

@@ -4,8 +4,8 @@ use Rattle.print.proofs.Texts.{lined}
 use Rattle.print.proofs.lines.put_value_line.Statement.{statement}
 use Rattle.print.proofs.lines.put_value_line.Tie as tie
 
-pub put-value-line-spec : {M : Type 1} → statement M
-put-value-line-spec =
+pub put_value_line_spec : {M : Type 1} → statement M
+put_value_line_spec =
     tie.close
     (tie.spec
     (λ c κs. search (rules, lined))

@@ -4,8 +4,8 @@ use Rattle.print.proofs.Taken.{meeting}
 use Rattle.print.proofs.taking.met_at.Statement.{statement}
 use Rattle.print.proofs.taking.met_at.Tie as tie
 
-pub met-at-spec : {M : Type 1} → statement M
-met-at-spec =
+pub met_at_spec : {M : Type 1} → statement M
+met_at_spec =
     tie.close
     (tie.spec
     (λ c κs. search (rules, meeting))

@@ -4,8 +4,8 @@ use Rattle.print.proofs.Taken.{taking}
 use Rattle.print.proofs.taking.value_from.Statement.{statement}
 use Rattle.print.proofs.taking.value_from.Tie as tie
 
-pub value-from-spec : {M : Type 1} → statement M
-value-from-spec =
+pub value_from_spec : {M : Type 1} → statement M
+value_from_spec =
     tie.close
     (tie.spec
     (λ c κs. search (rules, taking))

@@ -4,8 +4,8 @@ use Rattle.print_sheet.proofs.Rowed.{rowed}
 use Rattle.print_sheet.proofs.rows.put_entity.Statement.{statement}
 use Rattle.print_sheet.proofs.rows.put_entity.Tie as tie
 
-pub put-entity-spec : {M : Type 1} → statement M
-put-entity-spec =
+pub put_entity_spec : {M : Type 1} → statement M
+put_entity_spec =
     tie.close
     (tie.spec
     (λ c κs. search (rules, rowed))

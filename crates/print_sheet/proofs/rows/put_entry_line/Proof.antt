@@ -4,8 +4,8 @@ use Rattle.print_sheet.proofs.Rowed.{rowed}
 use Rattle.print_sheet.proofs.rows.put_entry_line.Statement.{statement}
 use Rattle.print_sheet.proofs.rows.put_entry_line.Tie as tie
 
-pub put-entry-line-spec : {M : Type 1} → statement M
-put-entry-line-spec =
+pub put_entry_line_spec : {M : Type 1} → statement M
+put_entry_line_spec =
     tie.close
     (tie.spec
     (λ c κs. search (rules, rowed))

@@ -2,7 +2,7 @@
 use mathlib.Core.Path.{◌≡◌}
 use Prim.Native.Nat.{◌-◌, ◌≤◌}
 use Rattle.directory.specs.Rules.{all_fit, references}
-use Rattle.directory.specs.Asking.{restFit}
+use Rattle.directory.specs.Asking.{rest_fit}
 use Rattle.directory.specs.Naming.{types_at}
 use borrow.Author.Rules.{rules}
 use Rattle.read_passes.proofs.Referring.{asks}
@@ -10,13 +10,13 @@ use Rattle.read_directory.proofs.refer.all_ask_ok.Statement.{statement}
 use Rattle.read_directory.proofs.refer.all_ask_ok.Tie as tie
 
 abbrev invariant-loop : tie.invariant-loop
-invariant-loop file first n e j₀ j = (j ≤ 7) × (restFit (types_at file first n) e j ≡ all_fit (types_at file first n) (references e))
+invariant-loop file first n e j₀ j = (j ≤ 7) × (rest_fit (types_at file first n) e j ≡ all_fit (types_at file first n) (references e))
 
 abbrev decreases-loop : tie.decreases-loop
 decreases-loop file first n e j₀ j = 7 - j
 
-pub all-ask-ok-spec : {M : Type 1} → statement M
-all-ask-ok-spec =
+pub all_ask_ok_spec : {M : Type 1} → statement M
+all_ask_ok_spec =
     tie.close
     (tie.spec
     invariant-loop

@@ -4,8 +4,8 @@ use Rattle.read_entities.proofs.Marking.{marking}
 use Rattle.read_entities.proofs.marks.mark_of.Statement.{statement}
 use Rattle.read_entities.proofs.marks.mark_of.Tie as tie
 
-pub mark-of-spec : {M : Type 1} → statement M
-mark-of-spec =
+pub mark_of_spec : {M : Type 1} → statement M
+mark_of_spec =
     tie.close
     (tie.spec
     (λ c. search (rules, marking))

@@ -4,8 +4,8 @@ use Rattle.read_entities.proofs.Marking.{marking}
 use Rattle.read_entities.proofs.marks.mark_step.Statement.{statement}
 use Rattle.read_entities.proofs.marks.mark_step.Tie as tie
 
-pub mark-step-spec : {M : Type 1} → statement M
-mark-step-spec =
+pub mark_step_spec : {M : Type 1} → statement M
+mark_step_spec =
     tie.close
     (tie.spec
     (λ c. search (rules, marking))

@@ -4,8 +4,8 @@ use Rattle.read_entities.proofs.Marking.{marking}
 use Rattle.read_entities.proofs.marks.marks_begun.Statement.{statement}
 use Rattle.read_entities.proofs.marks.marks_begun.Tie as tie
 
-pub marks-begun-spec : {M : Type 1} → statement M
-marks-begun-spec =
+pub marks_begun_spec : {M : Type 1} → statement M
+marks_begun_spec =
     tie.close
     (tie.spec
     (λ c κs. search (rules, marking))

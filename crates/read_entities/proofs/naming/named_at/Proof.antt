@@ -4,8 +4,8 @@ use Rattle.read_entities.proofs.Names.{names}
 use Rattle.read_entities.proofs.naming.named_at.Statement.{statement}
 use Rattle.read_entities.proofs.naming.named_at.Tie as tie
 
-pub named-at-spec : {M : Type 1} → statement M
-named-at-spec =
+pub named_at_spec : {M : Type 1} → statement M
+named_at_spec =
     tie.close
     (tie.spec
     (λ c. search (rules, names))

@@ -4,8 +4,8 @@ use Rattle.read_file.proofs.Reading.{fielding}
 use Rattle.read_file.proofs.sheet.fields_len.Statement.{statement}
 use Rattle.read_file.proofs.sheet.fields_len.Tie as tie
 
-pub fields-len-spec : {M : Type 1} → statement M
-fields-len-spec =
+pub fields_len_spec : {M : Type 1} → statement M
+fields_len_spec =
     tie.close
     (tie.spec
     (λ c. search (rules, fielding))

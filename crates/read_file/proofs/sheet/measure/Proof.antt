@@ -4,8 +4,8 @@ use Rattle.read_file.proofs.Reading.{measures}
 use Rattle.read_file.proofs.sheet.measure.Statement.{statement}
 use Rattle.read_file.proofs.sheet.measure.Tie as tie
 
-pub measure-spec : {M : Type 1} → statement M
-measure-spec =
+pub measure_spec : {M : Type 1} → statement M
+measure_spec =
     tie.close
     (tie.spec
     (λ c κs. search (rules, measures))

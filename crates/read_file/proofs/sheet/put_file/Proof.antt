@@ -5,8 +5,8 @@ use Rattle.read_file.proofs.Records.{records-read}
 use Rattle.read_file.proofs.sheet.put_file.Statement.{statement}
 use Rattle.read_file.proofs.sheet.put_file.Tie as tie
 
-pub put-file-spec : {M : Type 1} → statement M
-put-file-spec =
+pub put_file_spec : {M : Type 1} → statement M
+put_file_spec =
     tie.close
     (tie.spec
     (λ c κs. search (rules, sheets))

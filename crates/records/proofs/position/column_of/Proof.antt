@@ -4,8 +4,8 @@ use Rattle.records.proofs.Positions.{usual}
 use Rattle.records.proofs.position.column_of.Statement.{statement}
 use Rattle.records.proofs.position.column_of.Tie as tie
 
-pub column-of-spec : {M : Type 1} → statement M
-column-of-spec =
+pub column_of_spec : {M : Type 1} → statement M
+column_of_spec =
     tie.close
     (tie.spec
     (λ c. search (rules, usual))

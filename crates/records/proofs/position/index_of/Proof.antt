@@ -4,8 +4,8 @@ use Rattle.records.proofs.Positions.{usual}
 use Rattle.records.proofs.position.index_of.Statement.{statement}
 use Rattle.records.proofs.position.index_of.Tie as tie
 
-pub index-of-spec : {M : Type 1} → statement M
-index-of-spec =
+pub index_of_spec : {M : Type 1} → statement M
+index_of_spec =
     tie.close
     (tie.spec
     (λ c. search (rules, usual))

@@ -4,8 +4,8 @@ use Rattle.sheets.proofs.Walk.{ends}
 use Rattle.sheets.proofs.order.finish_of.Statement.{statement}
 use Rattle.sheets.proofs.order.finish_of.Tie as tie
 
-pub finish-of-spec : {M : Type 1} → statement M
-finish-of-spec =
+pub finish_of_spec : {M : Type 1} → statement M
+finish_of_spec =
     tie.close
     (tie.spec
     (λ c. search (rules, ends))

@@ -4,8 +4,8 @@ use Rattle.sheets.proofs.Steps.{nones}
 use Rattle.sheets.proofs.order.none_step.Statement.{statement}
 use Rattle.sheets.proofs.order.none_step.Tie as tie
 
-pub none-step-spec : {M : Type 1} → statement M
-none-step-spec =
+pub none_step_spec : {M : Type 1} → statement M
+none_step_spec =
     tie.close
     (tie.spec
     (λ c. search (rules, nones))

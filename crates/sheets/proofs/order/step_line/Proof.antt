@@ -4,8 +4,8 @@ use Rattle.sheets.proofs.Steps.{steps}
 use Rattle.sheets.proofs.order.step_line.Statement.{statement}
 use Rattle.sheets.proofs.order.step_line.Tie as tie
 
-pub step-line-spec : {M : Type 1} → statement M
-step-line-spec =
+pub step_line_spec : {M : Type 1} → statement M
+step_line_spec =
     tie.close
     (tie.spec
     (λ c. search (rules, steps))

@@ -4,8 +4,8 @@ use Rattle.vectors.proofs.Packs.{vectors}
 use Rattle.vectors.proofs.pack.vector_at.Statement.{statement}
 use Rattle.vectors.proofs.pack.vector_at.Tie as tie
 
-pub vector-at-spec : {M : Type 1} → statement M
-vector-at-spec =
+pub vector_at_spec : {M : Type 1} → statement M
+vector_at_spec =
     tie.close
     (tie.spec
     (λ c. search (rules, vectors))

@@ -14,8 +14,8 @@ invariant-loop out from i₀ i = untouched (drop i out) ≡ untouched (drop from
 abbrev decreases-loop : tie.decreases-loop
 decreases-loop out from i₀ i = length out - i
 
-pub untouched-spec : {M : Type 1} → statement M
-untouched-spec =
+pub untouched_spec : {M : Type 1} → statement M
+untouched_spec =
     tie.close
     (tie.spec
     invariant-loop

@@ -4,8 +4,8 @@ use Rattle.vectors.proofs.Passing.{giving}
 use Rattle.vectors.proofs.vector.gives.Statement.{statement}
 use Rattle.vectors.proofs.vector.gives.Tie as tie
 
-pub gives-spec : {M : Type 1} → statement M
-gives-spec =
+pub gives_spec : {M : Type 1} → statement M
+gives_spec =
     tie.close
     (tie.spec
     (λ c κs. search (rules, giving))

@@ -5,8 +5,8 @@ use Rattle.vectors.proofs.Passing.{holding}
 use Rattle.vectors.proofs.vector.holds.Statement.{statement}
 use Rattle.vectors.proofs.vector.holds.Tie as tie
 
-pub holds-spec : {M : Type 1} → statement M
-holds-spec =
+pub holds_spec : {M : Type 1} → statement M
+holds_spec =
     tie.close
     (tie.spec
     (λ c. search (rules, parts, holding))

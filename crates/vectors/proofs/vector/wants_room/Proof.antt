@@ -5,8 +5,8 @@ use Rattle.vectors.proofs.Passing.{room}
 use Rattle.vectors.proofs.vector.wants_room.Statement.{statement}
 use Rattle.vectors.proofs.vector.wants_room.Tie as tie
 
-pub wants-room-spec : {M : Type 1} → statement M
-wants-room-spec =
+pub wants_room_spec : {M : Type 1} → statement M
+wants_room_spec =
     tie.close
     (tie.spec
     (λ c. search (rules, parts, room))

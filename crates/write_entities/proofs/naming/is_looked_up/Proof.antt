@@ -4,8 +4,8 @@ use Rattle.write_entities.proofs.Typed.{looks}
 use Rattle.write_entities.proofs.naming.is_looked_up.Statement.{statement}
 use Rattle.write_entities.proofs.naming.is_looked_up.Tie as tie
 
-pub is-looked-up-spec : {M : Type 1} → statement M
-is-looked-up-spec =
+pub is_looked_up_spec : {M : Type 1} → statement M
+is_looked_up_spec =
     tie.close
     (tie.spec
     (λ c. search (rules, looks))

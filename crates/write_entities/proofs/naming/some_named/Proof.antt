@@ -4,8 +4,8 @@ use Rattle.write_entities.proofs.Typed.{somes}
 use Rattle.write_entities.proofs.naming.some_named.Statement.{statement}
 use Rattle.write_entities.proofs.naming.some_named.Tie as tie
 
-pub some-named-spec : {M : Type 1} → statement M
-some-named-spec =
+pub some_named_spec : {M : Type 1} → statement M
+some_named_spec =
     tie.close
     (tie.spec
     (λ c. search (rules, somes))

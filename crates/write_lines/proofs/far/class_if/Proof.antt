@@ -4,8 +4,8 @@ use Rattle.write_lines.proofs.Showing.{shows}
 use Rattle.write_lines.proofs.far.class_if.Statement.{statement}
 use Rattle.write_lines.proofs.far.class_if.Tie as tie
 
-pub class-if-spec : {M : Type 1} → statement M
-class-if-spec =
+pub class_if_spec : {M : Type 1} → statement M
+class_if_spec =
     tie.close
     (tie.spec
     (λ c. search (rules, shows))

@@ -4,8 +4,8 @@ use Rattle.write_lines.proofs.Showing.{shows}
 use Rattle.write_lines.proofs.far.class_shown.Statement.{statement}
 use Rattle.write_lines.proofs.far.class_shown.Tie as tie
 
-pub class-shown-spec : {M : Type 1} → statement M
-class-shown-spec =
+pub class_shown_spec : {M : Type 1} → statement M
+class_shown_spec =
     tie.close
     (tie.spec
     (λ c. search (rules, shows))

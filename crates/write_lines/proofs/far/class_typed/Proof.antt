@@ -4,8 +4,8 @@ use Rattle.write_lines.proofs.Showing.{shows}
 use Rattle.write_lines.proofs.far.class_typed.Statement.{statement}
 use Rattle.write_lines.proofs.far.class_typed.Tie as tie
 
-pub class-typed-spec : {M : Type 1} → statement M
-class-typed-spec =
+pub class_typed_spec : {M : Type 1} → statement M
+class_typed_spec =
     tie.close
     (tie.spec
     (λ c κs. search (rules, shows))

@@ -10,8 +10,8 @@ invariant-loop t from stop at₀ at = (from ≤ at) × (at ≤ stop)
 abbrev decreases-loop : tie.decreases-loop
 decreases-loop t from stop at₀ at = stop - at
 
-pub entry-behind-spec : {M : Type 1} → statement M
-entry-behind-spec =
+pub entry_behind_spec : {M : Type 1} → statement M
+entry_behind_spec =
     tie.close
     (tie.spec
     invariant-loop

@@ -10,8 +10,8 @@ invariant-loop t from stop number low₀ high₀ low high = (from ≤ low) × (l
 abbrev decreases-loop : tie.decreases-loop
 decreases-loop t from stop number low₀ high₀ low high = high - low
 
-pub near-spec : {M : Type 1} → statement M
-near-spec =
+pub near_spec : {M : Type 1} → statement M
+near_spec =
     tie.close
     (tie.spec
     invariant-loop

@@ -12,8 +12,8 @@ invariant-loop t at size i₀ number₀ i number = (at + 2 ≤ i) × (i ≤ size
 abbrev decreases-loop : tie.decreases-loop
 decreases-loop t at size i₀ number₀ i number = size - i
 
-pub number-at-spec : {M : Type 1} → statement M
-number-at-spec =
+pub number_at_spec : {M : Type 1} → statement M
+number_at_spec =
     tie.close
     (tie.spec
     invariant-loop

@@ -10,8 +10,8 @@ invariant-loop table number low₀ high₀ low high = (low < high) × (high ≤ 
 abbrev decreases-loop : tie.decreases-loop
 decreases-loop table number low₀ high₀ low high = high - low
 
-pub part-of-spec : {M : Type 1} → statement M
-part-of-spec =
+pub part_of_spec : {M : Type 1} → statement M
+part_of_spec =
     tie.close
     (tie.spec
     invariant-loop

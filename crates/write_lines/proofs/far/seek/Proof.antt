@@ -6,8 +6,8 @@ use Rattle.write_lines.proofs.Showing.{part-within}
 use Rattle.write_lines.proofs.far.seek.Statement.{statement}
 use Rattle.write_lines.proofs.far.seek.Tie as tie
 
-pub seek-spec : {M : Type 1} → statement M
-seek-spec =
+pub seek_spec : {M : Type 1} → statement M
+seek_spec =
     tie.close
     (tie.spec
     (λ c. search rules)

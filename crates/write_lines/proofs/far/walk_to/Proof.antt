@@ -10,8 +10,8 @@ invariant-loop t from stop number at₀ at = (1 ≤ at) × (at ≤ stop)
 abbrev decreases-loop : tie.decreases-loop
 decreases-loop t from stop number at₀ at = stop - at
 
-pub walk-to-spec : {M : Type 1} → statement M
-walk-to-spec =
+pub walk_to_spec : {M : Type 1} → statement M
+walk_to_spec =
     tie.close
     (tie.spec
     invariant-loop

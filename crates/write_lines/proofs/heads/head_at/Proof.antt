@@ -4,8 +4,8 @@ use Rattle.write_lines.proofs.Heading.{heads}
 use Rattle.write_lines.proofs.heads.head_at.Statement.{statement}
 use Rattle.write_lines.proofs.heads.head_at.Tie as tie
 
-pub head-at-spec : {M : Type 1} → statement M
-head-at-spec =
+pub head_at_spec : {M : Type 1} → statement M
+head_at_spec =
     tie.close
     (tie.spec
     (λ c. search (rules, heads))

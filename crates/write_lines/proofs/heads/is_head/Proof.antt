@@ -4,8 +4,8 @@ use Rattle.write_lines.proofs.Heading.{bytes}
 use Rattle.write_lines.proofs.heads.is_head.Statement.{statement}
 use Rattle.write_lines.proofs.heads.is_head.Tie as tie
 
-pub is-head-spec : {M : Type 1} → statement M
-is-head-spec =
+pub is_head_spec : {M : Type 1} → statement M
+is_head_spec =
     tie.close
     (tie.spec
     (λ c. search (rules, bytes))

@@ -2,21 +2,21 @@
 use mathlib.Core.Path.{◌≡◌}
 use Prim.Native.Nat.{◌-◌, ◌≤◌}
 use Rattle.directory.specs.Rules.{all_fit, references}
-use Rattle.directory.specs.Asking.{restFit}
-use Rattle.write_lines.specs.Classes.{sheetTypes}
+use Rattle.directory.specs.Asking.{rest_fit}
+use Rattle.write_lines.specs.Classes.{sheet_types}
 use borrow.Author.Rules.{rules}
 use Rattle.write_lines.proofs.Referring.{asks}
 use Rattle.write_lines.proofs.refer.all_ask_ok.Statement.{statement}
 use Rattle.write_lines.proofs.refer.all_ask_ok.Tie as tie
 
 abbrev invariant-loop : tie.invariant-loop
-invariant-loop classes n t e j₀ j = (j ≤ 7) × (restFit (sheetTypes t) e j ≡ all_fit (sheetTypes t) (references e))
+invariant-loop classes n t e j₀ j = (j ≤ 7) × (rest_fit (sheet_types t) e j ≡ all_fit (sheet_types t) (references e))
 
 abbrev decreases-loop : tie.decreases-loop
 decreases-loop classes n t e j₀ j = 7 - j
 
-pub all-ask-ok-spec : {M : Type 1} → statement M
-all-ask-ok-spec =
+pub all_ask_ok_spec : {M : Type 1} → statement M
+all_ask_ok_spec =
     tie.close
     (tie.spec
     invariant-loop

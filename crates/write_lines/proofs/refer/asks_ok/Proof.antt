@@ -4,8 +4,8 @@ use Rattle.write_lines.proofs.Referring.{asks}
 use Rattle.write_lines.proofs.refer.asks_ok.Statement.{statement}
 use Rattle.write_lines.proofs.refer.asks_ok.Tie as tie
 
-pub asks-ok-spec : {M : Type 1} → statement M
-asks-ok-spec =
+pub asks_ok_spec : {M : Type 1} → statement M
+asks_ok_spec =
     tie.close
     (tie.spec
     (λ c. search (rules, asks))

@@ -4,8 +4,8 @@ use Rattle.write_lines.proofs.Referring.{refers}
 use Rattle.write_lines.proofs.refer.reference_of.Statement.{statement}
 use Rattle.write_lines.proofs.refer.reference_of.Tie as tie
 
-pub reference-of-spec : {M : Type 1} → statement M
-reference-of-spec =
+pub reference_of_spec : {M : Type 1} → statement M
+reference_of_spec =
     tie.close
     (tie.spec
     (λ c. search (rules, refers))

@@ -4,8 +4,8 @@ use Rattle.write_lines.proofs.Saying.{saying}
 use Rattle.write_lines.proofs.rules.rule_of.Statement.{statement}
 use Rattle.write_lines.proofs.rules.rule_of.Tie as tie
 
-pub rule-of-spec : {M : Type 1} → statement M
-rule-of-spec =
+pub rule_of_spec : {M : Type 1} → statement M
+rule_of_spec =
     tie.close
     (tie.spec
     (λ c. search (rules, saying))

@@ -4,8 +4,8 @@ use Rattle.write_lines.proofs.Saying.{saying}
 use Rattle.write_lines.proofs.rules.rule_too.Statement.{statement}
 use Rattle.write_lines.proofs.rules.rule_too.Tie as tie
 
-pub rule-too-spec : {M : Type 1} → statement M
-rule-too-spec =
+pub rule_too_spec : {M : Type 1} → statement M
+rule_too_spec =
     tie.close
     (tie.spec
     (λ c. search (rules, saying))

@@ -4,8 +4,8 @@ use Rattle.write_lines.proofs.Tables.{said}
 use Rattle.write_lines.proofs.table.class_on.Statement.{statement}
 use Rattle.write_lines.proofs.table.class_on.Tie as tie
 
-pub class-on-spec : {M : Type 1} → statement M
-class-on-spec =
+pub class_on_spec : {M : Type 1} → statement M
+class_on_spec =
     tie.close
     (tie.spec
     (λ c κs. search (rules, said))

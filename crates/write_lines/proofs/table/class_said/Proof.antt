@@ -4,8 +4,8 @@ use Rattle.write_lines.proofs.Tables.{said}
 use Rattle.write_lines.proofs.table.class_said.Statement.{statement}
 use Rattle.write_lines.proofs.table.class_said.Tie as tie
 
-pub class-said-spec : {M : Type 1} → statement M
-class-said-spec =
+pub class_said_spec : {M : Type 1} → statement M
+class_said_spec =
     tie.close
     (tie.spec
     (λ c. search (rules, said))

@@ -4,8 +4,8 @@ use Rattle.write_lines.proofs.Tables.{somes}
 use Rattle.write_lines.proofs.table.some_at.Statement.{statement}
 use Rattle.write_lines.proofs.table.some_at.Tie as tie
 
-pub some-at-spec : {M : Type 1} → statement M
-some-at-spec =
+pub some_at_spec : {M : Type 1} → statement M
+some_at_spec =
     tie.close
     (tie.spec
     (λ c. search (rules, somes))
