@@ -1,5 +1,6 @@
 // The lines of a file: their bytes, section letters, sequence numbers, and the T line; and where each section starts.
 // Crate `cards_line` looks at one line, `cards_pass` goes over all.
+#![tactic(auto)]
 
 ghost use Rattle.std.specs.Prelude.{◌≡◌, ◌+◌, ◌*◌, ◌^◌, ◌<◌, ◌≤◌};
 ghost use Rattle.cards.specs.Cards.{length_ok, entry_line, parameter_line};

@@ -1,4 +1,6 @@
 // One line: its bytes, where it stands, its number.
+#![tactic(auto)]
+
 ghost use Rattle.std.specs.Prelude.{◌≡◌, ◌+◌, ◌*◌, ◌<◌, ◌≤◌, length};
 ghost use Rattle.columns.specs.Columns.{columns, line_at};
 ghost use Rattle.columns.specs.Format.{line_bytes, most_lines};

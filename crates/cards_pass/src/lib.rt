@@ -1,4 +1,6 @@
 // The pass over the lines of a file: how many each section has. `terminate` looks at the last.
+#![tactic(auto)]
+
 mod terminate;
 
 ghost use Rattle.std.specs.Prelude.{◌≡◌, ◌+◌, ◌<◌};

@@ -1,5 +1,7 @@
 // The ground floor: the refusals of document 01, its three kinds of numbers that count lines or entries, fixed columns. `look` asks of
 // columns what stands there. Crate `columns_fixed` reads numbers in fixed columns, `columns_emit` lays bytes, `columns_decimals` numbers.
+#![tactic(auto)]
+
 pub mod format;
 pub mod look;
 

@@ -1,4 +1,6 @@
 // Numbers laid over a lent buffer from a place on, clipped to it, digit by digit.
+#![tactic(auto)]
+
 ghost use Rattle.std.specs.Prelude.{◌≡◌, ◌+◌, ◌-◌, ◌≤◌, ◌<◌, ◌^◌, length};
 ghost use Rattle.columns.specs.Laid.{Wrote};
 ghost use Rattle.columns.specs.Decimal.{dec, signed_dec, to_right, to_left};

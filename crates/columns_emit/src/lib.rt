@@ -1,5 +1,7 @@
 // Bytes laid over a lent buffer from a place on, clipped to it; each function returns the place after what it wrote.
 // With an empty buffer they measure and touch nothing. Crate `columns_decimals` lays numbers so.
+#![tactic(auto)]
+
 ghost use Rattle.std.specs.Prelude.{◌≡◌, ◌+◌, ◌-◌, ◌<◌, ◌^◌, [], ◌∷◌, length, replicate};
 ghost use Rattle.columns.specs.Laid.{Wrote};
 

@@ -1,4 +1,6 @@
 // Numbers read in fixed columns.
+#![tactic(auto)]
+
 ghost use Rattle.std.specs.Prelude.{true, false, ◌≡◌, ◌+◌, ◌≤◌, ◌<◌, length};
 ghost use Rattle.columns.specs.Columns.{columns};
 ghost use Rattle.columns.specs.Fixed.{digits_of, field_of, is_number, with_sign, behind_sign, signed_of};

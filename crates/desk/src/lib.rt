@@ -1,5 +1,7 @@
 // The two ways of the desk: a file to its sheet, and a sheet to its canonical file; the lent table of records and the name lookup.
 // What they answer, and the rules that a file meets. Crate `read_file` reads, `write_sheet` writes, `desk_table` and `desk_name` look up.
+#![tactic(auto)]
+
 pub mod answers;
 
 use columns::format::FIELD_COLUMNS;

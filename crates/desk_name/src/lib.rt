@@ -1,4 +1,6 @@
 // The name that a viewer shows for an entry: its label columns where they stand in the file, or the stand-in where those are blank.
+#![tactic(auto)]
+
 ghost use Rattle.std.specs.Prelude.{◌≡◌, ◌<◌, length};
 ghost use Rattle.read_passes.specs.Ready.{Ready};
 ghost use Rattle.desk.specs.Answers.{shown};

@@ -1,4 +1,6 @@
 // What igsheet prints of a file: its sheet, or the line that says why there is none.
+#![tactic(auto)]
+
 ghost use Rattle.std.specs.Prelude.{◌≡◌, [], ◌∷◌, ◌++◌, ◌+◌, ◌^◌, ◌≤◌, ◌<◌, length};
 ghost use Rattle.columns.specs.Decimal.{dec};
 ghost use Rattle.columns.specs.Laid.{Wrote};

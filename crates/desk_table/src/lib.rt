@@ -1,5 +1,7 @@
 // The directory in a lent table of records: one slot an entry, filled exactly if reading accepts the file under the list.
 // `plan_for` asks reading, `slot` makes a record by value, and `directory` alone touches the table.
+#![tactic(auto)]
+
 mod slot;
 
 ghost use Rattle.std.specs.Prelude.{◌≡◌, length};

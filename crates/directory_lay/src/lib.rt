@@ -1,4 +1,6 @@
 // The two D lines of an entry, laid over a lent buffer: columns 1 to 72 of each.
+#![tactic(auto)]
+
 ghost use Rattle.std.specs.Prelude.{◌+◌, ◌^◌, ◌≤◌, ◌<◌, length};
 ghost use Rattle.columns.specs.Decimal.{signed_dec, padded};
 ghost use Rattle.columns.specs.Laid.{Wrote};

@@ -1,4 +1,6 @@
 // What a directory number names: entry i of the file has its first D line at index first + 2 * i among the lines.
+#![tactic(auto)]
+
 ghost use Rattle.std.specs.Prelude.{◌≡◌, ◌+◌, ◌*◌, ◌≤◌, length};
 ghost use Rattle.columns.specs.Format.{line_bytes};
 ghost use Rattle.references.specs.References.{class_at};

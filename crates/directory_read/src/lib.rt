@@ -1,4 +1,5 @@
 // The two D lines of an entry, read where they stand. A line is told by its index in the file, from 0: it is a place in the bytes.
+#![tactic(auto)]
 
 ghost use Rattle.std.specs.Prelude.{false, ◌≡◌, ◌+◌, ◌*◌, ◌^◌, ◌≤◌, ◌<◌, length};
 ghost use Rattle.columns.specs.Columns.{columns};

@@ -1,4 +1,6 @@
 // What an entry's numbers mean, and what rules 9, 13 and 10 ask of them.
+#![tactic(auto)]
+
 ghost use Rattle.std.specs.Prelude.{◌≡◌, ◌<◌, length, leb};
 ghost use Rattle.columns.specs.Decimal.{signed_dec};
 ghost use Rattle.columns.specs.Format.{field_columns};

@@ -1,6 +1,8 @@
 // The lines of the canonical file, laid over a lent buffer and clipped to it: with an empty buffer they are measured.
 // `lines` writes an S line, an entry's two D lines and the T line, `text` ends a record and its lines. Crate `file_parameters`
 // writes an entity's P lines, `file_globals` the G lines.
+#![tactic(auto)]
+
 pub mod lines;
 pub mod text;
 

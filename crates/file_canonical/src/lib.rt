@@ -1,5 +1,7 @@
 // The canonical file of a sheet: its bytes.
 // `starts` lays the S lines, `entries` the D and P lines entry by entry, `file` the whole file. Crate `file_tally` counts its lines before.
+#![tactic(auto)]
+
 mod entries;
 pub mod file;
 mod starts;

@@ -1,4 +1,6 @@
 // The G lines, from those of a sheet.
+#![tactic(auto)]
+
 ghost use Rattle.std.specs.Prelude.{◌≡◌, [], ◌∷◌, ◌+◌, ◌-◌, ◌^◌, ◌≤◌, ◌<◌, length};
 ghost use Rattle.columns.specs.Laid.{laid};
 ghost use Rattle.columns.specs.Format.{text_columns};

@@ -1,4 +1,6 @@
 // How many lines the canonical file of a sheet has, line by line, for a walk over the sheet. Nothing is counted further than a file goes.
+#![tactic(auto)]
+
 ghost use Rattle.std.specs.Prelude.{◌≡◌, false, ◌+◌, ◌-◌, ◌^◌, ◌≤◌, ◌<◌};
 ghost use Rattle.columns.specs.Format.{text_columns, parameter_columns};
 ghost use Rattle.values.specs.declared.Value.TheVariants.{Whole};

@@ -1,4 +1,6 @@
 // Prints the sheet of the file at standard input, or why it has none.
+#![tactic(auto)]
+
 fn main() {
     let mut file = io::large_buffer();
     // A file that is too long is seen to be so: the buffer holds more than the most that is read.

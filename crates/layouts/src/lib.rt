@@ -1,6 +1,7 @@
 // The type list and the layouts of its types, as one machine: a state, a step for each value of an entity, a verdict at the end.
 // Crate `layouts_lists` says what a list knows, `layouts_rows` has the table of places, `layouts_takes` is what a place makes of a value,
 // `layouts_machine` goes from place to place.
+#![tactic(auto)]
 
 // A kind of place. R, S, I, P, Q are the paper's r, s, i, p, q.
 #[derive(Drop)]

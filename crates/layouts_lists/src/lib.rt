@@ -1,4 +1,6 @@
 // What a type list knows.
+#![tactic(auto)]
+
 ghost use Rattle.std.specs.Prelude.{◌≡◌, leb};
 ghost use Rattle.columns.specs.Format.{most_list};
 ghost use Rattle.layouts.specs.Layout.{bit_of};

@@ -1,4 +1,5 @@
 // From place to place: a start, a step for each value, a verdict at the end.
+#![tactic(auto)]
 
 ghost use Rattle.std.specs.Prelude.{◌≡◌, ◌+◌, ◌≤◌, ◌<◌};
 ghost use Rattle.layouts.specs.Table.{place_at, start_of};

@@ -1,4 +1,6 @@
 // The table of places. `told` asks of a value what a place must know.
+#![tactic(auto)]
+
 pub mod told;
 
 ghost use Rattle.std.specs.Prelude.{◌≡◌};

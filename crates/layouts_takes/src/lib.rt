@@ -1,4 +1,6 @@
 // What a place makes of a value.
+#![tactic(auto)]
+
 ghost use Rattle.std.specs.Prelude.{◌≡◌, true, ◌||◌, ◌&&◌, ◌^◌, ◌<◌, eqb};
 ghost use Rattle.layouts.specs.Machine.{need, with_k1, with_k2, with_m1, with_m2, with_bad, refer, takes};
 

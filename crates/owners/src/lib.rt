@@ -1,5 +1,7 @@
 // Which P line is whose: every line in an entry's range names the entry, and every P line lies in the range of the entry that it names.
 // `places` reads names, pointers and line counts where they stand in a file; crate `owners_pass` has the checks over them.
+#![tactic(auto)]
+
 pub mod places;
 
 use columns::{DirectoryNumber, ParameterLine};

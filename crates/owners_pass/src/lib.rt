@@ -1,4 +1,6 @@
 // Which P line is whose, asked of a file: checks over names, pointers and line counts, each linear in the lines.
+#![tactic(auto)]
+
 ghost use Rattle.std.specs.Prelude.{◌≡◌, ◌+◌, ◌<◌, ◌≤◌};
 ghost use Rattle.columns.specs.First.{first_not};
 ghost use Rattle.cards.specs.Cards.{entries};

@@ -2,6 +2,8 @@
 // `characters` copies characters of a record's text, `lines` writes a line with a value, `taking` takes a record's values. Crate
 // `print_starts` writes the S lines, `print_globals` the G lines, `print_values` an entity's values with their marks, `print_sheet` the
 // entries' lines and the whole.
+#![tactic(auto)]
+
 pub mod characters;
 pub mod lines;
 pub mod taking;

@@ -1,4 +1,6 @@
 // The whole sheet. `rows` writes the entries' lines and the Z line.
+#![tactic(auto)]
+
 pub mod rows;
 
 ghost use Rattle.std.specs.Prelude.{◌+◌, ◌*◌, ◌^◌, ◌≤◌, ◌<◌, length};

@@ -1,4 +1,6 @@
 // The S lines: the text of columns 1 to 72 without trailing blanks.
+#![tactic(auto)]
+
 ghost use Rattle.std.specs.Prelude.{◌≡◌, [], ◌∷◌, ◌++◌, map, ◌+◌, ◌*◌, ◌^◌, ◌≤◌, ◌<◌, length, take, drop};
 ghost use Rattle.columns.specs.First.{up_from};
 ghost use Rattle.columns.specs.Trim.{trim_end};

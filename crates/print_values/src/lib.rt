@@ -1,4 +1,6 @@
 // The value lines of an entity.
+#![tactic(auto)]
+
 ghost use Rattle.std.specs.Prelude.{◌+◌, ◌*◌, ◌^◌, ◌≤◌, ◌<◌};
 ghost use Rattle.columns.specs.Columns.{text_of};
 ghost use Rattle.columns.specs.Laid.{Wrote};

@@ -1,4 +1,6 @@
 // All that is asked of a file before the last pass, in the paper's order.
+#![tactic(auto)]
+
 ghost use Rattle.std.specs.Prelude.{◌≡◌};
 ghost use Rattle.cards.specs.Rules.{Holds};
 ghost use Rattle.owners.specs.InFile.{owners_in, outcome};

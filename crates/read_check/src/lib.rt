@@ -1,5 +1,7 @@
 // All checks of a file in the paper's order: `last_pass` goes over its entities; `weigh` asks the list, all that is asked before, and the
 // last pass; `check` is its answer alone.
+#![tactic(auto)]
+
 ghost use Rattle.std.specs.Prelude.{◌≡◌, ◌+◌, ◌^◌, ◌<◌};
 ghost use Rattle.model.specs.Read.{last_pass};
 ghost use Rattle.read_passes.specs.Passes.{pass_of};

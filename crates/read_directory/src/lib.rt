@@ -1,5 +1,7 @@
 // Each entry in turn, read once: 9, then 13; and on the way 10, whose first refusal is kept for the end: it counts if all entries pass 9
 // and 13.
+#![tactic(auto)]
+
 mod refer;
 
 ghost use Rattle.std.specs.Prelude.{◌≡◌, ◌<◌};

@@ -1,5 +1,7 @@
 // The last pass over one entity, read where its record stands: 6 and 7 in text order, 12, 14, 15. `naming` tells what a value names in the
 // file, `marks` how each value is marked in the sheet. Crate `read_walk` goes over an entity's values once, `read_entity` is the pass.
+#![tactic(auto)]
+
 pub mod marks;
 pub mod naming;
 

@@ -1,4 +1,6 @@
 // The pass over one entity: its record's values, the type that stands first, its layout.
+#![tactic(auto)]
+
 ghost use Rattle.std.specs.Prelude.{◌≡◌, ◌*◌, ◌≤◌};
 ghost use Rattle.columns.specs.Columns.{text_of};
 ghost use Rattle.columns.specs.Format.{parameter_columns};

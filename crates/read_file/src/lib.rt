@@ -1,4 +1,6 @@
 // A file to its sheet.
+#![tactic(auto)]
+
 mod sheet;
 
 ghost use Rattle.std.specs.Prelude.{◌≡◌, length};

@@ -1,4 +1,6 @@
 // G: 6 and 7 in text order, stray text, then 8.
+#![tactic(auto)]
+
 ghost use Rattle.std.specs.Prelude.{◌≡◌, ◌*◌, ◌<◌, ◌≤◌};
 ghost use Rattle.columns.specs.Format.{text_columns};
 ghost use Rattle.cards.specs.Rules.{Holds};

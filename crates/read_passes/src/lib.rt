@@ -1,5 +1,6 @@
 // Reading: what the passes over a file say, each of which answers the first refusal.
 // Crate `read_global` looks at G, `read_directory` at the directory, `read_before` goes through all that is asked before the last pass.
+#![tactic(auto)]
 
 use cards::Counts;
 use columns::{Fault, FileLine};

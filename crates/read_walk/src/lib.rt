@@ -1,5 +1,7 @@
 // One walk over an entity's values behind its type: it checks them, steps the layout and measures their lines in the sheet.
 // The layout and the sheet see the values up to the last that is no default, so defaults are owed until a value is given behind them.
+#![tactic(auto)]
+
 ghost use Rattle.std.specs.Prelude.{◌≡◌, ◌+◌, ◌*◌, ◌^◌, ◌≤◌, ◌<◌, length, replicate};
 ghost use Rattle.columns.specs.Columns.{text_of};
 ghost use Rattle.columns.specs.Format.{line_bytes, parameter_columns};

@@ -1,5 +1,7 @@
 // Reading: what the checks of a file say in the paper's order, and what stands behind them in the sheet. `entity_at` reads the parameters
 // of an entity and measures its lines in the sheet on the way. Crate `read_check` has the last pass over all of them and all checks.
+#![tactic(auto)]
+
 ghost use Rattle.std.specs.Prelude.{◌≡◌, ◌+◌, ◌*◌, ◌^◌, ◌<◌, ◌≤◌};
 ghost use Rattle.columns.specs.Format.{field_columns};
 ghost use Rattle.cards.specs.Cards.{entries, entry_line};

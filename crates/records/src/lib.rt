@@ -1,6 +1,8 @@
 // The values of a G or P record, one after the other, where they stand in the file; and the canonical flow of values into lines.
 // `position` says where a position of such lines stands. Crate `records_read` reads the next value of a record, `records_global` the
 // Global opening and the kinds of its fields, `records_flow` writes values into lines of a file.
+#![tactic(auto)]
+
 pub mod position;
 
 use columns::Fault;

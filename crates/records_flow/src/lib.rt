@@ -1,4 +1,6 @@
 // The canonical flow: values written into the columns of a file's lines. With an empty buffer nothing is written, and the answer measures.
+#![tactic(auto)]
+
 ghost use Rattle.std.specs.Prelude.{◌≡◌, [], ◌∷◌, ◌++◌, ◌+◌, ◌*◌, ◌^◌, ◌≤◌, ◌<◌, length, replicate};
 ghost use Rattle.columns.specs.Format.{line_columns, line_bytes};
 ghost use Rattle.values.specs.Value.{item_of};

@@ -1,4 +1,6 @@
 // The values of a record, read where they stand in the file: the first w columns of so many lines, the first of them at base.
+#![tactic(auto)]
+
 ghost use Rattle.std.specs.Prelude.{◌≡◌, ◌+◌, ◌-◌, ◌*◌, ◌≤◌, ◌<◌, get_or, drop};
 ghost use Rattle.columns.specs.Columns.{text_of};
 ghost use Rattle.values.specs.Reading.{Within};

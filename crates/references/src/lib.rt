@@ -1,4 +1,6 @@
 // What a reference may ask of the entry that it names: that it is there, and of which type it is.
+#![tactic(auto)]
+
 ghost use Rattle.std.specs.Prelude.{◌≡◌, ◌≤◌};
 ghost use Rattle.references.specs.References.{other_entry, entry142, class_of, fits};
 

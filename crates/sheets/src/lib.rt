@@ -1,5 +1,7 @@
 // Sheet lines in and out: what each line says, and the order of lines. `order` is the machine over the lines. Crate `sheets_numbers` reads
 // the numbers of a sheet, `sheets_read` its lines, `sheets_lay` writes lines.
+#![tactic(auto)]
+
 use columns::{SheetLine, Signed};
 use directory::Fields;
 use values::Value;

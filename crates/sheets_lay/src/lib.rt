@@ -1,4 +1,6 @@
 // Sheets out: each function writes a line and its LF, clipped to the buffer, and returns the place after it.
+#![tactic(auto)]
+
 ghost use Rattle.std.specs.Prelude.{◌≡◌, false, cond, [], ◌∷◌, ◌++◌, ◌+◌, ◌^◌, ◌≤◌, ◌<◌, length};
 ghost use Rattle.columns.specs.Laid.{Wrote};
 ghost use Rattle.columns.specs.Letters.{tab, newline, letter_e, letter_r, letter_u, letter_v};

@@ -1,4 +1,6 @@
 // Sheets in: where a line ends and what it says.
+#![tactic(auto)]
+
 ghost use Rattle.std.specs.Prelude.{◌≡◌, true, false, [], ◌+◌, ◌-◌, ◌≤◌, ◌<◌, length, drop};
 ghost use Rattle.columns.specs.Columns.{columns};
 ghost use Rattle.columns.specs.Letters.{newline};

@@ -1,1 +1,2 @@
 // A sheet's lines taken as its entries: laws alone.
+#![tactic(auto)]

@@ -1,4 +1,6 @@
 // What C and C++ call; include/szelmikra.h declares it. Each function is the proved one of `read_file` or `write_sheet` under a plain name.
+#![tactic(auto)]
+
 ghost use Rattle.std.specs.Prelude.{◌≡◌, length};
 ghost use Rattle.model.specs.Read.{reads};
 ghost use Rattle.model.specs.Write.{writes};

@@ -1,5 +1,6 @@
 // One value of free format: an integer, a real, a string or a default. Crate `values_read` reads a number or a string's head from the rest
 // of a line, `values_spell` writes a value in its one spelling, `values_strict` reads that spelling alone.
+#![tactic(auto)]
 
 ghost use Rattle.std.specs.Prelude.{◌≡◌};
 ghost use Rattle.values.specs.Value.{is_missing};

@@ -1,4 +1,6 @@
 // Digits read one by one, however many there are, without a loss.
+#![tactic(auto)]
+
 ghost use Rattle.std.specs.Prelude.{◌≡◌, ◌+◌, ◌-◌, ◌*◌, ◌^◌, ◌≤◌, ◌<◌, min, length, drop};
 ghost use Rattle.columns.specs.Letters.{digit0, digit9};
 ghost use Rattle.values.specs.Reading.{more, scan, cap_run, Small};

@@ -1,4 +1,6 @@
 // The number that digits, a point and an exponent make, within its limits.
+#![tactic(auto)]
+
 ghost use Rattle.std.specs.Prelude.{◌≡◌, false, ◌+◌, ◌-◌, ◌^◌, ◌≤◌, ◌<◌};
 ghost use Rattle.values.specs.Number.{whole_of, normal};
 ghost use Rattle.values.specs.Reading.{finish_run};

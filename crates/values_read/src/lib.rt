@@ -1,5 +1,7 @@
 // A number in the rest of a line, of any length, read without a loss; and the head of a string.
 // Crate `values_digits` reads digits, `values_limits` makes the number of them.
+#![tactic(auto)]
+
 ghost use Rattle.std.specs.Prelude.{◌≡◌, true, false, ◌&&◌, ◌+◌, ◌-◌, ◌^◌, ◌≤◌, ◌<◌, length, drop, leb, eqb};
 ghost use Rattle.columns.specs.Letters.{letter_h};
 ghost use Rattle.values.specs.Number.{sign_len, point_len, power_of, power, power_at, number_of};

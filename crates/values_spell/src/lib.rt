@@ -1,4 +1,6 @@
 // A value's one spelling, laid over a lent buffer; with an empty buffer it is measured.
+#![tactic(auto)]
+
 ghost use Rattle.std.specs.Prelude.{◌≡◌, ◌+◌, ◌^◌, ◌≤◌, ◌<◌, length};
 ghost use Rattle.columns.specs.Decimal.{minus};
 ghost use Rattle.columns.specs.Laid.{Wrote};

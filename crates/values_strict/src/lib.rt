@@ -1,4 +1,6 @@
 // A value's one spelling read back, and no other: straight from the text, by what stands behind its sign and its digits.
+#![tactic(auto)]
+
 ghost use Rattle.std.specs.Prelude.{◌≡◌, ◌||◌, ◌+◌, ◌≤◌, ◌<◌, min, length, drop, ltb, eqb};
 ghost use Rattle.columns.specs.Decimal.{minus};
 ghost use Rattle.columns.specs.Letters.{letter_d, letter_e};

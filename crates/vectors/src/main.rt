@@ -1,5 +1,7 @@
 // Tries the vectors of the pack at standard input, and says how many of them passed; those that did not are named.
 // `pack` finds a vector's parts, `room` makes a buffer ready and looks what became of it, `vector` tries one.
+#![tactic(auto)]
+
 mod pack;
 mod room;
 mod vector;

@@ -1,4 +1,6 @@
 // Prints the table of the file at standard input, slot by slot, and the names for the directory numbers 0 to 6.
+#![tactic(auto)]
+
 ghost use Rattle.std.specs.Prelude.{◌≡◌, length};
 ghost use Rattle.desk.specs.Answers.{listed_in, slots_left};
 ghost use Rattle.viewer.specs.Unused.{nines};

@@ -4,6 +4,8 @@
 // The second walk asks 10 of each entry, then 14, 15 and 18 with the value lines behind it, and goes on behind these; behind a refused
 // entity only 10 is left to ask. `first` is the first walk; `marks` makes another table for a sheet that has more entries than a file
 // can have. Crate `write_lines` has what it asks of a line and keeps of an entry, `write_entities` makes the second walk.
+#![tactic(auto)]
+
 mod first;
 mod marks;
 

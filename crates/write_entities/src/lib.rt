@@ -1,5 +1,7 @@
 // What the entities of a sheet are asked: 10, then 14 and 15 by their layouts, where the list knows them, then 18 by their marks. `naming`
 // has what a value names.
+#![tactic(auto)]
+
 mod naming;
 
 ghost use Rattle.std.specs.Prelude.{◌≡◌, true, ◌+◌, ◌≤◌, length};

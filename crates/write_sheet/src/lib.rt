@@ -1,4 +1,6 @@
 // A sheet to its canonical file.
+#![tactic(auto)]
+
 mod file;
 
 ghost use Rattle.std.specs.Prelude.{◌≡◌, length};
