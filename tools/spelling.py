@@ -16,8 +16,8 @@ SIGN = re.compile(r"\s*(?:(abbrev|unfoldable) )?(?:pub )?(?:(abbrev|unfoldable) 
 WORDS = set("length take drop set map get_or append replicate reverse sum min max not fold concat zip sub add mul div mod pow".split())
 
 
-# `first_of` is a tactic, `goes_on` a constructor beside the definition that had a capital
-BY_HAND = {"first_of": "first_among", "first-of": "first_among_lem", "goes_on": "going_on"}
+# `first_of` is a tactic, `goes_on` a constructor beside the definition that had a capital; the library has lemmas of the two names with a dash
+BY_HAND = {"and-false": "and-false", "or-false": "or-false", "first_of": "first_among", "first-of": "first_among_lem", "goes_on": "going_on"}
 
 
 def texts(root, *kinds):

@@ -37,9 +37,9 @@ both_right a b e = (both a b e).1
 pub both_true : {a b : Bool} → a ≡ true → b ≡ true → a && b ≡ true
 both_true e h = rw (e, h)
 
-pub and_false : (a : Bool) → a && false ≡ false
-and_false true = refl
-and_false false = refl
+pub and-false : (a : Bool) → a && false ≡ false
+and-false true = refl
+and-false false = refl
 
 pub and_true : (a : Bool) → a && true ≡ a
 and_true true = refl

@@ -16,7 +16,7 @@ use Rattle.columns.specs.declared.SignedField.TheVariants.{Number, Bad}
 use Rattle.columns.specs.Columns.{columns}
 use Rattle.columns.specs.Fixed.{signed_of}
 use Rattle.columns.specs.Reading.{SizeBelow}
-use Rattle.columns.proofs.Tests.{and_false}
+use Rattle.columns.proofs.Tests.{and-false}
 use Rattle.directory.specs.declared.Fields.{Fields}
 use Rattle.directory.specs.declared.EntryRead.{EntryRead}
 use Rattle.directory.specs.declared.EntryRead.TheVariants.{Spelt, Wrong}
@@ -65,10 +65,10 @@ module _ (x : Fields) (a from count : SignedField) where
   spelt_type s e h = rw (← e, h)
 
   pub spelt_pointer : (s : Bool) → s ≡ positive from → s ≡ false → Wrong ≡ spelt_as x a from count
-  spelt_pointer s e h = simp (sym e ∙ h, and_false)
+  spelt_pointer s e h = simp (sym e ∙ h, and-false)
 
   pub spelt-lines : (s : Bool) → s ≡ positive count → s ≡ false → Wrong ≡ spelt_as x a from count
-  spelt-lines s e h = simp (sym e ∙ h, and_false)
+  spelt-lines s e h = simp (sym e ∙ h, and-false)
 
   pub spelt_good : (s p q : Bool) (m n : ℕ) → s ≡ is_same x.entity a → s ≡ true → p ≡ positive from → p ≡ true → q ≡ positive count → q ≡ true
       → m ≡ size_of from → n ≡ size_of count → Spelt x (parameter_line m) n ≡ spelt_as x a from count

@@ -1,6 +1,6 @@
 -- What the machine says of an entity, and which values it marks, told by what its places ask. Assumes nothing.
 use mathlib.Core.Path.{◌≡◌, refl, sym, ap, ap₂, ◌∙◌}
-use mathlib.Core.Bool.{Bool, true, false, cond, not, ◌&&◌, ◌||◌, or_false}
+use mathlib.Core.Bool.{Bool, true, false, cond, not, ◌&&◌, ◌||◌, or-false}
 use mathlib.Core.List.{List, [], ◌∷◌}
 use Prim.Native.Nat.{ℕ, suc, ◌-◌}
 use lib.Dec.{eqb, ltb}
@@ -71,7 +71,7 @@ module _ (types : List ℕ) where
 
   module _ (i n : ℕ) (c : Counts) (b : Bool) where
     plain : (t : Bool) (d : Counts) → need t (standing i n d b) ≡ need t (standing i n d (b || false))
-    plain t d = ap (λ (x : Bool). need t (standing i n d x)) (sym (or_false b))
+    plain t d = ap (λ (x : Bool). need t (standing i n d x)) (sym (or-false b))
 
     refer-is : (free : Bool) (want : ℕ) (v : Value) → refer free want (standing i n c b) v (named types v)
         ≡ need (integer v || is_missing v) (standing i n c (b || not ((free && nought v) || fits want (named types v))))
@@ -127,7 +127,7 @@ module _ (types : List ℕ) where
   rests-on : (s : LayoutState) → place_at s.at ≡ Fixed 1 of Rest → (vs : List Item) → verdict_from types (Go s) vs ≡ said s.bad [] vs
   unfolding verdict_from run end finish takes everywhere
   rests-on s h [] =
-      ap (λ (q : LayoutPlace). after (rests q.kind) (takes q.kind s Default 0) (λ (t : LayoutState). finish 15 (settle (beyond t)))) h ∙ ap closed (sym (or_false s.bad))
+      ap (λ (q : LayoutPlace). after (rests q.kind) (takes q.kind s Default 0) (λ (t : LayoutState). finish 15 (settle (beyond t)))) h ∙ ap closed (sym (or-false s.bad))
   rests-on s h (v ∷ vs) = ap (λ (g : Stepped). verdict_from types g vs) (step-rests s (seen v) h) ∙ go (is_missing (seen v)) (rests-on s h vs)
     where
       go : (t : Bool) → verdict_from types (Go s) vs ≡ said s.bad [] vs

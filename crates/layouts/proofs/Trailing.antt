@@ -38,9 +38,9 @@ never t e = let z : ◌≡◌ {A = ℕ} 0 1 = cc in absurd (no z)
     no : ◌≡◌ {A = ℕ} 0 1 → ⊥
     no z = omega arith
 
-or_false : (b : Bool) → (b || false) ≡ b
-or_false true = refl
-or_false false = refl
+or-false : (b : Bool) → (b || false) ≡ b
+or-false true = refl
+or-false false = refl
 
 or_true : (b : Bool) → (b || true) ≡ true
 or_true true = refl
@@ -69,7 +69,7 @@ idle Upper1 s t i n e = never t e
 idle Upper2 s t i n e = never t e
 idle Degree1 s t i n e = never t e
 idle Degree2 s t i n e = never t e
-idle (P want) s t i n e = ap (λ (b : Bool). Go (with_bad (stand t i n) b)) (or_false t.bad)
+idle (P want) s t i n e = ap (λ (b : Bool). Go (with_bad (stand t i n) b)) (or-false t.bad)
 idle (Q want) s t i n e =
     let q : (s.bad || true) ≡ t.bad = ap (λ (g : Stepped). (state g s).bad) e in
     ap (λ (b : Bool). Go (with_bad (stand t i n) b)) (or_true t.bad ∙ sym (or_true s.bad) ∙ q)

@@ -1,6 +1,6 @@
 -- What the functions of `values_strict` go by, one law for each need. Assumes nothing.
 use mathlib.Core.Path.{◌≡◌, refl, sym, ap, ◌∙◌}
-use mathlib.Core.Bool.{Bool, true, false, cond, ◌&&◌, ◌||◌, and_false}
+use mathlib.Core.Bool.{Bool, true, false, cond, ◌&&◌, ◌||◌, and-false}
 use mathlib.Core.List.{List, [], ◌∷◌}
 use Prim.Native.Nat.{ℕ, suc, ◌+◌, ◌-◌, ◌*◌, ◌%◌, ◌^◌, ◌≤◌, ◌<◌, min}
 use native.Mathlib.Nat.{lt_of_lt_of_le, pow-le-pow_right, pow-suc}
@@ -114,7 +114,7 @@ module _ (l : List ℕ) (at v k stop : ℕ) {r : Decimal} (es : stop ≡ min (le
         most t = let n : k - (at + 1) ≡ 16 = omega arith in (rw n at z).0
 
         full : k < length l → up_to v k ≡ r
-        full t = sym (step t ∙ rw (le-ltb v (10 ^ 16) (most t), and_false)) ∙ e
+        full t = sym (step t ∙ rw (le-ltb v (10 ^ 16) (most t), and-false)) ∙ e
 
     module _ {d : ℕ} (h : k < stop) (a : 48 ≤ get_or l k 0) (b : get_or l k 0 ≤ 57) (ed : d ≡ get_or l k 0 - 48) where
       pub longer-next : longer (drop (k + 1) l) (v * 10 + d) (k + 1) ≡ r

@@ -1,6 +1,6 @@
 -- What the head of a line is, from the digits that were scanned and the number that was read. Assumes nothing.
 use mathlib.Core.Path.{◌≡◌, refl, sym, ap, ◌∙◌}
-use mathlib.Core.Bool.{Bool, true, false, cond, ◌&&◌, and_false}
+use mathlib.Core.Bool.{Bool, true, false, cond, ◌&&◌, and-false}
 use mathlib.Core.List.{List}
 use Prim.Native.Nat.{ℕ, ◌+◌, ◌^◌, ◌≤◌, ◌<◌, min}
 use native.Mathlib.Nat.{zero-add}
@@ -35,7 +35,7 @@ head_cap x n v k h = pick (leb n 3) refl
   where
     pick : (b : Bool) → leb n 3 ≡ b → head_from x n (min v (10 ^ 17)) k ≡ head_from x n v k
     pick true e = let q : min v (10 ^ 17) ≡ v = omega (arith, three v n h (leb-true n 3 e)) in simp q
-    pick false e = simp (e, and_false)
+    pick false e = simp (e, and-false)
 
 head_in : (x n v m : ℕ) (k : Token) → v < 10 ^ n → (x ≡ 72 → n < m) → k.len ≤ m → Within m (head_from x n v k)
 head_in x n v m k h i l = pick (eqb x 72) (leb n 3) (leb 1 v) refl refl

@@ -1,6 +1,6 @@
 -- Laws of the definitions of specs/Number.antt. Assumes nothing.
 use mathlib.Core.Path.{◌≡◌, refl, sym, ap, ◌∙◌}
-use mathlib.Core.Bool.{Bool, true, false, cond, and_false}
+use mathlib.Core.Bool.{Bool, true, false, cond, and-false}
 use mathlib.Core.Logic.{◌⊎◌, inl, inr}
 use mathlib.Core.List.{List, [], ◌∷◌, ◌++◌}
 use Prim.Native.Nat.{ℕ, zero, suc, ◌+◌, ◌-◌, ◌*◌, ◌/◌, ◌%◌, ◌^◌, ◌≤◌, ◌<◌, min}
@@ -163,7 +163,7 @@ power_cap neg n v double from end h = pick (leb n 3) refl
   where
     pick : (b : Bool) → leb n 3 ≡ b → power_of neg n (min v (10 ^ 17)) double from end ≡ power_of neg n v double from end
     pick true e = let q : min v (10 ^ 17) ≡ v = omega (arith, three v n h (leb-true n 3 e)) in simp q
-    pick false e = simp (e, and_false)
+    pick false e = simp (e, and-false)
 
 whole_cap : (neg : Bool) (v end : ℕ) → whole_of neg (min v (10 ^ 17)) end ≡ whole_of neg v end
 whole_cap neg v end = pick (leb v 2147483647) refl

@@ -1,0 +1,24 @@
+use borrow.Author.Rules.{rules}
+use Rattle.columns.proofs.Fixed.{blanks}
+use Rattle.columns_fixed.proofs.behind_blanks.Goals as goal
+
+pub loop-i-init : goal.loop-i-init
+loop-i-init c = search (rules, blanks)
+
+pub bounds-s-i : goal.bounds-s-i
+bounds-s-i c = search (rules, blanks)
+
+pub returns-then-s-i-ne32 : goal.returns-then-s-i-ne32
+returns-then-s-i-ne32 c = search (rules, blanks)
+
+pub overflow_add-i : goal.overflow_add-i
+overflow_add-i c = search (rules, blanks)
+
+pub loop-i-smaller : goal.loop-i-smaller
+loop-i-smaller c = search (rules, blanks)
+
+pub loop-i-preserved : goal.loop-i-preserved
+loop-i-preserved c = search (rules, blanks)
+
+pub returns : goal.returns
+returns c = search (rules, blanks)
