@@ -9,7 +9,7 @@ use columns::format::{LINE_BYTES, MOST_LINES};
 use columns::{DirectoryNumber, Fault, FileLine, ParameterLine, wide};
 
 // How many lines of each section there are.
-#[derive(Drop)]
+#[derive(Clone, Copy)]
 pub struct Counts {
     pub s: u32,
     pub g: u32,
@@ -19,21 +19,21 @@ pub struct Counts {
 }
 
 // Where a line stands: the counts with it, and its number in its section.
-#[derive(Drop)]
+#[derive(Clone, Copy)]
 pub enum Placed {
     Here { counts: Counts, number: u32 },
     Nowhere,
 }
 
 // What a line does: the counts with it, or a refusal.
-#[derive(Drop)]
+#[derive(Clone, Copy)]
 pub enum LineStep {
     Next(Counts),
     Wrong(Fault),
 }
 
 // The counts of a file that is accepted, or the first refusal and its line.
-#[derive(Drop)]
+#[derive(Clone, Copy)]
 pub enum CardsRead {
     Counted(Counts),
     Refused { fault: Fault, line: FileLine },

@@ -8,7 +8,7 @@ pub mod look;
 ghost use Rattle.std.specs.Prelude.{◌≡◌, ◌^◌, ◌<◌};
 
 // Why an input is refused, in the order of the paper's table; specs/Refusal.antt gives the number of each.
-#[derive(Drop)]
+#[derive(Clone, Copy)]
 pub enum Fault {
     ListOrLength,
     Byte,
@@ -32,34 +32,34 @@ pub enum Fault {
 }
 
 // Directory numbers, parameter line numbers and file line numbers are counted apart; so are the lines of a sheet.
-#[derive(Drop)]
+#[derive(Clone, Copy)]
 pub struct DirectoryNumber(pub u32);
 
-#[derive(Drop)]
+#[derive(Clone, Copy)]
 pub struct ParameterLine(pub u32);
 
-#[derive(Drop)]
+#[derive(Clone, Copy)]
 pub struct FileLine(pub usize);
 
-#[derive(Drop)]
+#[derive(Clone, Copy)]
 pub struct SheetLine(pub usize);
 
 // A fixed number field without a sign.
-#[derive(Drop)]
+#[derive(Clone, Copy)]
 pub enum Field {
     Number(u32),
     Bad,
 }
 
 // A number with its sign: a sign and a size. Nought has no sign.
-#[derive(Drop)]
+#[derive(Clone, Copy)]
 pub struct Signed {
     pub neg: bool,
     pub size: u32,
 }
 
 // A fixed number field that may have a sign.
-#[derive(Drop)]
+#[derive(Clone, Copy)]
 pub enum SignedField {
     Number(Signed),
     Bad,

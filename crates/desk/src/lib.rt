@@ -10,7 +10,7 @@ use directory::Entry;
 
 // Accepted: number 0 and the length. Refused: the paper's number and the place; of 16 the length that is needed, else 0.
 #[repr(C)]
-#[derive(Drop)]
+#[derive(Clone, Copy)]
 pub struct Answer {
     pub number: u64,
     pub place: u64,
@@ -18,7 +18,7 @@ pub struct Answer {
 }
 
 // A slot of the lent table: an entry line's fields, whether the list knows the entity first of them; parameter pointer and line count.
-#[derive(Drop)]
+#[derive(Clone, Copy)]
 pub struct Record {
     pub known: bool,
     pub number: DirectoryNumber,

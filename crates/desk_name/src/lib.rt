@@ -13,7 +13,7 @@ use columns::{DirectoryNumber, look, wide};
 use read_weights::Checked;
 
 // What a directory number finds: a label and where it starts, a blank one, or no entry.
-#[derive(Drop)]
+#[derive(Clone, Copy)]
 enum Found {
     Label(usize),
     Blank,

@@ -14,7 +14,7 @@ use desk::{Answer, Record, answers};
 use read_weights::Checked;
 
 // What to do with the table: the answer, and how many entries to store, none for a refusal, the first of them at this line of the file.
-#[derive(Drop)]
+#[derive(Clone, Copy)]
 struct Plan {
     answer: Answer,
     first: usize,

@@ -9,7 +9,7 @@ pub mod order;
 use columns::{DirectoryNumber, Fault, ParameterLine, Signed};
 
 // The numbers of an entry as they are spelt, in a file or in a sheet; `entity` is its type, `display` its label display.
-#[derive(Drop)]
+#[derive(Clone, Copy)]
 pub struct Fields {
     pub entity: Signed,
     pub form: Signed,
@@ -26,14 +26,14 @@ pub struct Fields {
 }
 
 // A colour is a number or, negated, a reference to a definition entry; so are font and level.
-#[derive(Drop)]
+#[derive(Clone, Copy)]
 pub enum Attribute {
     Number(u32),
     Reference(DirectoryNumber),
 }
 
 // The directory record: what the numbers mean. A reference of 0 names nothing.
-#[derive(Drop)]
+#[derive(Clone, Copy)]
 pub struct Entry {
     pub entity: u32,
     pub form: u32,
@@ -50,7 +50,7 @@ pub struct Entry {
 }
 
 // An entry as its two D lines spell it: its numbers, where its parameters start and how many lines they take; or a wrong field.
-#[derive(Drop)]
+#[derive(Clone, Copy)]
 pub enum EntryRead {
     Spelt {
         fields: Fields,
@@ -61,14 +61,14 @@ pub enum EntryRead {
 }
 
 // What rules 9 and 13 say of an entry's numbers.
-#[derive(Drop)]
+#[derive(Clone, Copy)]
 pub enum Rule {
     Good,
     Refused(Fault),
 }
 
 // What a reference of an entry asks, if it asks: that this directory number names an entry of the class wanted.
-#[derive(Drop)]
+#[derive(Clone, Copy)]
 pub struct Wanted {
     pub asked: bool,
     pub number: DirectoryNumber,

@@ -20,21 +20,21 @@ pub const PARAMETER: u8 = b'P';
 pub const TERMINATE: u8 = b'T';
 
 // Where the lines of a sheet go on behind those that were written, and how many lines of the file these take.
-#[derive(Drop)]
+#[derive(Clone, Copy)]
 pub struct Block {
     pub next: usize,
     pub lines: usize,
 }
 
 // Where the lines of a sheet go on, and the position behind the values in the record's text.
-#[derive(Drop)]
+#[derive(Clone, Copy)]
 pub struct Flowed {
     pub next: usize,
     pub end: usize,
 }
 
 // A G line with its number: what follows its second tab goes from `from` up to `end`. Or the G lines end.
-#[derive(Drop)]
+#[derive(Clone, Copy)]
 pub enum GlobalLine {
     Field {
         number: u32,

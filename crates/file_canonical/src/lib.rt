@@ -11,7 +11,7 @@ use columns::ParameterLine;
 
 // What the lines of a sheet so far come to: S lines; the position behind the G record's last value, and that value's field; D lines, and
 // the P lines of the entries before the last; the position behind the last entry's last value.
-#[derive(Drop)]
+#[derive(Clone, Copy)]
 pub struct Tally {
     pub s: usize,
     pub global: usize,
@@ -22,14 +22,14 @@ pub struct Tally {
 }
 
 // How many lines of each section the file has, or that they are more than a file may have.
-#[derive(Drop)]
+#[derive(Clone, Copy)]
 pub enum Lines {
     Are(Counts),
     TooMany,
 }
 
 // Where the next entry stands: its line on the sheet, its D and P lines in the file, and the number of its first P line.
-#[derive(Drop)]
+#[derive(Clone, Copy)]
 pub struct EntryPlace {
     pub at: usize,
     pub d: usize,

@@ -4,7 +4,7 @@
 #![tactic(auto)]
 
 // A kind of place. R, S, I, P, Q are the paper's r, s, i, p, q.
-#[derive(Drop)]
+#[derive(Clone, Copy)]
 pub enum Kind {
     R,
     // 126 and 128: a real that must be given, a weight.
@@ -31,13 +31,13 @@ pub enum Kind {
 }
 
 // Where it goes on after a place: in this edition always at the next one.
-#[derive(Drop)]
+#[derive(Clone, Copy)]
 pub enum Then {
     Next,
 }
 
 // How many places of a kind stand side by side.
-#[derive(Drop)]
+#[derive(Clone, Copy)]
 pub enum Times {
     Fixed(u8),
     N,
@@ -48,7 +48,7 @@ pub enum Times {
 }
 
 // So many places of a kind, and where it goes on.
-#[derive(Drop)]
+#[derive(Clone, Copy)]
 pub struct LayoutPlace {
     pub kind: Kind,
     pub times: Times,
@@ -57,7 +57,7 @@ pub struct LayoutPlace {
 
 // Where the machine stands: at a place, with so many of it left; the numbers read so far; whether a reference was bad.
 // The widths keep 3(K1+1)(K2+1) in 64 bits.
-#[derive(Drop)]
+#[derive(Clone, Copy)]
 pub struct LayoutState {
     pub at: usize,
     pub left: u64,
@@ -69,14 +69,14 @@ pub struct LayoutState {
 }
 
 // Bad is refusal 14.
-#[derive(Drop)]
+#[derive(Clone, Copy)]
 pub enum Stepped {
     Go(LayoutState),
     Bad,
 }
 
 // Layout is refusal 14, LayoutReference 15.
-#[derive(Drop)]
+#[derive(Clone, Copy)]
 pub enum LayoutVerdict {
     Good,
     Layout,

@@ -7,7 +7,7 @@ pub mod places;
 use columns::{DirectoryNumber, ParameterLine};
 
 // Every line has its entry; or the first entry, or else the first line, that has not its own.
-#[derive(Drop)]
+#[derive(Clone, Copy)]
 pub enum Owned {
     Everyone,
     Entry(DirectoryNumber),

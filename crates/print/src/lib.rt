@@ -12,7 +12,7 @@ use layouts::Stepped;
 use values::Value;
 
 // A value that is met in a record, the position behind its delimiter, and whether that ends the record.
-#[derive(Drop)]
+#[derive(Clone, Copy)]
 pub struct Met {
     pub value: Value,
     pub next: usize,
@@ -20,7 +20,7 @@ pub struct Met {
 }
 
 // Behind a value's line: the place in the sheet, and where the marks stand.
-#[derive(Drop)]
+#[derive(Clone, Copy)]
 pub struct Behind {
     pub next: usize,
     pub marks: Stepped,

@@ -10,21 +10,21 @@ use layouts::Stepped;
 use values::Value;
 
 // A value of a record, and the position behind its delimiter.
-#[derive(Drop)]
+#[derive(Clone, Copy)]
 pub struct Taken {
     pub value: Value,
     pub next: usize,
 }
 
 // What the last pass says of an entity: nothing is wrong, or its first refusal.
-#[derive(Drop)]
+#[derive(Clone, Copy)]
 pub enum EntityAnswer {
     Good,
     Refused(Fault),
 }
 
 // What the last pass says of an entity, and the bytes of the lines of the values that it carries.
-#[derive(Drop)]
+#[derive(Clone, Copy)]
 pub struct Weighed {
     pub answer: EntityAnswer,
     pub length: usize,
@@ -32,7 +32,7 @@ pub struct Weighed {
 
 // An entity's values behind its type, walked over: the layout behind the last that is no default, and the bytes of the value
 // lines up to it; or the first refusal.
-#[derive(Drop)]
+#[derive(Clone, Copy)]
 pub enum EntityWalked {
     Done { state: Stepped, length: usize },
     Wrong(Fault),

@@ -19,7 +19,7 @@ use read_entities::{EntityAnswer, Weighed};
 use sheets_lay::entry_len;
 
 // What a file tells that passes all checks: its counts and delimiters; or its first refusal.
-#[derive(Drop)]
+#[derive(Clone, Copy)]
 pub enum Checked {
     Good {
         counts: Counts,
@@ -33,7 +33,7 @@ pub enum Checked {
 }
 
 // The same, with the bytes of the sheet behind its G lines.
-#[derive(Drop)]
+#[derive(Clone, Copy)]
 pub enum Weight {
     Good {
         counts: Counts,
@@ -48,7 +48,7 @@ pub enum Weight {
 }
 
 // Entities that pass, and the bytes that they take in the sheet; or the first refusal.
-#[derive(Drop)]
+#[derive(Clone, Copy)]
 pub enum Rows {
     Good(usize),
     Refused { fault: Fault, line: FileLine },

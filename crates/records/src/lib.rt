@@ -9,7 +9,7 @@ use columns::Fault;
 use values::Value;
 
 // What stands behind the blanks: a delimiter, and whether it ends the record, or something else.
-#[derive(Drop)]
+#[derive(Clone, Copy)]
 pub enum Next {
     Delimiter { at: usize, last: bool },
     Other { at: usize },
@@ -17,7 +17,7 @@ pub enum Next {
 
 // A value, where it starts, the position behind its delimiter, and whether that ends the record; or a refusal, where the value
 // starts, and the first position that cannot continue it (the text's length: the text ends early).
-#[derive(Drop)]
+#[derive(Clone, Copy)]
 pub enum Got {
     Found {
         value: Value,
@@ -33,7 +33,7 @@ pub enum Got {
 }
 
 // A record: how many values it has, how many up to the last that is no default, and the position behind it; or its first refusal.
-#[derive(Drop)]
+#[derive(Clone, Copy)]
 pub enum Check {
     Done {
         count: usize,
@@ -48,7 +48,7 @@ pub enum Check {
 }
 
 // The Global opening: the delimiters, the position behind it, and whether the record ends there; or a wrong opening.
-#[derive(Drop)]
+#[derive(Clone, Copy)]
 pub enum Opening {
     Opened {
         parameter: u8,
@@ -60,7 +60,7 @@ pub enum Opening {
 }
 
 // What a Global field holds.
-#[derive(Drop)]
+#[derive(Clone, Copy)]
 pub enum GlobalKind {
     String,
     Real,

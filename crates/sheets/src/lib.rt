@@ -9,7 +9,7 @@ use values::Value;
 pub mod order;
 
 // What an entry line says: whether it is marked E, the directory number, and the entry's numbers; or a wrong line.
-#[derive(Drop)]
+#[derive(Clone, Copy)]
 pub enum EntryLine {
     Got(bool, Signed, Fields),
     Wrong,
@@ -17,7 +17,7 @@ pub enum EntryLine {
 
 // What a line says. A value is told with where a string stands in what follows the line's tabs: for a Global field that is from `at` on.
 // `Nothing` tells whether the line begins as a value line does.
-#[derive(Drop)]
+#[derive(Clone, Copy)]
 pub enum Said {
     Start,
     Global {
@@ -57,7 +57,7 @@ pub const NO_RUN: usize = 0;
 
 // Where in the order of lines one stands: the section reached, the last G number, how many entries and lines there were, and the line of
 // the first of the defaults that the values end with so far.
-#[derive(Drop)]
+#[derive(Clone, Copy)]
 pub struct SheetState {
     pub section: u8,
     pub field: u32,
@@ -67,14 +67,14 @@ pub struct SheetState {
 }
 
 // What a line does: the state after it, or the first wrong line.
-#[derive(Drop)]
+#[derive(Clone, Copy)]
 pub enum SheetStep {
     On(SheetState),
     Off(SheetLine),
 }
 
 // The entry count, or the first wrong line.
-#[derive(Drop)]
+#[derive(Clone, Copy)]
 pub enum SheetVerdict {
     Good(usize),
     Wrong(SheetLine),

@@ -16,7 +16,7 @@ const MISSPELT: u64 = 2147483648;
 pub const UNREAD: u64 = 2147483649;
 
 // A number of an entry line, and where the tab behind it stands: at the line's end, if there is none.
-#[derive(Drop)]
+#[derive(Clone, Copy)]
 pub struct Tabbed {
     pub number: Signed,
     pub end: usize,

@@ -7,7 +7,7 @@ ghost use Rattle.values.specs.Value.{is_missing};
 
 // A value as it is read. A real is m times ten to plus or minus e; a string is where its characters stand in the record's text, and how
 // many.
-#[derive(Drop)]
+#[derive(Clone, Copy)]
 pub enum Value {
     Default,
     Whole {
@@ -28,7 +28,7 @@ pub enum Value {
 }
 
 // What the rest of a line spells as a number; beyond its limits; or no number.
-#[derive(Drop)]
+#[derive(Clone, Copy)]
 pub enum Number {
     Whole {
         neg: bool,
@@ -46,28 +46,28 @@ pub enum Number {
 }
 
 // What was read, and of how many characters: for a bad one, up to the first that cannot continue it.
-#[derive(Drop)]
+#[derive(Clone, Copy)]
 pub struct Token {
     pub number: Number,
     pub len: usize,
 }
 
 // What the rest of a line begins with: a string's count with its H, of so many characters, or a number.
-#[derive(Drop)]
+#[derive(Clone, Copy)]
 pub enum Head {
     Count { count: usize, len: usize },
     Plain(Token),
 }
 
 // A text as the value that has this spelling, if there is one. A string is where its characters stand in that text.
-#[derive(Drop)]
+#[derive(Clone, Copy)]
 pub enum Strict {
     Is(Value),
     Not,
 }
 
 // An exponent: none, a wrong one with the first place that cannot continue it, or ten to up less down.
-#[derive(Drop)]
+#[derive(Clone, Copy)]
 pub enum Power {
     None,
     Wrong {
@@ -83,7 +83,7 @@ pub enum Power {
 
 // The digits read so far: the number that they spell, the number that they spell up to the last that is not 0, how many zeros
 // follow that one, and how many digits there are.
-#[derive(Drop)]
+#[derive(Clone, Copy)]
 pub struct Run {
     pub value: u64,
     pub mant: u64,
@@ -92,7 +92,7 @@ pub struct Run {
 }
 
 // A number in plain decimal, and where it ends.
-#[derive(Drop)]
+#[derive(Clone, Copy)]
 pub struct Decimal {
     pub value: u64,
     pub end: usize,

@@ -15,7 +15,7 @@ use crate::vector::{gives, wants_room};
 
 // A vector: whether it is written (1) or read (0), under which list, the answer that is expected; where its name, its input and the
 // expected output stand in its pack, up to where the next vector begins.
-#[derive(Drop)]
+#[derive(Clone, Copy)]
 pub enum Packed {
     Vector {
         op: u64,
@@ -34,7 +34,7 @@ pub enum Packed {
 const PACK: usize = 524288;
 
 // How many vectors were tried, and how many passed.
-#[derive(Drop)]
+#[derive(Clone, Copy)]
 struct Results {
     tried: u64,
     passed: u64,

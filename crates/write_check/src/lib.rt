@@ -22,7 +22,7 @@ use write_lines::SheetPass;
 use write_lines::table::TABLE;
 
 // Where the first walk stands behind value lines: the state, the place, and the position behind the last value in its record.
-#[derive(Drop)]
+#[derive(Clone, Copy)]
 pub struct Past {
     pub state: SheetState,
     pub next: usize,
@@ -31,7 +31,7 @@ pub struct Past {
 
 // What the first walk tells: the verdict on a sheet's lines and, where that is good, whether all is good that lines are asked by
 // themselves, and what its lines come to.
-#[derive(Drop)]
+#[derive(Clone, Copy)]
 pub struct SheetWalked {
     pub verdict: SheetVerdict,
     pub pass: SheetPass,
@@ -39,7 +39,7 @@ pub struct SheetWalked {
 }
 
 // The number of entries of a sheet that passes all checks, and the lines of its file; or its first refusal.
-#[derive(Drop)]
+#[derive(Clone, Copy)]
 pub enum Ruled {
     Good { entries: usize, lines: Lines },
     Refused { fault: Fault, line: SheetLine },

@@ -27,14 +27,14 @@ use write_lines::heads::head_at;
 use write_lines::refer::{reference_of, references};
 
 // The layout's state behind an entity's values, and whether all their marks are right.
-#[derive(Drop)]
+#[derive(Clone, Copy)]
 pub struct Judged {
     pub state: Stepped,
     pub right: bool,
 }
 
 // The same of the value lines behind a line, with the place behind them and how many they are.
-#[derive(Drop)]
+#[derive(Clone, Copy)]
 pub struct Values {
     pub state: Stepped,
     pub right: bool,
@@ -43,7 +43,7 @@ pub struct Values {
 }
 
 // What comes of a line and the value lines behind it, with the place behind them and how many they are.
-#[derive(Drop)]
+#[derive(Clone, Copy)]
 pub struct Asked {
     pub found: SheetPass,
     pub next: usize,

@@ -110,7 +110,7 @@ fn share(bytes: usize, all: usize, some: usize) -> usize
 }
 
 // Bytes of a sheet, with the number of the first entry that starts among them and that of the first behind them.
-#[derive(Drop)]
+#[derive(Clone, Copy)]
 struct Span {
     from: usize,
     stop: usize,

@@ -12,7 +12,7 @@ pub mod table;
 use columns::{Fault, SheetLine};
 
 // All is good, or the first refusal and its line.
-#[derive(Drop)]
+#[derive(Clone, Copy)]
 pub enum SheetPass {
     Good,
     Refused { fault: Fault, line: SheetLine },
