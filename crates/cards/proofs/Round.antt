@@ -1,5 +1,5 @@
 -- A file that is put together of its sections' lines has its counts, and its lines are those lines.
-use mathlib.Core.Path.{◌≡◌, refl, sym, ap, ◌∙◌}
+use mathlib.Core.Path.{◌≡◌, refl, sym, ap, ap₂, ◌∙◌}
 use mathlib.Core.Bool.{true}
 use Prim.Native.Nat.{ℕ, zero, suc, ◌+◌, ◌-◌, ◌*◌, ◌/◌, ◌%◌, ◌^◌, ◌≤◌, ◌<◌}
 use native.Mathlib.Nat.{zero-add, add-zero}
@@ -184,7 +184,8 @@ lines_after (one {x} {xs} h hs) p k e =
     let a : 81 * k - 81 * k ≡ 0 = omega arith in
     let b : 81 * k + 81 - 81 * k ≡ 81 = omega arith in
     let l : columns (p ++ (x ++ joined xs)) (81 * k) (81 * k + 81) ≡ x = columns_skip p (x ++ joined xs) (81 * k) (81 * k) (81 * k + 81) e (omega arith) ∙ (rw (a, b) (columns-part x (joined xs) 81 h)) in
-    rw (l, ← append_assoc p x (joined xs), lines_after hs (p ++ x) (k + 1) (length-append p x ∙ omega arith))
+    ap₂ (λ (a : List ℕ) (b : List (List ℕ)). a ∷ b) l
+    (ap (λ (s : List ℕ). lines_from s (k + 1) (length xs)) (sym (append_assoc p x (joined xs))) ∙ lines_after hs (p ++ x) (k + 1) (length-append p x ∙ omega arith))
 
 pub lines-joined : {ls : List (List ℕ)} → Whole ls → lines_of (joined ls) ≡ ls
 unfolding lines_of

@@ -62,6 +62,7 @@ module _ {A B : Type 0} (f : ℕ → A → Outcome B) where
       let g : f p x ≡ refused n q = rw k at h in
       let c : w ≡ x = cc in
       here (ap (f p) c ∙ g)
+  of_at p (w ∷ xs) (suc i) n q [] x zs e d h = elim e [ ]
   of_at p (w ∷ xs) (suc i) n q (y ∷ ys) x zs (next e s) d h =
       let k : p + 2 * suc i ≡ p + 2 + 2 * i = omega arith in
       later y e (of_at (p + 2) xs i n q ys x zs s d (rw k at h))

@@ -75,7 +75,7 @@ each_makes takes f h p xs ys e = made_each h (all_accepted takes f p xs ys e)
 made_from : {A B : Type 0} {P : A → Type 0} {Q : B → Type 0} {takes : A → ℕ} {f : ℕ → A → Outcome B} → ((p : ℕ) (x : A) (y : B) → P x → f p x ≡ accepted y → Q y)
     → {p : ℕ} {xs : List A} {ys : List B} → Each P xs → Accepts takes f p xs ys → Each Q ys
 made_from h none done = none
-made_from h (one q qs) (next {p} {x} {xs} {y} e s) = one (h p x y q e) (made_from h qs s)
+made_from {takes = takes} h {p = p} (one {x = x} q qs) (next {x = x'} {y = y} e s) = one (h p x y q e) (made_from h {p = p + takes x} qs s)
 
 pub each_from : {A B : Type 0} {P : A → Type 0} {Q : B → Type 0} (takes : A → ℕ) (f : ℕ → A → Outcome B) → ((p : ℕ) (x : A) (y : B) → P x → f p x ≡ accepted y → Q y)
     → (p : ℕ) {xs : List A} → Each P xs → (ys : List B) → each_at takes f p xs ≡ accepted ys → Each Q ys

@@ -1,0 +1,34 @@
+-- On one line all of it stands side by side; else it goes character by character.
+use borrow.Author.Rules.{rules}
+use Rattle.records.proofs.Puts.{puts}
+use Rattle.records_flow.proofs.put_all.Goals as goal
+
+pub column_of-j-requires : goal.column_of-j-requires
+column_of-j-requires c = search (rules, puts)
+
+pub overflow_add-j : goal.overflow_add-j
+overflow_add-j c = search (rules, puts)
+
+pub put_each-requires : goal.put_each-requires
+put_each-requires c = search (rules, puts)
+
+pub shape_of-out-then-w-j : goal.shape_of-out-then-w-j
+shape_of-out-then-w-j c = search (rules, puts)
+
+pub returns-then-w-j : goal.returns-then-w-j
+returns-then-w-j c = search (rules, puts)
+
+pub overflow_add-next : goal.overflow_add-next
+overflow_add-next c = search (rules, puts)
+
+pub index_of-at-requires : goal.index_of-at-requires
+index_of-at-requires c = search (rules, puts)
+
+pub put_all-requires : goal.put_all-requires
+put_all-requires c = search (rules, puts)
+
+pub shape_of-out : goal.shape_of-out
+shape_of-out c = search (rules, puts)
+
+pub returns : goal.returns
+returns c = search (rules, puts)
