@@ -1,7 +1,7 @@
 # make sample      the sheet of the sample file
 # make tools       the command line program, target/host/szelmikra
 # make check-host  vectors, archive against plain, command line, what igsheet prints, the list of what has to be believed
-# make test        every crate is proved from nothing, every must-fail edit refused, every program's output compared; then all of that
+# make test        the gate: `rt ci` proves every crate, has every must-fail edit refused and compares every program's output; then all of that
 # make install     header, archive, program, pkg-config and CMake files under PREFIX
 # make check-install  installs to a temporary folder and builds the example there with pkg-config and CMake
 # make bench       times; make stack: stack depth; make example: the C++ example on the sample file
@@ -12,9 +12,6 @@ SHELL = /bin/bash
 ARCHIVE ?= target/staticlib/libszelmikra.a
 OUT = target/host
 CXXFLAGS ?= -O2 -Wall -Wextra -Wpedantic -Wconversion
-
-# Provers at a time: more than there are cores take each other's caches, and cost more than they fill.
-export RT_JOBS ?= 2
 
 # The C++ side is compiled while the library is proved, and its tests run side by side.
 ifeq ($(MAKELEVEL),0)
@@ -38,16 +35,15 @@ sample: tools
 
 lib: target/staticlib/libszelmikra.a
 
-# What the archive leans on, in the order of crates.txt: so those are proved side by side that take about as long.
-FLOORS = $(shell awk '/^[a-z]/ { sub(":", ""); name[++n] = $$1; line[n] = $$0 } END { need["szelmikra"] = 1; \
-    for (i = n; i > 0; i--) if (need[name[i]]) { k = split(line[i], to, " "); for (j = 2; j <= k; j++) need[to[j]] = 1 } \
-    for (i = 1; i <= n; i++) if (need[name[i]] && name[i] != "szelmikra") print name[i] }' crates.txt)
+# What is proved. A crate's out/ is rt's own.
+PROVED := crates.txt $(shell find crates -name out -prune -o \( -name '*.rt' -o -name '*.antt' \) -print)
 
 # What the prover prints is kept aside; it is shown if it refuses. What is proved already is not proved again.
-target/staticlib/libszelmikra.a: crates.txt $(shell find crates -name '*.rt' -o -name '*.antt')
-	@mkdir -p target
+target/staticlib/libszelmikra.a: $(PROVED)
+	@mkdir -p $(@D)
 	@echo 'proving the library, which takes some minutes; target/szelmikra.log tells how far it is' >&2
-	@{ rt check $(FLOORS) && rt staticlib szelmikra; } >target/szelmikra.log 2>&1 || { cat target/szelmikra.log; exit 1; }
+	@(cd crates/szelmikra_c && rt lib) >target/szelmikra.log 2>&1 || { cat target/szelmikra.log; exit 1; }
+	@cp crates/szelmikra_c/out/libszelmikra_c.a $@
 
 $(OUT)/%.o: host/%.cpp host/host.mk Makefile | toolchain
 	@mkdir -p $(@D)
@@ -77,11 +73,13 @@ check-large: $(TESTS)/differential
 check-cli: $(OUT)/szelmikra
 	@host/tests/cli.sh $(HOST_RUN) $<
 
-# The archive first, so that no two provers work on one crate.
-target/bin/igsheet: target/staticlib/libszelmikra.a
-	@rt check igsheet >target/igsheet.log 2>&1 || { cat target/igsheet.log; exit 1; }
+# `rt ci` leaves it there. The archive first: what both lean on is proved once.
+IGSHEET = crates/igsheet/out/igsheet
+$(IGSHEET): $(PROVED) | $(ARCHIVE)
+	@(cd crates/igsheet && rt run <stdin) >target/igsheet.log 2>&1 || { cat target/igsheet.log; exit 1; }
+	@touch $@
 
-check-printed: target/bin/igsheet | toolchain
+check-printed: $(IGSHEET) | toolchain
 	@host/tests/printed.sh $(HOST_RUN) $<
 
 check-believed:
@@ -114,8 +112,11 @@ install: tools
 -include $(shell find $(OUT) -name '*.d' 2>/dev/null)
 
 fmt:
-	@rt fmt
+	@for crate in crates/*; do (cd $$crate && rt fmt); done
 
-# The archive is made of what was just proved. The verdict stands last, and only if all went well.
+# The archive is made of what was just proved. The verdict stands last, and only if all went well: a must-fail edit that can't be tried
+# fails nothing in `rt ci`, and does here.
 test:
-	@log=$$(mktemp); trap 'rm -f "$$log"' EXIT; rt ci 2>&1 | tee "$$log"; $(MAKE) -s check-host; tail -n 1 "$$log"
+	@log=$$(mktemp); trap 'rm -f "$$log"' EXIT; rt ci 2>&1 | tee "$$log"; \
+	    if grep -Eq '^rt: ok;.*, [0-9]+ bad' "$$log"; then echo 'make test: some must-fail edits are bad' >&2; exit 1; fi; \
+	    $(MAKE) -s check-host; tail -n 1 "$$log"

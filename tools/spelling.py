@@ -16,6 +16,30 @@ SIGN = re.compile(r"\s*(?:(abbrev|unfoldable) )?(?:pub )?(?:(abbrev|unfoldable) 
 WORDS = set("length take drop set map get_or append replicate reverse sum min max not fold concat zip sub add mul div mod pow".split())
 
 
+# names that an import gives, and constructors that share a line; `no_count` was taken
+ALIASES = {
+    "noCount": "uncounted",
+    "aReal": "a_real",
+    "aGivenReal": "a_given_real",
+    "aWeight": "a_weight",
+    "isK1": "is_k1",
+    "isK2": "is_k2",
+    "isM1": "is_m1",
+    "isM2": "is_m2",
+    "sheetBytes": "sheet_bytes",
+    "ownershipOutcome": "ownership_outcome",
+    "startTexts": "start_texts",
+    "globalTexts": "global_texts",
+    "lineNumber": "line_number",
+    "saidType": "said_type",
+    "valueType": "value_type",
+    "sheetOfLines": "sheet_of_lines",
+    "oneLine": "one_line",
+    "directoryEntry": "directory_entry",
+    "sheetOutcome": "sheet_outcome",
+    "meaningOf": "meaning_of",
+    "kindType": "kind_type",
+}
 # `first_of` is a tactic, `goes_on` a constructor beside the definition that had a capital; the library has lemmas of the two names with a dash
 BY_HAND = {"and-false": "and-false", "or-false": "or-false", "first_of": "first_among", "first-of": "first_among_lem", "goes_on": "going_on"}
 
@@ -86,6 +110,7 @@ def table(root):
             if new != n:
                 to[n] = new
     to.update({n: w for n, w in BY_HAND.items() if n in defs})
+    to.update(ALIASES)
     return defs, used, to
 
 

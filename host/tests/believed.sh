@@ -26,6 +26,7 @@ listed=$(sed -n '/^## What to read/,/^## /p' docs/ARCHITECTURE.md | grep -o '`[a
 for twice in $(uniq -d <<<"$listed"); do tell "$twice is listed twice"; done
 
 count=0
+uses=0
 for file in crates/*/specs/*.antt; do
     [ "$(basename "$file")" = Lib.antt ] && continue
     this=$(name "$file")
@@ -36,11 +37,14 @@ for file in crates/*/specs/*.antt; do
     count=$((count + 1))
     grep -qx "$this" <<<"$listed" || tell "$this is not listed"
     while read -r used; do
+        uses=$((uses + 1))
         [ -f "$used" ] && other "$used" && tell "$this uses $(name "$used")"
-    done < <(sed -nE 's/^ *(pub )?use Rattle·([a-z_]+)(·specs)?\.specs\.([A-Z][A-Za-z]*)[. ].*/crates\/\2\/specs\/\4.antt/p' "$file" | sort -u)
+    done < <(sed -nE 's/^ *(pub )?use Rattle\.([a-z_]+)\.specs\.([A-Z][A-Za-z]*)([. ].*)?$/crates\/\2\/specs\/\3.antt/p' "$file" | sort -u)
 done
 for this in $(uniq <<<"$listed"); do
     [ -f "crates/${this%/*}/specs/${this#*/}.antt" ] || tell "$this is listed, and is not there"
 done
+# A use that is spelt some other way is not seen: then none is.
+[ "$uses" -gt 0 ] || tell "no file uses another"
 echo "believed: $count definitions, $wrong wrong"
 [ "$wrong" -eq 0 ] && [ "$count" -gt 0 ]

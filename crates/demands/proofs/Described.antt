@@ -8,7 +8,7 @@ use Rattle.columns.specs.declared.Fault.TheVariants.{TooLong}
 use Rattle.columns.specs.Refusal.{accepted, demand}
 use Rattle.columns.specs.Format.{most_lines}
 use Rattle.columns.proofs.Outcomes.{then_accepted, demand_accepted}
-use Rattle.sheets.specs.Sheet.{Sheet, sheet_text, sheet_of as sheetOfLines}
+use Rattle.sheets.specs.Sheet.{Sheet, sheet_text, sheet_of as sheet_of_lines}
 use Rattle.sheets.proofs.Sheets.{sheet_again, lines-written, written_read}
 use Rattle.model.specs.Model.{Model, sheet_of, model_of}
 use Rattle.model.specs.Canonical.{line_total, canonical}
@@ -23,7 +23,7 @@ use Rattle.demands.proofs.FromSheet.{sheet-fits}
 -- the text of a model's sheet tells the model
 pub described-sheet : (list : ℕ) (m : Model) → Fits list m → described (sheet_text (sheet_of list m)) ≡ m
 described-sheet list m f =
-    ap (λ (s : Sheet). model_of s) (ap sheetOfLines (lines-written (sheet_formed list m f).spelt) ∙ sheet_again (sheet_of list m)) ∙ model_again list m
+    ap (λ (s : Sheet). model_of s) (ap sheet_of_lines (lines-written (sheet_formed list m f).spelt) ∙ sheet_again (sheet_of list m)) ∙ model_again list m
 
 -- so no two models have one
 pub one_told : (list : ℕ) (m k : Model) → Fits list m → Fits list k → sheet_text (sheet_of list m) ≡ sheet_text (sheet_of list k) → m ≡ k

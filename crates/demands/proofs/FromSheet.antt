@@ -22,7 +22,7 @@ use Rattle.sheets.specs.Order.{read_sheet}
 use Rattle.sheets.specs.WellFormed.{Each, none, one, Closed, no_rows, a-row, RowSpelt}
 use Rattle.sheets.proofs.Sheets.{written_read}
 use Rattle.model.specs.Model.{type_of, row_of, sheet_of, marked, value_in, mark_in, carried_of, model_of}
-use Rattle.model.specs.Write.{equal, all_equal, global_rule, row_rules, row_references, row_entity, marks_right, row_entity_rules, row_types, row_size, first_global, first_row, sheet_rules, one as oneLine}
+use Rattle.model.specs.Write.{equal, all_equal, global_rule, row_rules, row_references, row_entity, marks_right, row_entity_rules, row_types, row_size, first_global, first_row, sheet_rules, one as one_line}
 use Rattle.model.proofs.WriteApart.{rules_apart}
 use Rattle.model.specs.Fit.{InKind, EntryFits, Fits}
 use Rattle.directory.proofs.Ruled.{Ruled, rules_of}
@@ -95,7 +95,7 @@ kept : (list : ℕ) (s : Sheet) → sheet_rules list s ≡ accepted tt → Kept 
 kept list s h =
     let a = rules_apart list s h in
     record {
-      in_kind = each_accepted oneLine global_rule fits (first_global s) s.globals a.fields a.globals;
+      in_kind = each_accepted one_line global_rule fits (first_global s) s.globals a.fields a.globals;
       ruled = each_accepted row_size row_rules (λ p x u k. rules_of x.fields p u k) (first_row s) s.rows a.ranged a.entries;
       refer = each_accepted row_size (row_references (row_types s)) (refers (row_types s)) (first_row s) s.rows a.named a.references;
       laid = each_accepted row_size (row_entity_rules list (row_types s)) (laid_out list (row_types s)) (first_row s) s.rows a.laid a.entities;

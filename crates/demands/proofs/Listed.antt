@@ -17,7 +17,7 @@ use Rattle.cards.specs.declared.Counts.{Counts}
 use Rattle.cards.specs.Cards.{total, entries, parameter_line, entry_line}
 use Rattle.cards.specs.Rules.{Meets}
 use Rattle.directory.specs.declared.Fields.{Fields}
-use Rattle.directory.specs.Fields.{entry_of as directoryEntry}
+use Rattle.directory.specs.Fields.{entry_of as directory_entry}
 use Rattle.directory.specs.Lines.{slots, slot_in, label_at}
 use Rattle.directory.specs.Reading.{Eight, Within}
 use Rattle.directory.specs.Rules.{reference_rule, references, all_fit}
@@ -82,7 +82,7 @@ module _ (f : List ℕ) (c : Counts) (m : Meets f c) where
 -- ---- its references
 
 abbrev pub Refers : List ℕ → Listed → Type 0
-Refers types e = all_fit types (references (directoryEntry e.fields)) ≡ true
+Refers types e = all_fit types (references (directory_entry e.fields)) ≡ true
 
 refers : (types : List ℕ) (p : ℕ) (e : Listed) (u : Unit {0}) → references_of types p e ≡ accepted u → Refers types e
 unfolding reference_rule

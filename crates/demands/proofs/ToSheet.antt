@@ -21,7 +21,7 @@ use Rattle.sheets.specs.Sheet.{sheet_text}
 use Rattle.sheets.specs.WellFormed.{Each, none, one, Closed, no_rows, a-row, RowSpelt, WellFormed}
 use Rattle.sheets.proofs.Sheets.{read-written}
 use Rattle.model.specs.Model.{Carried, Model, type_of, types_of, entity_of, row_of, sheet_of, value_in}
-use Rattle.model.specs.Write.{global_rule, row_rules, row_references, row_entity, marks_right, row_entity_rules, row_size, first_global, first_row, sheet_rules, write_model, one as oneLine}
+use Rattle.model.specs.Write.{global_rule, row_rules, row_references, row_entity, marks_right, row_entity_rules, row_size, first_global, first_row, sheet_rules, write_model, one as one_line}
 use Rattle.model.specs.Fit.{InKind, EntryFits, Fits}
 use Rattle.sheets.proofs.Each.{each_made, each_accepts, made_accepts}
 use Rattle.demands.proofs.Trims.{ends_given}
@@ -89,7 +89,7 @@ module _ (list : ℕ) (types : List ℕ) (e : Carried) (f : EntryFits list types
 rules_kept : (list : ℕ) (m : Model) → Fits list m → sheet_rules list (sheet_of list m) ≡ accepted tt
 unfolding sheet_rules sheet_of
 rules_kept list m f =
-    let globals = each_accepts oneLine global_rule globals-kept (first_global (sheet_of list m)) f.in_kind in
+    let globals = each_accepts one_line global_rule globals-kept (first_global (sheet_of list m)) f.in_kind in
     let rules = made_accepts row_size row_rules (row_of list) (λ p e k. row_rules_lem list types e k p) (first_row (sheet_of list m)) f.entries in
     let refer = made_accepts row_size (row_references types) (row_of list) (λ p e k. row-references list types e k p) (first_row (sheet_of list m)) f.entries in
     let entities = made_accepts row_size (row_entity_rules list types) (row_of list) (λ p e k. row-entity list types e k p) (first_row (sheet_of list m)) f.entries in

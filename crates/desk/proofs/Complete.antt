@@ -12,7 +12,7 @@ use Rattle.records.proofs.Globals.{delimits, parameter_above, record_above}
 use Rattle.cards.specs.declared.Counts.{Counts}
 use Rattle.cards.specs.Cards.{entries, entry_line}
 use Rattle.cards.proofs.Complete.{rules}
-use Rattle.directory.specs.Lines.{slot_in, pointer, lines, label_at, parameter_line as lineNumber}
+use Rattle.directory.specs.Lines.{slot_in, pointer, lines, label_at, parameter_line as line_number}
 use Rattle.directory.specs.Rules.{reference_rule}
 use Rattle.directory.proofs.Ruled.{rules_pass_lem}
 use Rattle.owners.specs.InFile.{owner_in, from_in, count_in}
@@ -69,7 +69,7 @@ module _ (list : ℕ) (f : List ℕ) (r : MeetsRules list f) where
   range_is : (i : ℕ) → i < entries c → ((r.entry i).pointer ≡ from_in f c i) × (((r.entry i).lines ≡ count_in f c i) × (1 ≤ (r.entry i).pointer))
   unfolding from_in count_in
   range_is i h =
-      let w = stood f (entry_line c i) (r.entry i).fields (lineNumber (r.entry i).pointer) (r.entry i).lines (r.entry_meets i h).spelt in
+      let w = stood f (entry_line c i) (r.entry i).fields (line_number (r.entry i).pointer) (r.entry i).lines (r.entry_meets i h).spelt in
       let a = size_same (signed_of (slot_in f (entry_line c i) pointer)) w.from_some in
       let b = size_same (signed_of (slot_in f (entry_line c i) lines)) w.count_some in
       let some = size_some (signed_of (slot_in f (entry_line c i) pointer)) w.from_some in

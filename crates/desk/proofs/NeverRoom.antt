@@ -45,7 +45,7 @@ use Rattle.directory.specs.Fields.{entry_of}
 use Rattle.directory.specs.Rules.{ranges_ok, all_fit, references, entry_rules, reference_rule}
 use Rattle.owners.specs.declared.Owned.{Owned}
 use Rattle.owners.specs.declared.Owned.TheVariants.{Everyone, Entry, Line}
-use Rattle.owners.specs.InFile.{owners_in, outcome as ownershipOutcome}
+use Rattle.owners.specs.InFile.{owners_in, outcome as ownership_outcome}
 use Rattle.layouts.specs.declared.LayoutVerdict.{LayoutVerdict}
 use Rattle.layouts.specs.declared.LayoutVerdict.TheVariants.{Good, Layout, LayoutReference}
 use Rattle.layouts.specs.Known.{known}
@@ -53,7 +53,7 @@ use Rattle.layouts.specs.Entities.{Entity, fault, verdict, entity_check}
 use Rattle.sheets.specs.declared.SheetVerdict.{SheetVerdict}
 use Rattle.sheets.specs.declared.SheetVerdict.TheVariants.{Good as GoodSheet, Wrong as WrongSheet}
 use Rattle.sheets.specs.Sheet.{Sheet, lines_in, sheet_of}
-use Rattle.sheets.specs.Order.{read_sheet, verdict_of, outcome as sheetOutcome}
+use Rattle.sheets.specs.Order.{read_sheet, verdict_of, outcome as sheet_outcome}
 use Rattle.model.specs.Read.{Listed, GlobalRead, two, global_text, global_line, field_fits, is_type, parameters_of, references_of, no_stray, by_values, by_opening, global_in, by_entry, entry_in, entries_in, references_in, by_parameters, entity_in, last_pass, before, read_model, reads}
 use Rattle.model.specs.Model.{type_of, entity_of}
 use Rattle.model.specs.Canonical.{line_total}
@@ -223,7 +223,7 @@ entry-not f place k = pick (entry_at f k)
     pick WrongEntry = λ e. omega arith
     pick (Spelt x from count) = then_not (entry_rules x place) _ (rules_not x place) (λ _. tt)
 
-owners_not : (c : Counts) (o : Owned) → NotRoom (ownershipOutcome c o)
+owners_not : (c : Counts) (o : Owned) → NotRoom (ownership_outcome c o)
 owners_not c Everyone = tt
 owners_not c (Entry m) = λ e. omega arith
 owners_not c (Line k) = λ e. omega arith
@@ -259,7 +259,7 @@ before-not f =
     (λ c. then_not (global_in f c) _ (globals-not f c)
     (λ g. then_not (entries_in f c) _ (each_not two (entry_in f) (entry-not f) _ _)
     (λ es. then_not (references_in c es) _ (each_not two (references_of _) (λ p e. references-not _ e.fields p) _ es)
-    (λ _. then_not (ownershipOutcome c (owners_in f c)) _ (owners_not c (owners_in f c)) (λ _. tt)))))
+    (λ _. then_not (ownership_outcome c (owners_in f c)) _ (owners_not c (owners_in f c)) (λ _. tt)))))
 
 reads-not : (list : ℕ) (f : List ℕ) → NotRoom (reads list f)
 unfolding reads read_model last_pass
@@ -276,7 +276,7 @@ sheet-not : (t : List ℕ) → NotRoom (read_sheet t)
 unfolding read_sheet
 sheet-not t = pick (verdict_of t)
   where
-    pick : (v : SheetVerdict) → NotRoom (sheetOutcome (sheet_of (lines_in t)) v)
+    pick : (v : SheetVerdict) → NotRoom (sheet_outcome (sheet_of (lines_in t)) v)
     pick (GoodSheet n) = tt
     pick (WrongSheet n) = λ e. omega arith
 

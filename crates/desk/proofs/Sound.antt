@@ -18,8 +18,8 @@ use Rattle.cards.specs.Cards.{entries, entry_line}
 use Rattle.cards.proofs.Complete.{rules}
 use Rattle.directory.specs.declared.Fields.{Fields}
 use Rattle.directory.specs.declared.EntryRead.TheVariants.{Spelt}
-use Rattle.directory.specs.Fields.{entry_of as directoryEntry}
-use Rattle.directory.specs.Lines.{slot_in, pointer, lines, entry_at, parameter_line as lineNumber}
+use Rattle.directory.specs.Fields.{entry_of as directory_entry}
+use Rattle.directory.specs.Lines.{slot_in, pointer, lines, entry_at, parameter_line as line_number}
 use Rattle.directory.specs.Rules.{reference_rule, references, all_fit}
 use Rattle.directory.proofs.Ruled.{Ruled, rules_of}
 use Rattle.owners.specs.InFile.{owner_in, from_in, count_in}
@@ -58,7 +58,7 @@ taken (refused n p) h = let z : ◌≡◌ {A = ℕ} 0 1 = cc in absurd (never z)
 abbrev pub entry_is : Listed → EntryIs
 entry_is e = record { fields = e.fields; pointer = e.pointer; lines = e.lines }
 
-ruled : (f : List ℕ) (p k : ℕ) (x : Fields) (from count : ℕ) → entry_at f k ≡ Spelt x (lineNumber from) count → pass_of (entry_in f p k) ≡ Passes → Ruled x
+ruled : (f : List ℕ) (p k : ℕ) (x : Fields) (from count : ℕ) → entry_at f k ≡ Spelt x (line_number from) count → pass_of (entry_in f p k) ≡ Passes → Ruled x
 ruled f p k x from count e h =
     let t = taken (entry_in f p k) h in
     let a = entry_apart f p k t.0 t.1 in
@@ -121,7 +121,7 @@ module _ (list : ℕ) (f : List ℕ) (b : Before) (ys : List Carried) (p : Passe
       (sym (row_walk (entity_in list f c b.global types) (entry_of f c) (first_entry c) (entries c) 0 (first_entry c) (omega arith))
       ∙ ap pass_of (rw p.listed at last)) (omega arith) (omega arith)
 
-  fits : (i : ℕ) → i < entries c → all_fit types (references (directoryEntry (entry_of f c i).fields)) ≡ true
+  fits : (i : ℕ) → i < entries c → all_fit types (references (directory_entry (entry_of f c i).fields)) ≡ true
   unfolding reference_rule
   fits i h =
       let t = taken (references_of types (first_entry c + 2 * i) (entry_of f c i)) (reference_passes i h) in
@@ -174,7 +174,7 @@ module _ (list : ℕ) (f : List ℕ) (b : Before) (ys : List Carried) (p : Passe
   entry_meets i h =
       let e = passed_entry f b p i h in
       let v = values_of i h in
-      let s : entry_at f (entry_line c i) ≡ Spelt (entry_of f c i).fields (lineNumber (entry_of f c i).pointer) (entry_of f c i).lines = rw e.listed e.is in
+      let s : entry_at f (entry_line c i) ≡ Spelt (entry_of f c i).fields (line_number (entry_of f c i).pointer) (entry_of f c i).lines = rw e.listed e.is in
       let r = ruled f (first_entry c + 2 * i) (entry_line c i) (entry_of f c i).fields (entry_of f c i).pointer (entry_of f c i).lines s (rule_passes i h) in
       record {
         spelt = s;

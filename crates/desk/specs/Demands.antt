@@ -9,7 +9,7 @@ use Rattle.cards.specs.Cards.{entries}
 use Rattle.directory.specs.declared.Fields.{Fields}
 use Rattle.layouts.specs.Known.{known, Inside}
 use Rattle.layouts.specs.Larger.{Late}
-use Rattle.sheets.specs.Sheet.{Row, Sheet, row, sheet_text, lines_in, sheet_of as sheetOfLines}
+use Rattle.sheets.specs.Sheet.{Row, Sheet, row, sheet_text, lines_in, sheet_of as sheet_of_lines}
 use Rattle.desk.specs.declared.Record.{Record}
 use Rattle.model.specs.Model.{Carried, Model, type_of, value_in, sheet_of, model_of}
 use Rattle.model.specs.Canonical.{line_total, canonical}
@@ -50,7 +50,7 @@ ThereAndBack = (list : ℕ) (f : List ℕ) (m : Model) → read_model list f ≡
 
 -- the model that a text's lines tell, and the canonical file that it describes
 abbrev pub described : List ℕ → Model
-described s = model_of (sheetOfLines (lines_in s))
+described s = model_of (sheet_of_lines (lines_in s))
 
 -- "a sheet is accepted exactly if the canonical file it describes keeps to that limit and reads back as that sheet"; that file is what is
 -- written

@@ -23,7 +23,7 @@ use Rattle.sheets.specs.Order.{verdict_of}
 use Rattle.sheets.specs.WellFormed.{Each}
 use Rattle.sheets.proofs.Sheets.{good_written}
 use Rattle.model.specs.Model.{Carried, Model, carried_of, model_of}
-use Rattle.model.specs.Canonical.{start_lines as startTexts, global_text, global_lines as globalTexts, directory_lines, parameter_lines, line_total, canonical}
+use Rattle.model.specs.Canonical.{start_lines as start_texts, global_text, global_lines as global_texts, directory_lines, parameter_lines, line_total, canonical}
 use Rattle.file_blocks.specs.Blocks.{behind_globals, global_bytes}
 use Rattle.file_canonical.specs.declared.Lines.TheVariants.{Are, TooMany}
 use Rattle.file_canonical.specs.Counting.{lines_of_sheet}
@@ -51,9 +51,9 @@ unfolding joined
 last_joined x = append-nil x
 
 whole_file : (m : Model) → start_bytes 1 m.starts ++ (global_bytes m.globals ++ (directory_bytes 0 1 m.entries ++ (parameter_bytes 0 1 m.entries ++ line_of (totals_of (counts_for m)) 84 1))) ≡ canonical m
-unfolding start_bytes global_bytes directory_bytes parameter_bytes canonical file_of file_lines startTexts globalTexts
+unfolding start_bytes global_bytes directory_bytes parameter_bytes canonical file_of file_lines start_texts global_texts
 whole_file m =
-    let (S, G, D, P) : List (List ℕ) × List (List ℕ) × List (List ℕ) × List (List ℕ) = (startTexts m, globalTexts m, directory_lines 1 1 m.entries, parameter_lines 1 m.entries) in
+    let (S, G, D, P) : List (List ℕ) × List (List ℕ) × List (List ℕ) × List (List ℕ) = (start_texts m, global_texts m, directory_lines 1 1 m.entries, parameter_lines 1 m.entries) in
     let x = line_of (totals_of (counts_for m)) 84 1 in
     sym (five (section 83 1 S) (section 71 1 G) (section 68 1 D) (section 80 1 P) (x ∷ []) ∙ rw (last_joined x))
 

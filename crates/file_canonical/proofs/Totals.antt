@@ -19,7 +19,7 @@ use Rattle.cards.specs.Written.{counts_of}
 use Rattle.directory.specs.Lines.{entry_lines}
 use Rattle.sheets.specs.Sheet.{Line, Row, Sheet, start_lines, global_lines, value_lines, row_lines, lines_of}
 use Rattle.model.specs.Model.{Carried, Model, value_in, carried_of, model_of}
-use Rattle.model.specs.Canonical.{start_lines as startTexts, filled, global_text, global_lines as globalTexts, parameter_text, owned, block_of, directory_lines, parameter_lines, line_total}
+use Rattle.model.specs.Canonical.{start_lines as start_texts, filled, global_text, global_lines as global_texts, parameter_text, owned, block_of, directory_lines, parameter_lines, line_total}
 use Rattle.file_canonical.specs.declared.Tally.{Tally}
 use Rattle.file_canonical.specs.declared.Lines.TheVariants.{Are, TooMany}
 use Rattle.file_canonical.specs.Counting.{behind, skipped, tally, begun, with_start, with_global, with_entry, with_value, counts_in, total_in, tallied, lines_of_sheet}
@@ -129,19 +129,19 @@ rows-tallied (r ∷ rs) x k n =
 
 -- the counts of its canonical file
 abbrev pub counts_for : Model → Counts
-counts_for m = counts_of (startTexts m) (globalTexts m) (directory_lines 1 1 m.entries) (parameter_lines 1 m.entries)
+counts_for m = counts_of (start_texts m) (global_texts m) (directory_lines 1 1 m.entries) (parameter_lines 1 m.entries)
 
 opening-end : (gs : List (ℕ × Item)) → 8 + length (flow 72 8 (filled 3 gs)) ≡ length (global_text gs)
 unfolding filled flow global_text
 opening-end [] = sym (opening-length true)
 opening-end (g ∷ gs) = sym (length-append (canonical_opening false) (flow 72 8 (filled 3 (g ∷ gs))) ∙ ap (λ (k : ℕ). k + length (flow 72 8 (filled 3 (g ∷ gs)))) (opening-length false))
 
-pub global_count : (m : Model) → length (globalTexts m) ≡ line_count 72 (length (global_text m.globals))
-unfolding globalTexts
+pub global_count : (m : Model) → length (global_texts m) ≡ line_count 72 (length (global_text m.globals))
+unfolding global_texts
 global_count m = length-lines 72 (global_text m.globals)
 
-pub start-count : (m : Model) → length (startTexts m) ≡ length m.starts
-unfolding startTexts
+pub start-count : (m : Model) → length (start_texts m) ≡ length m.starts
+unfolding start_texts
 start-count m = length-map m.starts _
 
 lines_none : line_count 64 0 ≡ 0
@@ -159,16 +159,16 @@ module _ (s : Sheet) where
       let es = map carried_of s.rows in
       let g = 8 + length (flow 72 8 (filled 3 s.globals)) in
       let m = model_of_lem s in
-      let a : length s.starts ≡ length (startTexts (model_of s)) = sym (start-count (model_of s) ∙ ap length m.0) in
-      let b : line_count 72 g ≡ length (globalTexts (model_of s)) = ap (line_count 72) (opening-end s.globals) ∙ sym (global_count (model_of s) ∙ ap (λ (x : List (ℕ × Item)). line_count 72 (length (global_text x))) m.1) in
+      let a : length s.starts ≡ length (start_texts (model_of s)) = sym (start-count (model_of s) ∙ ap length m.0) in
+      let b : line_count 72 g ≡ length (global_texts (model_of s)) = ap (line_count 72) (opening-end s.globals) ∙ sym (global_count (model_of s) ∙ ap (λ (x : List (ℕ × Item)). line_count 72 (length (global_text x))) m.1) in
       let d : 2 * length s.rows ≡ length (directory_lines 1 1 (model_of s).entries) = rw m.2 (omega (arith, directory_two 1 1 es, length-map s.rows carried_of)) in
       let p : 0 + line_count 64 0 + length (parameter_lines 1 es) ≡ length (parameter_lines 1 (model_of s).entries) = rw m.2 (omega (arith, lines_none)) in
       ap counts_in (starts-tallied begun s.starts (global_lines s.globals (row_lines 0 s.rows)) ∙ globals-tallied (tally (0 + length s.starts) 8 2 0 0 0) s.globals (row_lines 0 s.rows))
       ∙ rows-tallied s.rows (tally (0 + length s.starts) g (last_given 2 s.globals) 0 0 0) 0 1
       ∙ rw (b, p) (gather (length s.starts) (2 * length s.rows) a d)
     where
-      gather : (u v : ℕ) → u ≡ length (startTexts (model_of s)) → v ≡ length (directory_lines 1 1 (model_of s).entries) → counts (0 + u) (length (globalTexts (model_of s))) (0 + v) (length (parameter_lines 1 (model_of s).entries)) 1 ≡ counts_for (model_of s)
-      gather u v e f = rw (e, f, zero-add (length (startTexts (model_of s))), zero-add (length (directory_lines 1 1 (model_of s).entries)))
+      gather : (u v : ℕ) → u ≡ length (start_texts (model_of s)) → v ≡ length (directory_lines 1 1 (model_of s).entries) → counts (0 + u) (length (global_texts (model_of s))) (0 + v) (length (parameter_lines 1 (model_of s).entries)) 1 ≡ counts_for (model_of s)
+      gather u v e f = rw (e, f, zero-add (length (start_texts (model_of s))), zero-add (length (directory_lines 1 1 (model_of s).entries)))
 
   total-is : total_in (tallied begun (lines_of s)) ≡ line_total (model_of s)
   unfolding total_in line_total

@@ -18,7 +18,7 @@ use Rattle.values.specs.Value.{Item}
 use Rattle.layouts.specs.Layout.{◌of◌}
 use Rattle.layouts.specs.Table.{place_at}
 use Rattle.layouts.specs.Machine.{times, rests, kind_at, enter, settle, onward, size}
-use Rattle.layouts.specs.Fits.{Ask, refers_well, Told, noCount, isK1, isK2, isM1, isM2, tells, put, Counts, counted, many, ask, value_at, Asks, close, spelled}
+use Rattle.layouts.specs.Fits.{Ask, refers_well, Told, uncounted, is_k1, is_k2, is_m1, is_m2, tells, put, Counts, counted, many, ask, value_at, Asks, close, spelled}
 use Rattle.layouts.proofs.Tables.{and_both}
 use Rattle.layouts.proofs.Moves.{follow-next, onward_same}
 use Rattle.layouts.proofs.Empties.{settle-on, settle_stays}
@@ -47,18 +47,18 @@ times-many ThreeC i n c b = refl
 
 -- a kind that tells no count
 abbrev tells_none : Told → Bool
-tells_none noCount = true
-tells_none isK1 = false
-tells_none isK2 = false
-tells_none isM1 = false
-tells_none isM2 = false
+tells_none uncounted = true
+tells_none is_k1 = false
+tells_none is_k2 = false
+tells_none is_m1 = false
+tells_none is_m2 = false
 
 untold : (t : Told) (n : ℕ) (c : Counts) → tells_none t ≡ true → put t n c ≡ c
-untold noCount n c e = refl
-untold isK1 n c e = absurd (false≢true e)
-untold isK2 n c e = absurd (false≢true e)
-untold isM1 n c e = absurd (false≢true e)
-untold isM2 n c e = absurd (false≢true e)
+untold uncounted n c e = refl
+untold is_k1 n c e = absurd (false≢true e)
+untold is_k2 n c e = absurd (false≢true e)
+untold is_m1 n c e = absurd (false≢true e)
+untold is_m2 n c e = absurd (false≢true e)
 
 -- one of it
 abbrev once : Times → Bool

@@ -20,7 +20,7 @@ use Rattle.layouts.specs.Entity.{Entity}
 
 pub data Ask : Type 0 where
   -- r: a real or an integer, a default is zero; one that must be given; one above zero that must be given
-  aReal aGivenReal aWeight : Ask
+  a_real a_given_real a_weight : Ask
   -- s: a string, or missing
   a_string : Ask
   -- i: an integer from low to high; where it need not be given, a default is 0
@@ -32,9 +32,9 @@ pub data Ask : Type 0 where
 
 -- a value of the kind and in the range that is asked: what fails here is 14
 abbrev pub suits : Ask → Value → Bool
-suits aReal v = numeric v || is_missing v
-suits aGivenReal v = numeric v
-suits aWeight v = above v
+suits a_real v = numeric v || is_missing v
+suits a_given_real v = numeric v
+suits a_weight v = above v
 suits a_string v = text v || is_missing v
 suits (an_integer given low high) v = within given low high v
 suits (a_reference free want) v = integer v || is_missing v
@@ -48,9 +48,9 @@ nought v = eqb (size v) 0
 -- directory order
 abbrev pub refers_well : List ℕ → Ask → Value → Bool
 refers_well types (a_reference free want) v = (free && nought v) || fits want (named types v)
-refers_well types aReal v = true
-refers_well types aGivenReal v = true
-refers_well types aWeight v = true
+refers_well types a_real v = true
+refers_well types a_given_real v = true
+refers_well types a_weight v = true
 refers_well types a_string v = true
 refers_well types (an_integer given low high) v = true
 refers_well types nothing v = true
@@ -58,9 +58,9 @@ refers_well types nothing v = true
 -- a reference: R in the sheet
 abbrev pub is_reference : Ask → Bool
 is_reference (a_reference free want) = true
-is_reference aReal = false
-is_reference aGivenReal = false
-is_reference aWeight = false
+is_reference a_real = false
+is_reference a_given_real = false
+is_reference a_weight = false
 is_reference a_string = false
 is_reference (an_integer given low high) = false
 is_reference nothing = false
@@ -79,32 +79,32 @@ none = record { k1 = 0; k2 = 0; m1 = 0; m2 = 0 }
 
 -- which of them the value of a kind tells
 pub data Told : Type 0 where
-  noCount isK1 isK2 isM1 isM2 : Told
+  uncounted is_k1 is_k2 is_m1 is_m2 : Told
 
 abbrev pub tells : Kind → Told
-tells Count = isK1
-tells Outer = isK2
-tells Upper1 = isK1
-tells Upper2 = isK2
-tells Degree1 = isM1
-tells Degree2 = isM2
-tells R = noCount
-tells Given = noCount
-tells Weight = noCount
-tells S = noCount
-tells (I low high) = noCount
-tells Flag = noCount
-tells (P want) = noCount
-tells (Q want) = noCount
-tells (Bound want) = noCount
-tells Rest = noCount
+tells Count = is_k1
+tells Outer = is_k2
+tells Upper1 = is_k1
+tells Upper2 = is_k2
+tells Degree1 = is_m1
+tells Degree2 = is_m2
+tells R = uncounted
+tells Given = uncounted
+tells Weight = uncounted
+tells S = uncounted
+tells (I low high) = uncounted
+tells Flag = uncounted
+tells (P want) = uncounted
+tells (Q want) = uncounted
+tells (Bound want) = uncounted
+tells Rest = uncounted
 
 abbrev pub put : Told → ℕ → Counts → Counts
-put noCount n c = c
-put isK1 n c = record { k1 = n; k2 = c.k2; m1 = c.m1; m2 = c.m2 }
-put isK2 n c = record { k1 = c.k1; k2 = n; m1 = c.m1; m2 = c.m2 }
-put isM1 n c = record { k1 = c.k1; k2 = c.k2; m1 = n; m2 = c.m2 }
-put isM2 n c = record { k1 = c.k1; k2 = c.k2; m1 = c.m1; m2 = n }
+put uncounted n c = c
+put is_k1 n c = record { k1 = n; k2 = c.k2; m1 = c.m1; m2 = c.m2 }
+put is_k2 n c = record { k1 = c.k1; k2 = n; m1 = c.m1; m2 = c.m2 }
+put is_m1 n c = record { k1 = c.k1; k2 = c.k2; m1 = n; m2 = c.m2 }
+put is_m2 n c = record { k1 = c.k1; k2 = c.k2; m1 = c.m1; m2 = n }
 
 -- the counts behind a place of a kind where v stands; a default counts for 0. A value out of its range fails at its own place, whatever it
 -- would count for
@@ -122,9 +122,9 @@ many ThreeC c = 3 * ((c.k1 + 1) * (c.k2 + 1))
 
 -- what a place of a kind asks; flags are 0..1, 1 <= M <= K <= 10,000, the p of 144 is a q if N1 is 1
 abbrev pub ask : Kind → Counts → Ask
-ask R c = aReal
-ask Given c = aGivenReal
-ask Weight c = aWeight
+ask R c = a_real
+ask Given c = a_given_real
+ask Weight c = a_weight
 ask S c = a_string
 ask (I low high) c = an_integer false low high
 ask Flag c = an_integer true 0 1

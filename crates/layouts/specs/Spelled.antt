@@ -5,7 +5,7 @@ use Rattle.values.specs.Value.{Item, default, whole}
 use Rattle.references.specs.References.{no_entry, entry142}
 use Rattle.layouts.specs.Layout.{paper, bit_of}
 use Rattle.layouts.specs.Entity.{Entity}
-use Rattle.layouts.specs.Fits.{Ask, aReal, aGivenReal, aWeight, an_integer, a_reference, places_of, asked}
+use Rattle.layouts.specs.Fits.{Ask, a_real, a_given_real, a_weight, an_integer, a_reference, places_of, asked}
 
 abbrev i : ℕ → Item
 i n = whole false n
@@ -25,13 +25,13 @@ q = a_reference false no_entry
 -- 144 with N1 = 0, N2 = 1: its p is free; with N1 = 1, N2 = 0 it is not
 abbrev rows : List (Entity × List Ask)
 rows =
-    (entity 110 [], replicate 6 aReal ++ count ∷ count ∷ [])
+    (entity 110 [], replicate 6 a_real ++ count ∷ count ∷ [])
     ∷ (entity 102 (i 2 ∷ i 1 ∷ i 3 ∷ i 1 ∷ i 5 ∷ []), count ∷ q ∷ q ∷ count ∷ q ∷ count ∷ [])
     ∷ (
       entity 126 (i 2 ∷ i 1 ∷ []),
-      an_integer true 1 10000 ∷ an_integer true 1 2 ∷ replicate 4 (an_integer true 0 1) ++ replicate 5 aGivenReal
-          ++ replicate 3 aWeight ++ replicate 9 aGivenReal
-          ++ replicate 2 aGivenReal ++ replicate 3 aReal ++ count ∷ count ∷ [],
+      an_integer true 1 10000 ∷ an_integer true 1 2 ∷ replicate 4 (an_integer true 0 1) ++ replicate 5 a_given_real
+          ++ replicate 3 a_weight ++ replicate 9 a_given_real
+          ++ replicate 2 a_given_real ++ replicate 3 a_real ++ count ∷ count ∷ [],
     )
     ∷ (
       entity 144 (i 1 ∷ default ∷ i 1 ∷ []),

@@ -25,7 +25,7 @@ use Rattle.directory.specs.declared.EntryRead.{EntryRead}
 use Rattle.directory.specs.declared.EntryRead.TheVariants.{Spelt, Wrong}
 use Rattle.directory.specs.Lines.{entry_at, label_at}
 use Rattle.directory.specs.Rules.{entry_rules}
-use Rattle.owners.specs.InFile.{owners_in, outcome as ownershipOutcome}
+use Rattle.owners.specs.InFile.{owners_in, outcome as ownership_outcome}
 use Rattle.layouts.specs.Entities.{entity_check}
 use Rattle.model.specs.Model.{Carried, Model, type_of, entity_of}
 use Rattle.model.specs.Read.{GlobalRead, global_read, Listed, Before, global_text, global_line, no_stray, field_fits, given, by_values, by_opening, global_in, by_entry, entry_in, entries_in, references_in, is_type, carried, by_parameters, last_pass, model_with, before, read_model}
@@ -115,7 +115,7 @@ pub record BeforeApart (f : List ℕ) (b : Before) : Type 0 where
   pub entries : entries_in f b.counts ≡ accepted b.listed
   pub named : List (Unit {0})
   pub references : references_in b.counts b.listed ≡ accepted named
-  pub owned : ownershipOutcome b.counts (owners_in f b.counts) ≡ accepted tt
+  pub owned : ownership_outcome b.counts (owners_in f b.counts) ≡ accepted tt
 
 pub before_apart : (f : List ℕ) (b : Before) → before f ≡ accepted b → BeforeApart f b
 unfolding before
@@ -124,11 +124,11 @@ before_apart f b h =
     let s₂ = then_accepted (global_in f s₁.value) _ b s₁.second in
     let s₃ = then_accepted (entries_in f s₁.value) _ b s₂.second in
     let s₄ = then_accepted (references_in s₁.value s₃.value) _ b s₃.second in
-    let s₅ = then_accepted (ownershipOutcome s₁.value (owners_in f s₁.value)) _ b s₄.second in
+    let s₅ = then_accepted (ownership_outcome s₁.value (owners_in f s₁.value)) _ b s₄.second in
     by s₁.value s₂.value s₃.value s₄.value s₁.first s₂.first s₃.first s₄.first s₅.first s₅.second
   where
     by : (c : Counts) (g : GlobalRead) (es : List Listed) (us : List (Unit {0})) → outcome (cards_of f) ≡ accepted c → global_in f c ≡ accepted g → entries_in f c ≡ accepted es
-        → references_in c es ≡ accepted us → ownershipOutcome c (owners_in f c) ≡ accepted tt → accepted (record { counts = c; global = g; listed = es }) ≡ accepted b → BeforeApart f b
+        → references_in c es ≡ accepted us → ownership_outcome c (owners_in f c) ≡ accepted tt → accepted (record { counts = c; global = g; listed = es }) ≡ accepted b → BeforeApart f b
     by c g es us h₁ h₂ h₃ h₄ h₅ h₆ =
         let e : record { counts = c; global = g; listed = es } ≡ b = cc in
         rw (← e) (record { counts = h₁; globals = h₂; entries = h₃; named = us; references = h₄; owned = h₅ })

@@ -19,7 +19,7 @@ use Rattle.directory.specs.declared.EntryRead.{EntryRead}
 use Rattle.directory.specs.declared.EntryRead.TheVariants.{Spelt, Wrong as WrongEntry}
 use Rattle.directory.specs.Lines.{entry_at, label_at}
 use Rattle.directory.specs.Rules.{entry_rules, reference_rule}
-use Rattle.owners.specs.InFile.{owners_in, outcome as ownershipOutcome}
+use Rattle.owners.specs.InFile.{owners_in, outcome as ownership_outcome}
 use Rattle.layouts.specs.Entities.{entity_check}
 use Rattle.sheets.specs.Sheet.{sheet_text}
 use Rattle.model.specs.Model.{Carried, Model, type_of, entity_of, sheet_of}
@@ -191,7 +191,7 @@ before f =
     then λ c. global_in f c
     then λ g. entries_in f c
     then λ es. references_in c es
-    then λ _. ownershipOutcome c (owners_in f c)
+    then λ _. ownership_outcome c (owners_in f c)
     then λ _. accepted (record { counts = c; global = g; listed = es })
 
 -- the model of a file, or its first refusal

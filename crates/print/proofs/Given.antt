@@ -20,7 +20,7 @@ use Rattle.records.specs.Items.{got_item, items_from}
 use Rattle.records.specs.Global.{first_field}
 use Rattle.records.proofs.Texts.{small}
 use Rattle.records.proofs.Items.{items_are}
-use Rattle.sheets.specs.Sheet.{Line, global, line_of, global_lines, text_of as sheetBytes}
+use Rattle.sheets.specs.Sheet.{Line, global, line_of, global_lines, text_of as sheet_bytes}
 use Rattle.values.proofs.OneSpelling.{missing}
 use Rattle.model.specs.Read.{given}
 use Rattle.read_entities.specs.declared.Taken.{Taken}
@@ -29,13 +29,13 @@ use Rattle.read_entities.proofs.Feeding.{taken_item, taken_next}
 use Rattle.read_entities.proofs.Passes.{Accepted, done_values}
 use Rattle.print.specs.Bytes.{values_in, given_bytes, global_bytes}
 
-pub global_lines_lem : (gs : List (ℕ × Item)) (rest : List Line) → sheetBytes (global_lines gs rest) ≡ global_bytes gs ++ sheetBytes rest
-unfolding sheetBytes global_lines global_bytes
+pub global_lines_lem : (gs : List (ℕ × Item)) (rest : List Line) → sheet_bytes (global_lines gs rest) ≡ global_bytes gs ++ sheet_bytes rest
+unfolding sheet_bytes global_lines global_bytes
 global_lines_lem [] rest = refl
 global_lines_lem (g ∷ gs) rest =
     ap (λ (l : List ℕ). line_of (global g.0 g.1) ++ (10 ∷ l)) (global_lines_lem gs rest)
-    ∙ sym (append_assoc (line_of (global g.0 g.1)) (10 ∷ []) (global_bytes gs ++ sheetBytes rest))
-    ∙ sym (append_assoc (line_of (global g.0 g.1) ++ (10 ∷ [])) (global_bytes gs) (sheetBytes rest))
+    ∙ sym (append_assoc (line_of (global g.0 g.1)) (10 ∷ []) (global_bytes gs ++ sheet_bytes rest))
+    ∙ sym (append_assoc (line_of (global g.0 g.1) ++ (10 ∷ [])) (global_bytes gs) (sheet_bytes rest))
 
 -- ---- one field
 

@@ -13,7 +13,7 @@ use Rattle.columns.specs.First.{up_from}
 use Rattle.columns.specs.Trim.{trim_onto, trim_end}
 use Rattle.columns.specs.Laid.{Wrote, Owes}
 use Rattle.columns.proofs.Writes.{owes_all, owes_less, owes_none, wrote_length, wrote_same}
-use Rattle.sheets.specs.Sheet.{Line, start, line_of, start_lines, text_of as sheetBytes}
+use Rattle.sheets.specs.Sheet.{Line, start, line_of, start_lines, text_of as sheet_bytes}
 use Rattle.model.specs.Read.{is_blank, start_text}
 use Rattle.print.specs.Bytes.{start_bytes}
 
@@ -82,13 +82,13 @@ module _ (f : List ℕ) (k from n end : ℕ) (ef : from ≡ 81 * k) (ee : end �
 
 -- ---- all of them
 
-pub start-lines : (ts : List (List ℕ)) (rest : List Line) → sheetBytes (start_lines ts rest) ≡ start_bytes ts ++ sheetBytes rest
-unfolding sheetBytes start_lines start_bytes
+pub start-lines : (ts : List (List ℕ)) (rest : List Line) → sheet_bytes (start_lines ts rest) ≡ start_bytes ts ++ sheet_bytes rest
+unfolding sheet_bytes start_lines start_bytes
 start-lines [] rest = refl
 start-lines (t ∷ ts) rest =
     ap (λ (l : List ℕ). line_of (start t) ++ (10 ∷ l)) (start-lines ts rest)
-    ∙ sym (append_assoc (line_of (start t)) (10 ∷ []) (start_bytes ts ++ sheetBytes rest))
-    ∙ sym (append_assoc (line_of (start t) ++ (10 ∷ [])) (start_bytes ts) (sheetBytes rest))
+    ∙ sym (append_assoc (line_of (start t)) (10 ∷ []) (start_bytes ts ++ sheet_bytes rest))
+    ∙ sym (append_assoc (line_of (start t) ++ (10 ∷ [])) (start_bytes ts) (sheet_bytes rest))
 
 pub starts_all : (o : List ℕ) (at : ℕ) (f : List ℕ) (s : ℕ) → Owes o at (start_bytes (map (start_text f) (up_from 0 s))) o at (start_bytes (map (start_text f) (up_from 0 (s - 0))))
 starts_all o at f s =

@@ -31,7 +31,7 @@ use Rattle.layouts.specs.Machine.{refers, kind_at, stand, runs_on}
 use Rattle.layouts.proofs.Steps.{step_runs}
 use Rattle.layouts.proofs.Runs.{feed-stepped}
 use Rattle.model.specs.Model.{marked}
-use Rattle.sheets.specs.Sheet.{Line, value, line_of, value_lines, text_of as sheetBytes}
+use Rattle.sheets.specs.Sheet.{Line, value, line_of, value_lines, text_of as sheet_bytes}
 use Rattle.values.proofs.OneSpelling.{missing, default_only}
 use Rattle.read_entities.specs.Marks.{carried_in, marks_begun, marked_from}
 use Rattle.read_entities.specs.Walking.{owing}
@@ -40,13 +40,13 @@ use Rattle.print.specs.Bytes.{value_bytes}
 use Rattle.print.specs.Taking.{Unrefused, met_of, GivenPut}
 
 -- the bytes of value lines stand before those of the lines behind them
-pub value-lines : (vs : List (Bool × Item)) (rest : List Line) → sheetBytes (value_lines vs rest) ≡ value_bytes vs ++ sheetBytes rest
-unfolding sheetBytes value_lines value_bytes
+pub value-lines : (vs : List (Bool × Item)) (rest : List Line) → sheet_bytes (value_lines vs rest) ≡ value_bytes vs ++ sheet_bytes rest
+unfolding sheet_bytes value_lines value_bytes
 value-lines [] rest = refl
 value-lines (v ∷ vs) rest =
     ap (λ (l : List ℕ). line_of (value v.0 v.1) ++ (10 ∷ l)) (value-lines vs rest)
-    ∙ sym (append_assoc (line_of (value v.0 v.1)) (10 ∷ []) (value_bytes vs ++ sheetBytes rest))
-    ∙ sym (append_assoc (line_of (value v.0 v.1) ++ (10 ∷ [])) (value_bytes vs) (sheetBytes rest))
+    ∙ sym (append_assoc (line_of (value v.0 v.1)) (10 ∷ []) (value_bytes vs ++ sheet_bytes rest))
+    ∙ sym (append_assoc (line_of (value v.0 v.1) ++ (10 ∷ [])) (value_bytes vs) (sheet_bytes rest))
 
 -- ---- the lines of the defaults owed before a value, and its own
 

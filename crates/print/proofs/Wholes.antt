@@ -15,7 +15,7 @@ use Rattle.records.specs.Record.{values_at}
 use Rattle.records.specs.Reading.{Stands}
 use Rattle.records.specs.Global.{first_field}
 use Rattle.sheets.specs.Plain.{sized}
-use Rattle.sheets.specs.Sheet.{entry, last, line_of, value_lines, row_lines, lines_of, sheet_text, text_of as sheetBytes}
+use Rattle.sheets.specs.Sheet.{entry, last, line_of, value_lines, row_lines, lines_of, sheet_text, text_of as sheet_bytes}
 use Rattle.sheets.specs.WellFormed.{Each, none, one}
 use Rattle.layouts.specs.Known.{known}
 use Rattle.layouts.specs.Fits.{Keeps}
@@ -68,15 +68,15 @@ Kept list types e = known list (type_of e.fields) e.fields.form.size ≡ true �
 
 -- the lines of its entries
 row-lines : (list : ℕ) (types : List ℕ) (k : ℕ) {es : List Carried} → Each (Kept list types) es
-    → sheetBytes (row_lines k (map (row_of list) es)) ≡ entries_bytes list types k es ++ (line_of (last (k + length es)) ++ (10 ∷ []))
-unfolding sheetBytes row_lines entries_bytes entity_bytes row_of
+    → sheet_bytes (row_lines k (map (row_of list) es)) ≡ entries_bytes list types k es ++ (line_of (last (k + length es)) ++ (10 ∷ []))
+unfolding sheet_bytes row_lines entries_bytes entity_bytes row_of
 row-lines list types k none = rw add-zero
 row-lines list types k (one {x = e} {xs = es} h hs) =
     let l : List ℕ = line_of (entry (known list (type_of e.fields) e.fields.form.size) (sized false (2 * k + 1)) e.fields e.label) in
     let ws : List (Bool × Item) = marked_from types (marks_begun list (type_of e.fields) e.fields.form.size) e.values in
     let z : List ℕ = line_of (last (k + length (e ∷ es))) ++ (10 ∷ []) in
     let en : k + 1 + length es ≡ k + length (e ∷ es) = omega arith in
-    ap (λ (vs : List (Bool × Item)). l ++ (10 ∷ sheetBytes (value_lines vs (row_lines (k + 1) (map (row_of list) es))))) (marked-begin types list (type_of e.fields) e.fields.form.size e.values h)
+    ap (λ (vs : List (Bool × Item)). l ++ (10 ∷ sheet_bytes (value_lines vs (row_lines (k + 1) (map (row_of list) es))))) (marked-begin types list (type_of e.fields) e.fields.form.size e.values h)
     ∙ ap (λ (x : List ℕ). l ++ (10 ∷ x)) (value-lines ws (row_lines (k + 1) (map (row_of list) es)))
     ∙ ap (λ (x : List ℕ). l ++ (10 ∷ (value_bytes ws ++ x))) (row-lines list types (k + 1) hs ∙ ap (λ (j : ℕ). entries_bytes list types (k + 1) es ++ (line_of (last j) ++ (10 ∷ []))) en)
     ∙ sym (append_assoc l (10 ∷ []) (value_bytes ws ++ (entries_bytes list types (k + 1) es ++ z)))

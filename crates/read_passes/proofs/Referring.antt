@@ -19,7 +19,7 @@ use Rattle.directory.specs.declared.Rule.{Rule}
 use Rattle.directory.specs.declared.Rule.TheVariants.{Good as GoodRule}
 use Rattle.directory.specs.declared.EntryRead.{EntryRead}
 use Rattle.directory.specs.declared.EntryRead.TheVariants.{Spelt}
-use Rattle.directory.specs.Fields.{entry_of as meaningOf}
+use Rattle.directory.specs.Fields.{entry_of as meaning_of}
 use Rattle.directory.specs.Lines.{entry_at, label_at}
 use Rattle.directory.specs.Rules.{all_fit, references, reference_rule}
 use Rattle.directory.specs.Asking.{rule_of}
@@ -47,7 +47,7 @@ module _ (types : List ℕ) (x : Fields) (line : FileLine) (kept : FilePass) whe
   pub kept_stays : (n : Fault) (l : FileLine) → kept ≡ Refused n l → kept ≡ or_else kept (pass_of (reference_rule types x line.0))
   kept_stays n l e = rw e
 
-  module _ (g : kept ≡ Good) (y : Entry) (ey : y ≡ meaningOf x) (b : Bool) (eb : b ≡ all_fit types (references y)) where
+  module _ (g : kept ≡ Good) (y : Entry) (ey : y ≡ meaning_of x) (b : Bool) (eb : b ≡ all_fit types (references y)) where
     asked : or_else kept (pass_of (reference_rule types x line.0)) ≡ pass_of (demand b Reference line.0)
     unfolding reference_rule
     asked = rw (g, ← ey, ← eb)

@@ -16,7 +16,7 @@ use Rattle.records.specs.declared.Got.TheVariants.{Found, Refused as GotRefused}
 use Rattle.records.specs.Record.{value_at, values_at, position_of, start_at}
 use Rattle.records.specs.Items.{got_item}
 use Rattle.records.specs.Global.{first_field, global_fits}
-use Rattle.owners.specs.InFile.{owners_in, outcome as ownershipOutcome}
+use Rattle.owners.specs.InFile.{owners_in, outcome as ownership_outcome}
 use Rattle.model.specs.Read.{GlobalRead, Before, entry_in, first_entry, global_line, by_values, global_in, entries_in, references_in}
 use Rattle.read_passes.specs.declared.FilePass.{FilePass}
 use Rattle.read_passes.specs.declared.FilePass.TheVariants.{Good, Refused}
@@ -72,7 +72,7 @@ entries_outcome f c = entries_in f c then λ es. references_in c es
 
 -- each entry 9, 13; all 10; then 11
 unfoldable pub directory_outcome : List ℕ → Counts → Outcome (Unit {0})
-directory_outcome f c = entries_outcome f c then λ _. ownershipOutcome c (owners_in f c)
+directory_outcome f c = entries_outcome f c then λ _. ownership_outcome c (owners_in f c)
 
 -- all that is asked behind the lines, given their counts
 unfoldable pub behind_cards : List ℕ → Counts → Outcome Before
@@ -80,5 +80,5 @@ behind_cards f c =
     global_in f c
     then λ g. entries_in f c
     then λ es. references_in c es
-    then λ _. ownershipOutcome c (owners_in f c)
+    then λ _. ownership_outcome c (owners_in f c)
     then λ _. accepted (record { counts = c; global = g; listed = es })

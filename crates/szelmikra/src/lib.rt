@@ -1,4 +1,5 @@
-// What C and C++ call; include/szelmikra.h declares it. Each function is the proved one of `read_file` or `write_sheet` under a plain name.
+// What C and C++ call, for the crates of Rattle; crate `szelmikra_c` exports it. Each function is the proved one of `read_file` or
+// `write_sheet` under a plain name.
 #![tactic(auto)]
 
 ghost use Rattle.std.specs.Prelude.{◌≡◌, length};
@@ -9,8 +10,7 @@ ghost use Rattle.desk.specs.Answers.{answer_of, left_in};
 use desk::Answer;
 
 // Reads a file to its sheet.
-#[unsafe(no_mangle)]
-pub extern "C" fn szelmikra_read(list: u64, file: &[u8], sheet: &mut [u8]) -> Answer
+pub fn szelmikra_read(list: u64, file: &[u8], sheet: &mut [u8]) -> Answer
     ensures value { result ≡ answer_of (length sheet.old) (reads list file.now) }
     ensures sheet_after { sheet.new ≡ left_in sheet.old (reads list file.now) }
 {
@@ -18,8 +18,7 @@ pub extern "C" fn szelmikra_read(list: u64, file: &[u8], sheet: &mut [u8]) -> An
 }
 
 // Writes a sheet to its canonical file.
-#[unsafe(no_mangle)]
-pub extern "C" fn szelmikra_write(list: u64, sheet: &[u8], file: &mut [u8]) -> Answer
+pub fn szelmikra_write(list: u64, sheet: &[u8], file: &mut [u8]) -> Answer
     ensures value { result ≡ answer_of (length file.old) (writes list sheet.now) }
     ensures file_after { file.new ≡ left_in file.old (writes list sheet.now) }
 {

@@ -12,6 +12,8 @@ ghost use Rattle.vectors.specs.Packs.{Tried};
 
 use crate::pack::vector_at;
 use crate::vector::{gives, wants_room};
+use std::io;
+use std::io::Read;
 
 // A vector: whether it is written (1) or read (0), under which list, the answer that is expected; where its name, its input and the
 // expected output stand in its pack, up to where the next vector begins.
@@ -31,7 +33,10 @@ pub enum Packed {
 }
 
 // More than the pack takes.
-const PACK: usize = 524288;
+const PACK: u64 = 524288;
+
+// More than any vector's output takes.
+const ROOM: usize = 65536;
 
 // How many vectors were tried, and how many passed.
 #[derive(Clone, Copy)]
@@ -40,11 +45,11 @@ struct Results {
     passed: u64,
 }
 
-// Names a vector that did not pass.
-fn blame(name: &[u8]) {
-    io::write_all(1, b"not passed: ");
-    io::write_all(1, name);
-    io::write_all(1, b"\n");
+// Names a vector that did not pass. Where a line of these cannot be written, neither can the last, by which `main` tells so.
+fn blame(rt: &impl Print, name: &[u8]) {
+    let _ = rt.print("not passed: ");
+    let _ = rt.write_all(name);
+    let _ = rt.print("\n");
 }
 
 // Whether a vector passes: in a buffer that is long enough, and in one that is a byte too short.
@@ -68,6 +73,7 @@ fn passes(
 
 // 1 for a vector that passes, 0 for one that is named.
 fn score(
+    rt: &impl Print,
     op: u64,
     list: u64,
     number: u64,
@@ -84,12 +90,12 @@ fn score(
     if passes(op, list, number, place, input, expected, out) {
         return 1;
     }
-    blame(name);
+    blame(rt, name);
     0
 }
 
 // All vectors of a pack.
-fn all(p: &[u8], out: &mut [u8]) -> Results
+fn all(rt: &impl Print, p: &[u8], out: &mut [u8]) -> Results
     ensures { Tried p.now (length out.old) 0 0 0 result }
 {
     let mut tried: u64 = 0;
@@ -98,7 +104,7 @@ fn all(p: &[u8], out: &mut [u8]) -> Results
     while at < p.len() {
         match vector_at(p, at) {
             Packed::Broken => {
-                blame(b"a broken pack");
+                blame(rt, b"a broken pack");
                 return Results { tried, passed };
             }
             Packed::Vector {
@@ -112,6 +118,7 @@ fn all(p: &[u8], out: &mut [u8]) -> Results
                 end,
             } => {
                 passed += score(
+                    rt,
                     op,
                     list,
                     number,
@@ -129,13 +136,10 @@ fn all(p: &[u8], out: &mut [u8]) -> Results
     Results { tried, passed }
 }
 
-fn main() {
-    let mut pack = [0u8; PACK];
-    let n = io::read_full(0, &mut pack);
-    let mut out = io::large_buffer();
-    let tally = all(&pack[..n], &mut out);
-    io::print_decimal(1, tally.passed);
-    io::write_all(1, b" of ");
-    io::print_decimal(1, tally.tried);
-    io::write_all(1, b" vectors passed\n");
+fn main(rt: HostRuntime) -> io::Result<()> {
+    let mut pack = Vec::new(rt.alloc());
+    rt.stdin().take(PACK).read_to_end(&mut pack)?;
+    let mut out = [0u8; ROOM];
+    let Results { tried, passed } = all(&rt, &pack, &mut out);
+    println!(rt; "{passed} of {tried} vectors passed")
 }

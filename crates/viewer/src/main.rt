@@ -9,6 +9,11 @@ use columns::format::MOST_LIST;
 use columns::{DirectoryNumber, ParameterLine};
 use desk::Record;
 use directory::{Attribute, Entry};
+use std::io;
+use std::io::Read;
+
+// So much of standard input is looked at: of a longer file a part that no file is.
+const MOST_INPUT: u64 = 65536;
 
 // The slots that are lent, and how many names are asked for.
 const SLOTS: usize = 4;
@@ -44,7 +49,7 @@ fn unused() -> Record
 }
 
 // The rows with the table of a file in them.
-fn listed(list: u64, file: &[u8], rows: [Record; 4]) -> [Record; 4]
+fn listed(list: u64, file: &[u8], rows: [Record; SLOTS]) -> [Record; SLOTS]
     ensures { result ≡ slots_left rows (listed_in list file.now) }
 {
     let mut table = rows;
@@ -52,71 +57,70 @@ fn listed(list: u64, file: &[u8], rows: [Record; 4]) -> [Record; 4]
     table
 }
 
-fn print_colour(colour: Attribute) {
+fn print_colour(rt: &impl Print, colour: Attribute) -> io::Result<()> {
     match colour {
-        Attribute::Number(n) => {
-            io::print_decimal(1, n as u64);
-        }
-        Attribute::Reference(d) => {
-            io::write_all(1, b"entry ");
-            io::print_decimal(1, d.0 as u64);
-        }
+        Attribute::Number(n) => print!(rt; "{n}"),
+        Attribute::Reference(d) => print!(rt; "entry {}", d.0),
     }
 }
 
-fn print_part(n: u32) {
-    io::print_decimal(1, n as u64);
-    io::write_all(1, b" ");
+// A number, and what parts it from the next.
+fn print_part(rt: &impl Print, n: u32) -> io::Result<()> {
+    print!(rt; "{n} ")
 }
 
 // As an entry line begins.
-fn print_mark(known: bool) {
+fn print_mark(rt: &impl Print, known: bool) -> io::Result<()> {
     if known {
-        io::write_all(1, b"E ");
+        rt.print("E ")
     } else {
-        io::write_all(1, b"U ");
+        rt.print("U ")
     }
 }
 
-fn print_slot(slot: Record) {
+// Bytes in brackets: nothing says that they are text.
+fn print_bytes(rt: &impl Print, bytes: &[u8]) -> io::Result<()> {
+    rt.print("[")?;
+    rt.write_all(bytes)?;
+    rt.print("]")
+}
+
+fn print_slot(rt: &impl Print, slot: Record) -> io::Result<()> {
     let entry = slot.entry;
     let label = slot.label;
-    let colour = entry.colour;
-    print_mark(slot.known);
-    print_part(slot.number.0);
-    print_part(entry.entity);
-    print_part(entry.form);
-    print_part(slot.pointer.0);
-    print_part(slot.lines);
-    io::write_all(1, b"[");
-    io::write_all(1, &label);
-    io::write_all(1, b"] ");
-    print_colour(colour);
-    io::write_all(1, b"\n");
+    print_mark(rt, slot.known)?;
+    print_part(rt, slot.number.0)?;
+    print_part(rt, entry.entity)?;
+    print_part(rt, entry.form)?;
+    print_part(rt, slot.pointer.0)?;
+    print_part(rt, slot.lines)?;
+    print_bytes(rt, &label)?;
+    rt.print(" ")?;
+    print_colour(rt, entry.colour)?;
+    rt.print("\n")
 }
 
-fn print_name<'f, 's: 'f>(file: &'f [u8], stand_in: &'s [u8], number: DirectoryNumber) {
+fn print_name<'f, 's: 'f>(
+    rt: &impl Print,
+    file: &'f [u8],
+    stand_in: &'s [u8],
+    number: DirectoryNumber,
+) -> io::Result<()> {
     let name = desk_name::name(MOST_LIST, file, stand_in, number);
-    print_part(number.0);
-    io::write_all(1, b"[");
-    io::write_all(1, name);
-    io::write_all(1, b"]\n");
+    print_part(rt, number.0)?;
+    print_bytes(rt, name)?;
+    rt.print("\n")
 }
 
-fn main() {
-    let mut buffer = io::large_buffer();
-    let n = io::read_full(0, &mut buffer);
+fn main(rt: HostRuntime) -> io::Result<()> {
+    let mut file = Vec::new(rt.alloc());
+    rt.stdin().take(MOST_INPUT).read_to_end(&mut file)?;
     let empty = unused();
-    let table = listed(MOST_LIST, &buffer[..n], [empty; 4]);
-    let mut i = 0;
-    while i < SLOTS {
-        print_slot(table[i]);
-        i += 1;
+    for slot in listed(MOST_LIST, &file, [empty; SLOTS]) {
+        print_slot(&rt, slot)?;
     }
-    let stand_in = *b"no name";
-    let mut k = 0;
-    while k < NAMES {
-        print_name(&buffer[..n], &stand_in, DirectoryNumber(k));
-        k += 1;
+    for number in 0..NAMES {
+        print_name(&rt, &file, b"no name", DirectoryNumber(number))?;
     }
+    Ok(())
 }

@@ -11,12 +11,12 @@ use types.Run.{OneOf, miss}
 use Rattle.references.specs.References.{fits}
 use Rattle.values.specs.declared.Value.{Value}
 use Rattle.values.specs.declared.Value.TheVariants.{Default, Whole, Real, Text}
-use Rattle.values.specs.contracts.Value.{the_type as valueType}
+use Rattle.values.specs.contracts.Value.{the_type as value_type}
 use Rattle.layouts.specs.declared.Kind.{Kind}
 use Rattle.layouts.specs.declared.Kind.TheVariants.{R, Given, Weight, S, I, Flag, Count, Outer, Upper1, Upper2, Degree1, Degree2, P, Q, Bound, Rest}
 use Rattle.layouts.specs.declared.LayoutState.{LayoutState}
 use Rattle.layouts.specs.declared.LayoutPlace.{LayoutPlace}
-use Rattle.layouts.specs.contracts.Kind.{the_type as kindType}
+use Rattle.layouts.specs.contracts.Kind.{the_type as kind_type}
 use Rattle.layouts.specs.Table.{place_at}
 use Rattle.layouts.specs.Machine.{kind_at, rests, moved, refer, takes, step}
 use Rattle.layouts.specs.Named.{named}
@@ -37,7 +37,7 @@ module _ (n : ℕ) {v : Value} where
   pub whole_some : {neg : Bool} {size r : ℕ} → v ≡ Whole neg size → neg ≡ false → r ≡ some_at n size → r ≡ some_named n v
   whole_some e h k = rw (e, h) k
 
-pub other_some : (n : ℕ) (v : Value) → OneOf (0 ∷ 2 ∷ 3 ∷ []) (tag_of valueType v) → 0 ≡ some_named n v
+pub other_some : (n : ℕ) (v : Value) → OneOf (0 ∷ 2 ∷ 3 ∷ []) (tag_of value_type v) → 0 ≡ some_named n v
 other_some n Default h = refl
 other_some n (Whole neg size) h = absurd (miss (0 ∷ 2 ∷ 3 ∷ []) 1 tt h)
 other_some n (Real neg m eneg e double) h = refl
@@ -57,7 +57,7 @@ module _ {k : Kind} {want : ℕ} where
   pub asks_bound : k ≡ Bound want → ltb 0 want ≡ asks_type k
   asks_bound e = rw e
 
-pub asks_none : (k : Kind) → OneOf (0 ∷ 1 ∷ 2 ∷ 3 ∷ 4 ∷ 5 ∷ 6 ∷ 7 ∷ 8 ∷ 9 ∷ 10 ∷ 11 ∷ 15 ∷ []) (tag_of kindType k) → false ≡ asks_type k
+pub asks_none : (k : Kind) → OneOf (0 ∷ 1 ∷ 2 ∷ 3 ∷ 4 ∷ 5 ∷ 6 ∷ 7 ∷ 8 ∷ 9 ∷ 10 ∷ 11 ∷ 15 ∷ []) (tag_of kind_type k) → false ≡ asks_type k
 asks_none R h = refl
 asks_none Given h = refl
 asks_none Weight h = refl

@@ -139,6 +139,8 @@ module _ (types : List ℕ) (place : ℕ) where
 
   quiet_references : (x : Said) → Quiet x → said_references types place x ≡ Good
   quiet_references Start q = refl
+  quiet_references (Global _ _ _) q = elim q [ ]
+  quiet_references (Entry _ _ _) q = elim q [ ]
   quiet_references (Given reference v) q = refl
   quiet_references (Last n) q = refl
   quiet_references (Nothing b) q = refl
@@ -162,6 +164,8 @@ module _ (list : ℕ) (types : List ℕ) (place : ℕ) (ls : List Line) where
 
   quiet_entity : (x : Said) → Quiet x → said_entity list types place (values_first ls) x ≡ Good
   quiet_entity Start q = refl
+  quiet_entity (Global _ _ _) q = elim q [ ]
+  quiet_entity (Entry _ _ _) q = elim q [ ]
   quiet_entity (Given reference v) q = refl
   quiet_entity (Last n) q = refl
   quiet_entity (Nothing b) q = refl

@@ -60,6 +60,8 @@ said_class_lem l ls (Nothing b) = refl
 
 quiet_class : (x : Said) → Quiet x → said_class x ≡ 0
 quiet_class Start q = refl
+quiet_class (Global _ _ _) q = elim q [ ]
+quiet_class (Entry _ _ _) q = elim q [ ]
 quiet_class (Given reference v) q = refl
 quiet_class (Last n) q = refl
 quiet_class (Nothing b) q = refl

@@ -2,7 +2,6 @@ use borrow.Author.Rules.{rules}
 use Rattle.cards.proofs.Growth.{known}
 use Rattle.cards.proofs.Laws.{files}
 use Rattle.cards.specs.declared.CardsRead.TheVariants.{Counted}
-use Rattle.std.proofs.Common.{tt}
 use Rattle.cards_pass.proofs.cards.Goals as goal
 
 pub length_ok-requires : goal.length_ok-requires

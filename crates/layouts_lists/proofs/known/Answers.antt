@@ -10,7 +10,7 @@ pub overflow_shr-result : goal.overflow_shr-result
 overflow_shr-result c = search rules
 
 pub returns-then-k-lt-ROWS : goal.returns-then-k-lt-ROWS
-returns-then-k-lt-ROWS c = known-bit _ _ c.before.before.args.form _ c.before.bit-of.ensures c.if1.true
+returns-then-k-lt-ROWS c = known-bit _ _ c.args.form _ c.bit_of-k.ensures c.if-k-lt-ROWS.true
 
 pub returns-else-k-lt-ROWS : goal.returns-else-k-lt-ROWS
-returns-else-k-lt-ROWS c = known-not _ _ c.before.before.args.form _ c.before.bit-of.ensures c.if1.false
+returns-else-k-lt-ROWS c = known-not _ _ c.args.form _ c.bit_of-k.ensures c.if-k-lt-ROWS.false

@@ -2,7 +2,6 @@
 use borrow.Author.Rules.{rules}
 use Rattle.owners.proofs.Laws.{answers, owners_small}
 use Rattle.owners.specs.declared.Owned.TheVariants.{Entry, Line}
-use Rattle.std.proofs.Common.{tt}
 use Rattle.owners_pass.proofs.owners.Goals as goal
 
 pub wide-n-requires : goal.wide-n-requires

@@ -28,8 +28,13 @@ pub put_all-e-requires : goal.put_all-e-requires
 put_all-e-requires c = search (rules, pieces)
 
 pub put_tail-requires : goal.put_tail-requires
-put_tail-requires c =
-    record { base_bound = search (rules, pieces); p_bound = search (rules, pieces); le_w = search (rules, pieces); w_le_line_columns = search (rules, pieces); writable = search (rules, pieces) }
+put_tail-requires c = record {
+  base_bound = search (rules, pieces);
+  p_bound = search (rules, pieces);
+  le_w = search (rules, pieces);
+  w_le_line_columns = search (rules, pieces);
+  writable = search (rules, pieces);
+}
 
 pub shape_of-out : goal.shape_of-out
 shape_of-out c = search (rules, pieces)

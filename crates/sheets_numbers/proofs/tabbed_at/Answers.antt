@@ -52,4 +52,8 @@ pub overflow_add-result : goal.overflow_add-result
 overflow_add-result c = search (rules, tabs)
 
 pub returns : goal.returns
-returns c = record { end_value = search (rules, tabs); number_value = search (rules, tabs); at_le_end_2 = (search (rules, tabs), search (rules, tabs)) }
+returns c = record {
+  end_value = search (rules, tabs);
+  number_value = search (rules, tabs);
+  at_le_end_2 = (search (rules, tabs), search (rules, tabs));
+}

@@ -43,7 +43,8 @@ overflow_sub-r c = search (rules, numbered)
 pub finish_of-requires : goal.finish_of-requires
 finish_of-requires c =
     record {
-      zeros_bound = omega (arith, c.scan_at-r.ensures.count_le_count.2.zeros, c.scan_at-r.ensures.count_le_count, c.before_of-w.ensures.count_in_bounds_2.0, c.args);
+      zeros_bound =
+          omega (arith, c.scan_at-r.ensures.count_le_count.2.zeros, c.scan_at-r.ensures.count_le_count, c.before_of-w.ensures.count_in_bounds_2);
       n_bound = omega (arith, c.scan_at-r.ensures.count_le_count, c.before_of-w.ensures.count_in_bounds_2) }
 
 pub returns : goal.returns

@@ -1,0 +1,16 @@
+-- A good pass answers the delimiters.
+use borrow.Author.Rules.{rules}
+use Rattle.read_global.proofs.GlobalAnswers.{answering}
+use Rattle.read_global.proofs.answer_of.Goals as goal
+
+pub enum_told-1 : goal.enum_told-1
+enum_told-1 c = search (rules, answering)
+
+pub enum_known-found : goal.enum_known-found
+enum_known-found c = search (rules, answering)
+
+pub returns-in-Good : goal.returns-in-Good
+returns-in-Good c = search (rules, answering)
+
+pub returns-in-Refused : goal.returns-in-Refused
+returns-in-Refused c = search (rules, answering)

@@ -1,0 +1,16 @@
+-- A refused value stands for a default.
+use borrow.Author.Rules.{rules}
+use Rattle.read_passes.proofs.GlobalText.{gots}
+use Rattle.read_global.proofs.value_of.Goals as goal
+
+pub enum_known-g : goal.enum_known-g
+enum_known-g c = search (rules, gots)
+
+pub enum_told-1 : goal.enum_told-1
+enum_told-1 c = search (rules, gots)
+
+pub returns-in-Found : goal.returns-in-Found
+returns-in-Found c = search (rules, gots)
+
+pub returns-in-Refused : goal.returns-in-Refused
+returns-in-Refused c = search (rules, gots)
