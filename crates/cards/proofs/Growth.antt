@@ -24,7 +24,7 @@ use Rattle.columns.specs.declared.Fault.TheVariants.{ListOrLength, Byte, Sequenc
 use Rattle.columns.specs.declared.FileLine.{FileLine}
 use Rattle.columns.specs.Format.{most_lines}
 use Rattle.cards.specs.Rules.{Holds, Known, LineIs, letter_at, number_at, Meets}
-use Rattle.cards.specs.Cards.{lines_from, lines_of, line_ok, seven, counts, here, place_of, numbered_of, step_of, pass, tells, totals, closes, start, closed, length_ok, cards_of, total}
+use Rattle.cards.specs.Cards.{lines_from, lines_of, line_ok, seven, counts, here, place_of, numbered_of, step_of, pass, totals, closes, start, closed, length_ok, cards_of, total}
 
 -- ---- the five moves
 

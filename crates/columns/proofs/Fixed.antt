@@ -14,7 +14,7 @@ use Rattle.columns.specs.declared.Field.TheVariants.{Number, Bad}
 use Rattle.columns.specs.declared.SignedField.{SignedField}
 use Rattle.columns.specs.declared.SignedField.TheVariants.{Number as SignedNumber, Bad as SignedBad}
 use Rattle.columns.specs.Columns.{columns}
-use Rattle.columns.specs.Fixed.{digits_of, field_of, is_number, signed, with_sign, behind_sign, signed_of}
+use Rattle.columns.specs.Fixed.{digits_of, field_of, is_number, with_sign, behind_sign, signed_of}
 use Rattle.columns.specs.Reading.{Below, Behind}
 use Rattle.columns.proofs.Columns.{column, columns-end}
 

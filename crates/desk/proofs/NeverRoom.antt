@@ -7,7 +7,7 @@ use native.Mathlib.Omega.{arith}
 use lib.Dec.{leb, eqb}
 use lib.ListN.{length, get_or, drop, take}
 use Rattle.columns.specs.declared.Fault.{Fault}
-use Rattle.columns.specs.declared.Fault.TheVariants.{Byte, Section, Sequence, Terminate, ListOrLength, Spelling, Global, Directory, Macro, Reference, Ownership, FirstValue, Mark, TooLong}
+use Rattle.columns.specs.declared.Fault.TheVariants.{Byte, Sequence, Terminate, ListOrLength, Spelling, Global, Directory, Macro, Reference, FirstValue, Mark, TooLong}
 use Rattle.columns.specs.Refusal.{Outcome, accepted, refused, number, demand, each_at, ◌then◌}
 use Rattle.values.specs.declared.Number.{Number}
 use Rattle.values.specs.declared.Number.TheVariants.{Whole as WholeNumber, Real as RealNumber, Beyond, Bad}

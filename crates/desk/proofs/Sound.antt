@@ -2,7 +2,7 @@
 use mathlib.Core.Path.{◌≡◌, refl, sym, ap, ◌∙◌}
 use mathlib.Core.Bool.{true, false}
 use mathlib.Core.List.{List, [], ◌∷◌}
-use Prim.Native.Nat.{ℕ, ◌+◌, ◌-◌, ◌*◌, ◌≤◌, ◌<◌}
+use Prim.Native.Nat.{ℕ, ◌+◌, ◌*◌, ◌≤◌, ◌<◌}
 use native.Mathlib.Omega.{arith}
 use lib.ListN.{get_or, drop}
 use borrow.Author.Tests.{eqb-true}
@@ -30,7 +30,7 @@ use Rattle.layouts.specs.Fits.{Keeps}
 use Rattle.layouts.proofs.Fits.{accepts_keeps}
 use Rattle.desk.proofs.Keeping.{all_kept}
 use Rattle.model.specs.Model.{Carried, type_of, entity_of}
-use Rattle.model.specs.Read.{Listed, Before, is_type, entry_in, by_parameters, parameters_of, entity_in, references_of, references_in, first_entry, last_pass, before, read_model, reads}
+use Rattle.model.specs.Read.{Listed, Before, is_type, entry_in, by_parameters, parameters_of, entity_in, references_of, references_in, first_entry, last_pass, read_model, reads}
 use Rattle.model.proofs.ReadApart.{entry_apart, entity_apart, read_apart}
 use Rattle.model.proofs.Sizes.{size_same}
 use Rattle.read_passes.specs.declared.FilePass.TheVariants.{Good as Passes}

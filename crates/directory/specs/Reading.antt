@@ -12,7 +12,7 @@ use Rattle.directory.specs.declared.EntryRead.{EntryRead}
 use Rattle.directory.specs.declared.EntryRead.TheVariants.{Spelt, Wrong}
 use Rattle.directory.specs.Fields.{in_order}
 use Rattle.directory.specs.Rules.{ranges_ok}
-use Rattle.directory.specs.Lines.{label, slots, slots_aLine, slot_of}
+use Rattle.directory.specs.Lines.{slots, slots_aLine, slot_of}
 
 -- ---- where a slot stands
 

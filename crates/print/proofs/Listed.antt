@@ -49,6 +49,8 @@ module _ (list : ℕ) (f : List ℕ) (first n parameters c d : ℕ) where
       → rows_bytes list f first n parameters c d i left ≡ entries_bytes list (types_at f first n) i (map carried_as es)
   unfolding up_from rows_bytes entries_bytes
   all_listed zero i place [] done room = refl
+  all_listed zero i place (e ∷ es) x room = elim x [ ]
+  all_listed (suc left) i place [] x room = elim x [ ]
   all_listed (suc left) i place (e ∷ es) (next h s) room =
       ap₂ (λ (x y : List ℕ). x ++ y) (row_listed i place e h room.0) (all_listed left (i + 1) (place + 2) es s room.1)
 

@@ -10,7 +10,7 @@ use lib.ListN.{length, get_or, drop, replicate}
 use lib.Dec.{ltb, leb, eqb}
 use borrow.Author.Tests.{le-leb, lt-ltb, eq-eqb, ne_eqb, eqb-true, leb-true, ltb-true}
 use Rattle.columns.specs.Columns.{same_bytes}
-use Rattle.columns.specs.Decimal.{dec, minus, signed_dec, to_right, zero_filled}
+use Rattle.columns.specs.Decimal.{dec, signed_dec, to_right, zero_filled}
 use Rattle.columns.specs.Format.{most_integer}
 use Rattle.columns.proofs.Tests.{both, both_true}
 use Rattle.columns.proofs.Looks.{same_eq, same_self}

@@ -10,7 +10,7 @@ use lib.ListN.{length, get_or, take, drop, length-append, drop_of_length-le}
 use lib.Seq.{take-append_seam, drop-append-add, drop-cons, drop_at}
 use lib.Dec.{ltb, leb, eqb}
 use borrow.Author.Tests.{lt-ltb, ne_eqb, eqb-true, ltb-true, leb-true}
-use Rattle.columns.specs.Decimal.{dec, minus, signed_dec, zero_filled}
+use Rattle.columns.specs.Decimal.{dec, signed_dec, zero_filled}
 use Rattle.columns.specs.Columns.{printable}
 use Rattle.values.specs.Number.{value}
 use Rattle.columns.proofs.Decimals.{print_dec, print_signed, print_right}

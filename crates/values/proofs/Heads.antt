@@ -12,7 +12,7 @@ use Rattle.values.specs.declared.Token.{Token}
 use Rattle.values.specs.declared.Run.{Run}
 use Rattle.values.specs.declared.Head.{Head}
 use Rattle.values.specs.declared.Head.TheVariants.{Count, Plain}
-use Rattle.values.specs.Number.{digits, value, number_of}
+use Rattle.values.specs.Number.{digits, number_of}
 use Rattle.values.specs.Head.{head_from, head_of}
 use Rattle.values.specs.Reading.{start, scan, cap_run, Within}
 use Rattle.values.proofs.Laws.{three, bound, scan-count, scan-value}

@@ -1,15 +1,13 @@
 -- What is read of a number is worth what its spelling says: the zeros that are stripped go to the exponent. Assumes nothing.
 use mathlib.Core.Path.{◌≡◌, refl, sym, ap, ◌∙◌}
 use mathlib.Core.Bool.{Bool, true, false, cond, ◌&&◌}
-use mathlib.Core.List.{List, ◌++◌}
 use Prim.Native.Nat.{ℕ, zero, suc, ◌+◌, ◌-◌, ◌*◌, ◌/◌, ◌%◌, ◌^◌, ◌≤◌, ◌<◌}
-use native.Mathlib.Nat.{pow-suc, pow-zero, mul-one, zero-mul, mul_assoc, mul_comm, div-one, div-div-eq-div-mul}
+use native.Mathlib.Nat.{pow-suc, mul-one, zero-mul, mul_assoc, mul_comm, div-one, div-div-eq-div-mul}
 use native.Mathlib.Omega.{arith}
 use lib.Pow.{pow-add}
-use lib.ListN.{length, get_or, drop}
+use lib.ListN.{length, get_or}
 use lib.Dec.{ltb, leb, eqb}
-use borrow.Author.Tests.{ltb-true, ltb-false, eqb-true, eqb-false}
-use Rattle.values.specs.declared.Number.{Number}
+use borrow.Author.Tests.{ltb-true, ltb-false, eqb-true}
 use Rattle.values.specs.declared.Number.TheVariants.{Whole, Real, Beyond, Bad}
 use Rattle.values.specs.declared.Power.{Power}
 use Rattle.values.specs.declared.Power.TheVariants.{None, Wrong, Of}

@@ -1,5 +1,4 @@
 -- The table in the code is where the rows start: both are fourteen numbers.
-use Rattle.std.proofs.Common.{rules}
 use Rattle.layouts.specs.Layout.{paper}
 use Rattle.layouts.specs.Table.{start_of}
 use Rattle.layouts.proofs.Steps.{start-past}
