@@ -129,8 +129,8 @@ pub ruleset in_file = (refused_nobody, good_found, checked-ready)
 abbrev Bytes : Type 0
 Bytes = Bor (List ℕ)
 
-ptr_same : (r y : Bytes) → r ≡ y → r.ptr ≡ y.ptr
-ptr_same r y e = ap (λ (z : Bytes). z.ptr) e
+ptr_same : (r y : Bytes) → r ≡ y → r.ref_ptr ≡ y.ref_ptr
+ptr_same r y e = ap (λ (z : Bytes). z.ref_ptr) e
 
 now_same : (r y : Bytes) → r ≡ y → r.now ≡ y.now
 now_same r y e = ap (λ (z : Bytes). z.now) e
@@ -140,8 +140,8 @@ take_all [] = refl
 take_all (x ∷ l) = ap (λ (r : List ℕ). x ∷ r) (take_all l)
 
 -- at the start of s
-at-start : (s : Bytes) (q : ℕ × ℕ) → q ≡ s.ptr → q ≡ (s.ptr.0, 0 + s.ptr.1)
-at-start s q e = e ∙ ap (λ (n : ℕ). (s.ptr.0, n)) (sym (zero-add s.ptr.1))
+at-start : (s : Bytes) (q : ℕ × ℕ) → q ≡ s.ref_ptr → q ≡ (s.ref_ptr.0, 0 + s.ref_ptr.1)
+at-start s q e = e ∙ ap (λ (n : ℕ). (s.ref_ptr.0, n)) (sym (zero-add s.ref_ptr.1))
 
 module _ (file stand r : Bytes) where
   shows_nothing : (o : Shown) → found_of o ≡ Nobody → Part stand 0 0 r → Shows file stand o r
@@ -167,12 +167,12 @@ module _ (file stand r : Bytes) where
 module _ (file stand : Bytes) (o : Shown) (w : Found) (ew : w ≡ found_of o) where
   pub nobody_shown : (r y : Bytes) → r ≡ y → w ≡ Nobody → y.ref_ptr ≡ stand.ref_ptr → y.now ≡ take 0 stand.now → Shows file stand o r
   nobody_shown r y er e ep en =
-      shows_nothing file stand r o (sym ew ∙ e) (record { place = at-start stand r.ptr (ptr_same r y er ∙ ep); bytes = now_same r y er ∙ en })
+      shows_nothing file stand r o (sym ew ∙ e) (record { place = at-start stand r.ref_ptr (ptr_same r y er ∙ ep); bytes = now_same r y er ∙ en })
 
   pub blank-shown : (r : Bytes) → r ≡ stand → w ≡ Blank → Shows file stand o r
   blank-shown r er e =
       shows_stand_in file stand r o (sym ew ∙ e)
-      (record { place = at-start stand r.ptr (ptr_same r stand er); bytes = now_same r stand er ∙ sym (take_all stand.now) })
+      (record { place = at-start stand r.ref_ptr (ptr_same r stand er); bytes = now_same r stand er ∙ sym (take_all stand.now) })
 
   pub label_shown : (at : ℕ) (r : Bytes) → w ≡ Label at → r.ref_ptr ≡ (file.ref_ptr.0, at + file.ref_ptr.1) → r.now ≡ take (at + 8 - at) (drop at file.now) → Shows file stand o r
   label_shown at r e ep en =

@@ -36,8 +36,10 @@ pub slice_bounds-passes-end : goal.slice_bounds-passes-end
 slice_bounds-passes-end c = search (rules, checks, walked)
 
 pub passes-found-requires : goal.passes-found-requires
-passes-found-requires c =
-    (tabled_marked _ _ _ _ (walked_table _ _ (search (rules)) _ _ _ (search (rules)) refl c.before.before.before.before.before.before.before.before.before.walk.ensures.1.1.0) c.before.before.mark.ensures, search (rules, walked_rules))
+passes-found-requires c = record {
+  tabled = tabled_marked _ _ _ _ (walked_table _ _ (search rules) _ _ _ (search rules) refl c.walk-walked.ensures.if_good_2) c.mark.ensures;
+  first_value = search (rules, walked_rules);
+}
 
 pub enum_known-found : goal.enum_known-found
 enum_known-found c = search (rules, checks, walked)

@@ -32,7 +32,13 @@ shape_of-classes-then-end-n c = search (rules, asking, laying, ordering)
 
 pub returns-then-end-n : goal.returns-then-end-n
 returns-then-end-n c =
-    rw c.told.ensures (search (rules, go_piece), (if_good _ (search (rules, rules_piece)), (if_good _ (search (rules, fill_piece)), (if_good _ (search (rules, count-piece)), search rules))))
+    rw c.told.ensures (record {
+      verdict_value = search (rules, go_piece);
+      if_good = if_good _ (search (rules, rules_piece));
+      if_good_2 = if_good _ (search (rules, fill_piece));
+      if_good_3 = if_good _ (search (rules, count-piece));
+      under = search rules;
+    })
 
 pub line_at-said-requires : goal.line_at-said-requires
 line_at-said-requires c = search (rules, asking, laying, ordering)
@@ -56,75 +62,59 @@ pub enum_known-next : goal.enum_known-next
 enum_known-next c = search (rules, asking, laying, ordering)
 
 pub overflow_add-end : goal.overflow_add-end
-overflow_add-end c =
-    
-    let c13 = c.before.before.before.before.before.before.before.before.before.before.before.before.before in
-    search (rules, c13.end_of.ensures, c13.before.before.before.shared-slice-known.given)
+overflow_add-end c = search (rules, c.end_of-end.ensures)
 
 pub past_values-past-requires : goal.past_values-past-requires
 past_values-past-requires c =
-    
-    let c1 = c.before in
-    let c3 = c1.before.before in
-    let c11 = c3.before.before.before.before.before.before.before.before in
-    let c13 = c11.before.before in
-    let inv = c13.before.before.loop.invariant in
-    let said = c11.line-at.result in (
-      behind c13.before.before.before.before.before.args.t.now _ _ inv.3 c13.end_of.ensures.1.1 c11.before.if1.false,
-      (
-        next-line _ _ said _ c3.step_line.ensures c1.next.given.1 _ _ inv.0 c13.end_of.ensures.1.0,
-        (
-          next-entries _ _ said _ c3.step_line.ensures c1.next.given.1 inv.1,
-          c3.before.tally-said.ensures.1.at,
-        ),
-      ),
-    )
+    let inv = c.loop-at.invariant in
+    let said = c.line_at-said.result in
+    let end = c.end_of-end.ensures.lower_bound in
+    record {
+      from_in_bounds = behind c.args.t.now _ _ inv.3 end.1 c.if-end-n.false;
+      line_le_from = next-line _ _ said _ c.step_line.ensures c.in-On.is _ _ inv.0 end.0;
+      entries_le_line = next-entries _ _ said _ c.step_line.ensures c.in-On.is inv.1;
+      p_bound = c.tally_said-more.ensures.under_2.at;
+    }
 
 pub with_values-tally-requires : goal.with_values-tally-requires
-with_values-tally-requires c = (c.before.before.before.before.before.tally-said.ensures.1, c.past_values.ensures.1.0.2)
+with_values-tally-requires c = record { under = c.tally_said-more.ensures.under_2; at_bound = c.past_values-past.ensures.from_le_next.2 }
 
 pub loop-at-smaller : goal.loop-at-smaller
 loop-at-smaller c =
-    
-    let c2 = c.before.before in
-    let c16 = c2.before.before.before.before.before.before.before.before.before.before.before.before.before.before in
-    let c18 = c16.before.before in
-    omega (arith, c16.before.loop-test.true, c16.end_of.ensures.1, c2.past_values.ensures.1, c18.loop.invariant.2, c18.loop.invariant.3)
+    omega (arith, c.loop-at-test.true, c.end_of-end.ensures.lower_bound, c.past_values-past.ensures.from_le_next,
+      c.loop-at.invariant.2, c.loop-at.invariant.3)
 
 pub loop-at-preserved : goal.loop-at-preserved
 loop-at-preserved c =
-    
-    let c1 = c.before in
-    let c2 = c1.before in
-    let c4 = c2.before.before in
-    let c6 = c4.before.before in
-    let c7 = c6.before in
-    let c10 = c7.before.before.before in
-    let c12 = c10.before.before in
-    let c14 = c12.before.before in
-    let c16 = c14.before.before in
-    let c18 = c16.before.before in
-    let inv = c18.loop.invariant in
-    let past = c2.past_values.ensures in
-    let said = c14.line-at in
-    let step = c6.step_line in
-    let more = c14.before.if1.false in
-    let t = c18.before.before.before.args.t.now in
-    let at = c18.loop.at in
-    let st = c18.loop.st in
-    let taken = c16.before.loop-test.true in
-    let end = c16.end_of.ensures in (
-      omega (arith, past.1),
-      omega (arith, past.1),
-      omega (arith, past.1, inv.3),
+    let inv = c.loop-at.invariant in
+    let past = c.past_values-past.ensures in
+    let said = c.line_at-said in
+    let more = c.if-end-n.false in
+    let t = c.args.t.now in
+    let at = c.loop-at.at in
+    let st = c.loop-at.st in
+    let taken = c.loop-at-test.true in
+    let end = c.end_of-end.ensures in
+    let lo = end.lower_bound.0 in
+    let hi = end.lower_bound.1 in (
+      omega (arith, past.line_le_next),
+      omega (arith, past.line_le_next),
+      omega (arith, past.from_le_next, inv.3),
       inv.3,
-      omega (arith, past.1, end.1, c10.keep.ensures.1, inv.4),
-      wrote_length c10.keep.ensures.0 _ inv.5,
-      ahead_go _ _ _ _ _ _ past.0 _ (go_on _ t st at _ inv.6 inv.3 _ taken end.1.0 end.1.1 end.0 step.result said.result more said.ensures.0 step.ensures _ c4.next.given.1),
-      ahead-asked _ _ _ _ _ _ past.0 global_rule row_rules c12.rule-too.result _ (next-asked st _ said.result step.result step.ensures c4.next.given.1 global_rule row_rules c12.rule-too.result _ _ (rules_said _ t at (st.line + 1) c18.loop.pass inv.7 _ inv.3 _ taken end.1.0 end.1.1 end.0 more said.result _ said.ensures.0 c12.rule-too.ensures)),
-      ahead-laid _ _ _ _ _ _ past.0 _ _ _ (fill_said t at _ inv.3 _ taken end.1.0 end.1.1 end.0 _ _ _ inv.8 more said.result said.ensures.0 c10.keep.ensures.0),
-      c1.with_values.ensures.1,
-      ahead-counted _ _ c7.tally-said.result _ _ _ past.0 _ c1.with_values.ensures.0 _ (count-on _ t c18.loop.tally at _ inv.10 inv.3 _ taken end.1.0 end.1.1 end.0 more said.result _ said.ensures.0 c7.tally-said.ensures.0),
+      omega (arith, past.from_le_next, lo, hi, c.keep-k.ensures.lower_bound, inv.4),
+      wrote_length c.keep-k.ensures.wrote _ inv.5,
+      ahead_go _ _ _ _ _ _ past.ahead _ (go_on _ t st at _ inv.6 inv.3 _ taken lo hi end.value c.step_line.result said.result more
+        said.ensures.value c.step_line.ensures _ c.in-On.is),
+      ahead-asked _ _ _ _ _ _ past.ahead global_rule row_rules c.rule_too-pass.result _
+        (next-asked st _ said.result c.step_line.result c.step_line.ensures c.in-On.is global_rule row_rules c.rule_too-pass.result _ _
+          (rules_said _ t at (st.line + 1) c.loop-at.pass inv.7 _ inv.3 _ taken lo hi end.value more said.result _ said.ensures.value
+            c.rule_too-pass.ensures)),
+      ahead-laid _ _ _ _ _ _ past.ahead _ _ _ (fill_said t at _ inv.3 _ taken lo hi end.value _ _ _ inv.8 more said.result
+        said.ensures.value c.keep-k.ensures.wrote),
+      c.with_values-tally.ensures.under_2,
+      ahead-counted _ _ c.tally_said-more.result _ _ _ past.ahead _ c.with_values-tally.ensures.value _
+        (count-on _ t c.loop-at.tally at _ inv.10 inv.3 _ taken lo hi end.value more said.result _ said.ensures.value
+          c.tally_said-more.ensures.value),
     )
 
 pub enum_known-line : goal.enum_known-line
@@ -134,27 +124,21 @@ pub told-requires-in-Off : goal.told-requires-in-Off
 told-requires-in-Off c = search rules
 
 pub shape_of-classes-in-Off : goal.shape_of-classes-in-Off
-shape_of-classes-in-Off c =
-    
-    let c8 = c.before.before.before.before.before.before.before.before in
-    wrote_length c8.keep.ensures.0 _ c8.before.before.before.before.before.before.before.before.loop.invariant.5
+shape_of-classes-in-Off c = wrote_length c.keep-k.ensures.wrote _ c.loop-at.invariant.5
 
 pub returns-in-Off : goal.returns-in-Off
 returns-in-Off c =
-    
-    let c2 = c.before.before in
-    let c4 = c2.before.before in
-    let c12 = c4.before.before.before.before.before.before.before.before in
-    let c14 = c12.before.before in
-    let c16 = c14.before.before in
-    let inv = c16.loop.invariant in
-    let said = c12.line-at in
-    let step = c4.step_line in
-    let end = c14.end_of.ensures in
-    rw c.told2.ensures (
-      go_off _ c16.before.before.before.args.t.now _ _ _ inv.6 inv.3 _ c14.before.loop-test.true end.1.0 end.1.1 end.0 step.result said.result c12.before.if1.false said.ensures.0 step.ensures _ c2.line.given.1,
-      (if_wrong _, (if_wrong _, (if_wrong _, inv.9))),
-    )
+    let inv = c.loop-at.invariant in
+    let said = c.line_at-said in
+    let end = c.end_of-end.ensures in
+    rw c.told-in-Off.ensures (record {
+      verdict_value = go_off _ c.args.t.now _ _ _ inv.6 inv.3 _ c.loop-at-test.true end.lower_bound.0 end.lower_bound.1 end.value
+          c.step_line.result said.result c.if-end-n.false said.ensures.value c.step_line.ensures _ c.in-Off.is;
+      if_good = if_wrong _;
+      if_good_2 = if_wrong _;
+      if_good_3 = if_wrong _;
+      under = inv.9;
+    })
 
 pub finish_of-requires : goal.finish_of-requires
 finish_of-requires c = search (rules, asking, laying, ordering)
@@ -167,4 +151,10 @@ shape_of-classes c = search (rules, asking, laying, ordering)
 
 pub returns : goal.returns
 returns c =
-    rw c.told3.ensures (search (rules, go_end), (if_good _ (search (rules, rules_end)), (if_good _ (search (rules, fill_end)), (if_good _ (search (rules, count-end)), search rules))))
+    rw c.told-2.ensures (record {
+      verdict_value = search (rules, go_end);
+      if_good = if_good _ (search (rules, rules_end));
+      if_good_2 = if_good _ (search (rules, fill_end));
+      if_good_3 = if_good _ (search (rules, count-end));
+      under = search rules;
+    })
