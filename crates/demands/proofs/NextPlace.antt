@@ -64,7 +64,7 @@ apart e = let z : ◌≡◌ {A = ℕ} 0 1 = ap (λ (b : Block). b.next) e in ome
 
 pub second_globals : SecondGlobals
 second_globals κs = record {
-  passed = (record { ref_ptr = (0, 0); now = [] }, (0, (record { ref_ptr = (0, 0); now = two_bytes }, (0, tt))));
+  passed = (record { ref_ptr = (0, 0); ghost_name = 0; now = [] }, (0, (record { ref_ptr = (0, 0); now = two_bytes }, (0, tt))));
   asked = (omega arith, (omega arith, (omega (arith, opening_short.0), omega (arith, opening_short.1))));
   left = ([], (tt, (tt, (tt, tt))));
   one = block_at 0;
@@ -76,7 +76,7 @@ second_globals κs = record {
 
 pub second_block : SecondBlock
 second_block κs = record {
-  passed = (record { ref_ptr = (0, 0); now = [] }, (0, (record { ref_ptr = (0, 0); now = two_bytes }, (0, (1, (record { 0 = 1 }, (record { 0 = 1 }, tt)))))));
+  passed = (record { ref_ptr = (0, 0); ghost_name = 0; now = [] }, (0, (record { ref_ptr = (0, 0); now = two_bytes }, (0, (1, (record { 0 = 1 }, (record { 0 = 1 }, tt)))))));
   asked = record {
     inside = omega arith;
     low = omega arith;

@@ -20,7 +20,7 @@ use Rattle.demands.specs.NoRoom.{surface, sheet, no_room}
 -- a call for every list, file and buffer
 called : (list : ℕ) (file o : List ℕ) → ReadCall list file o (answer_of (length o) (reads list file)) (left_in o (reads list file))
 called list file o =
-    read ([], ([], tt)) (list, (record { ref_ptr = (0, 0); now = file }, (record { ref_ptr = (0, 0); now = o }, tt))) _ (tt, (tt, (_, tt))) (refl, refl)
+    read ([], ([], tt)) (list, (record { ref_ptr = (0, 0); now = file }, (record { ref_ptr = (0, 0); ghost_name = 0; now = o }, tt))) _ (tt, (tt, (_, tt))) (refl, refl)
 
 inside : OneInside 0 most_list
 inside = record { small_list = (omega arith); large_list = (omega arith); inside = all_types_lem 0 (omega arith) }
