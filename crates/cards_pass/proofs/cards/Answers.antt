@@ -10,7 +10,8 @@ length_ok-requires c = search (rules, files)
 pub returns-then-not-length_ok : goal.returns-then-not-length_ok
 returns-then-not-length_ok c = record {
   value = search (rules, files);
-  known = tt }
+  known = tt;
+}
 
 pub loop-k-init : goal.loop-k-init
 loop-k-init c = search (rules, files)
@@ -30,7 +31,8 @@ enum_known-done c = search (rules, files)
 pub returns-in-Wrong : goal.returns-in-Wrong
 returns-in-Wrong c = record {
   value = search (rules, files);
-  known = tt }
+  known = tt;
+}
 
 pub enum_known-done-in-Next-1 : goal.enum_known-done-in-Next-1
 enum_known-done-in-Next-1 c = search (rules, files)
@@ -50,9 +52,11 @@ closes_at-requires c = search (rules, files)
 pub returns-then-closes_at : goal.returns-then-closes_at
 returns-then-closes_at c = record {
   value = search (rules, files);
-  known = known c.args.file.now (Counted c.loop-k.c) (search (rules, files)) }
+  known = known c.args.file.now (Counted c.loop-k.c) (search (rules, files));
+}
 
 pub returns : goal.returns
 returns c = record {
   value = search (rules, files);
-  known = tt }
+  known = tt;
+}

@@ -21,6 +21,5 @@ spelt_as-requires c = search (rules, entries)
 
 pub returns : goal.returns
 returns c =
-    
     let c0 = c.before.before.before.before.before.before in
     record { value = search (rules, entries); small = small_read c0.args.file.now c0.args.k c.spelt_as.result (search (rules, entries)) }

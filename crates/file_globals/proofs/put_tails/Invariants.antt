@@ -9,7 +9,7 @@ use Rattle.file_globals.proofs.put_tails.Given as goal
 abbrev pub invariant-loop-i : goal.invariant-loop-i
 invariant-loop-i l =
     (l.i ≤ l.lines) × (l.at ≡ l.q + 81 * l.i) × (length l.out ≡ length l.initial.out)
-        × (tailed l.out l.at [] 71 (1 + l.i) (l.lines - l.i) ≡ tailed l.initial.out l.q [] 71 1 l.lines)
+    × (tailed l.out l.at [] 71 (1 + l.i) (l.lines - l.i) ≡ tailed l.initial.out l.q [] 71 1 l.lines)
 
 abbrev pub decreases-loop-i : goal.decreases-loop-i
 decreases-loop-i l = l.lines - l.i

@@ -8,8 +8,8 @@ use Rattle.file_parameters.proofs.put_tails.Given as goal
 abbrev pub invariant-loop-i : goal.invariant-loop-i
 invariant-loop-i l =
     (l.i ≤ l.lines) × (l.at ≡ l.q + 81 * l.i) × (length l.out ≡ length l.initial.out)
-        × (tailed l.out l.at (owner_of l.number.0) 80 (l.from.0 + l.i) (l.lines - l.i)
-            ≡ tailed l.initial.out l.q (owner_of l.number.0) 80 l.from.0 l.lines)
+    × (tailed l.out l.at (owner_of l.number.0) 80 (l.from.0 + l.i) (l.lines - l.i)
+    ≡ tailed l.initial.out l.q (owner_of l.number.0) 80 l.from.0 l.lines)
 
 abbrev pub decreases-loop-i : goal.decreases-loop-i
 decreases-loop-i l = l.lines - l.i

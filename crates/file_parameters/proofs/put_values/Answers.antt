@@ -40,6 +40,11 @@ pub loop-base-smaller : goal.loop-base-smaller
 loop-base-smaller c = search (rules, looping)
 
 pub loop-base-preserved : goal.loop-base-preserved
-loop-base-preserved c =
-    (search (rules, looping), search (rules, looping), search (rules, looping), search (rules, value-behind), search (rules, value_unbroken),
-      search (rules, not-false, value-more))
+loop-base-preserved c = (
+  search (rules, looping),
+  search (rules, looping),
+  search (rules, looping),
+  search (rules, value-behind),
+  search (rules, value_unbroken),
+  search (rules, not-false, value-more),
+)

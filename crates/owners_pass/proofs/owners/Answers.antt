@@ -16,7 +16,8 @@ entry_number-requires c = search (rules, answers)
 pub returns-then-i-n : goal.returns-then-i-n
 returns-then-i-n c = record {
   value = search (rules, answers);
-  small = owners_small c.args.file.now c.args.c (Entry c.entry_number.result) (search rules) (search (rules, answers)) }
+  small = owners_small c.args.file.now c.args.c (Entry c.entry_number.result) (search rules) (search (rules, answers));
+}
 
 pub first_line-k-requires : goal.first_line-k-requires
 first_line-k-requires c = search (rules, answers)
@@ -24,9 +25,11 @@ first_line-k-requires c = search (rules, answers)
 pub returns-then-k-c : goal.returns-then-k-c
 returns-then-k-c c = record {
   value = search (rules, answers);
-  small = owners_small c.args.file.now c.args.c (Line c.first_line-k.result) (search rules) (search (rules, answers)) }
+  small = owners_small c.args.file.now c.args.c (Line c.first_line-k.result) (search rules) (search (rules, answers));
+}
 
 pub returns : goal.returns
 returns c = record {
   value = search (rules, answers);
-  small = tt }
+  small = tt;
+}

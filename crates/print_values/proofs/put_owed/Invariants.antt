@@ -17,13 +17,13 @@ abbrev pub invariant-loop-left : goal.invariant-loop-left
 invariant-loop-left l =
     (l.next + 1100 * l.left ≤ l.at + 1100 * l.owed) × (length l.out ≡ length l.initial.out)
     × (run (types_at l.file l.first l.n) l.s (owing l.left (item_of (text_of l.file l.base 64 l.lines) l.v ∷ []))
-        ≡ run (types_at l.file l.first l.n) l.initial.s (owing l.owed (item_of (text_of l.file l.base 64 l.lines) l.v ∷ [])))
+    ≡ run (types_at l.file l.first l.n) l.initial.s (owing l.owed (item_of (text_of l.file l.base 64 l.lines) l.v ∷ [])))
     × Owes l.initial.out l.at
-        (value_bytes (marked_from (types_at l.file l.first l.n) l.initial.s (owing l.owed (item_of (text_of l.file l.base 64 l.lines)
-            l.v ∷ []))))
-        l.out l.next
-        (value_bytes (marked_from (types_at l.file l.first l.n) l.s (owing l.left (item_of (text_of l.file l.base 64 l.lines)
-            l.v ∷ []))))
+    (value_bytes (marked_from (types_at l.file l.first l.n) l.initial.s (owing l.owed (item_of (text_of l.file l.base 64 l.lines)
+    l.v ∷ []))))
+    l.out l.next
+    (value_bytes (marked_from (types_at l.file l.first l.n) l.s (owing l.left (item_of (text_of l.file l.base 64 l.lines)
+    l.v ∷ []))))
 
 abbrev pub decreases-loop-left : goal.decreases-loop-left
 decreases-loop-left l = l.left

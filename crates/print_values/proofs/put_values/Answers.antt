@@ -54,10 +54,13 @@ pub loop-last-preserved-then-is_missing : goal.loop-last-preserved-then-is_missi
 loop-last-preserved-then-is_missing c =
     let inv = c.loop-last.invariant in
     let pre = c.requires.values_stand in
-    let sane = found_sane _ _ c.value_at-got.ensures.sane c.in-Found.is in
-    (sane.1, omega (arith, inv.1, sane.0), inv.2,
+    let sane = found_sane _ _ c.value_at-got.ensures.sane c.in-Found.is in (
+      sane.1,
+      omega (arith, inv.1, sane.0),
+      inv.2,
       found_default _ _ _ pre.stands _ _ pre.parameter pre.closing _ _ _ _ inv.3 (search rules) inv.0 c.value_at-got.ensures.value
-        c.in-Found.is c.is_missing.ensures c.if-is_missing.true)
+          c.in-Found.is c.is_missing.ensures c.if-is_missing.true,
+    )
 
 pub enum_known-g : goal.enum_known-g
 enum_known-g c = search rules
@@ -96,12 +99,12 @@ loop-last-preserved-then-runs_on c =
     let pre = c.requires.values_stand in
     let sane = found_sane _ _ c.value_at-got.ensures.sane c.in-Found.is in
     let put = given_runs _ _ _ _ _ _ _ c.if-owed-eq0.true c.in-Go.is c.runs_on.ensures c.if-runs_on.true c.with_left.ensures
-        c.is_reference-reference.ensures c.put_mostly_real-next.ensures.wrote c.put_mostly_real-next.ensures.upper_bound in (
+    c.is_reference-reference.ensures c.put_mostly_real-next.ensures.wrote c.put_mostly_real-next.ensures.upper_bound in (
       sane.1,
       omega (arith, inv.1, sane.0, c.put_mostly_real-next.ensures.upper_bound),
       search (rules, wrote_length),
       rw c.if-owed-eq0.true (found-given _ _ _ pre.stands _ _ pre.parameter pre.closing _ _ _ _ inv.3 (search rules) inv.0
-        c.value_at-got.ensures.value c.in-Found.is c.is_missing.ensures c.if-is_missing.false put.marks put.laid),
+          c.value_at-got.ensures.value c.in-Found.is c.is_missing.ensures c.if-is_missing.false put.marks put.laid),
     )
 
 pub enum_told-in-Bad : goal.enum_told-in-Bad
@@ -130,13 +133,16 @@ loop-last-preserved c =
     let pre = c.requires.values_stand in
     let sane = found_sane _ _ c.value_at-got.ensures.sane c.in-Found.is in
     let same : c.if-owed-eq0.g ≡ c.loop-last.g = elim c.if-owed-eq0.branch [
-      then-owed-eq0+in-Go+else-runs_on w ↦ w.g-is ∙ sym w.in-Go.is | then-owed-eq0+in-Bad w ↦ w.g-is | else-owed-eq0 w ↦ w.g-is ] in
+      | then-owed-eq0+in-Go+else-runs_on w ↦ w.g-is ∙ sym w.in-Go.is
+      | then-owed-eq0+in-Bad w ↦ w.g-is
+      | else-owed-eq0 w ↦ w.g-is
+    ] in
     let put = rw same at c.put_owed-z.ensures in (
       sane.1,
       omega (arith, inv.1, sane.0, c.put_owed-z.ensures.near),
       search (rules, wrote_length),
       found-given _ _ _ pre.stands _ _ pre.parameter pre.closing _ _ _ _ inv.3 (search rules) inv.0 c.value_at-got.ensures.value
-        c.in-Found.is c.is_missing.ensures c.if-is_missing.false put.marks put.laid,
+          c.in-Found.is c.is_missing.ensures c.if-is_missing.false put.marks put.laid,
     )
 
 pub shape_of-out : goal.shape_of-out

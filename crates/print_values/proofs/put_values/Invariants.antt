@@ -15,7 +15,7 @@ invariant-loop-last l =
     (l.q ≤ l.lines * 64) × (l.next + 1100 * l.owed ≤ l.at + 1100 * l.q) × (length l.out ≡ length l.initial.out)
     × Owing (types_at l.file l.first l.n) (text_of l.file l.base 64 l.lines) l.c l.d l.initial.out l.at
     (value_bytes (marked_from (types_at l.file l.first l.n) (marks_begun l.list l.typ l.form)
-        (carried_in (values_at 64 l.c l.d (text_of l.file l.base 64 l.lines) 0)))) l.out l.next l.g l.owed l.q l.last
+    (carried_in (values_at 64 l.c l.d (text_of l.file l.base 64 l.lines) 0)))) l.out l.next l.g l.owed l.q l.last
 
 abbrev pub decreases-loop-last : goal.decreases-loop-last
 decreases-loop-last l = l.lines * 64 - l.q

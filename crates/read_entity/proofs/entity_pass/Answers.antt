@@ -28,7 +28,8 @@ pub returns-then-last : goal.returns-then-last
 returns-then-last c = record {
   answer_value = search (rules, passes);
   length_value = search (rules, passes);
-  length_bound = search (rules, passes) }
+  length_bound = search (rules, passes);
+}
 
 pub walk-walked-requires : goal.walk-walked-requires
 walk-walked-requires c = search (rules, passes)
@@ -40,10 +41,12 @@ pub returns-in-Refused : goal.returns-in-Refused
 returns-in-Refused c = record {
   answer_value = search (rules, passes);
   length_value = search (rules, passes);
-  length_bound = search (rules, passes) }
+  length_bound = search (rules, passes);
+}
 
 pub returns-else-last : goal.returns-else-last
 returns-else-last c = record {
   answer_value = search (rules, passes);
   length_value = search (rules, passes);
-  length_bound = search (rules, passes) }
+  length_bound = search (rules, passes);
+}

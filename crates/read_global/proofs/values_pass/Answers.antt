@@ -31,7 +31,8 @@ done_pass-requires c = record {
   n_bound = search (rules, answering);
   end_bound = search (rules, answering);
   parameter_nonzero = search (rules, answering);
-  closing_nonzero = search (rules, answering) }
+  closing_nonzero = search (rules, answering);
+}
 
 pub returns-in-Wrong : goal.returns-in-Wrong
 returns-in-Wrong c = search (rules, answering)

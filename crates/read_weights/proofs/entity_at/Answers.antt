@@ -23,7 +23,8 @@ row_at-requires c = record {
   i_bound = search (rules, ones);
   k_value = search (rules, ones);
   le_pointer = search (rules, ones);
-  lines_bound = search (rules, ones) }
+  lines_bound = search (rules, ones);
+}
 
 pub returns-in-Wrong : goal.returns-in-Wrong
 returns-in-Wrong c = search (rules, ones)

@@ -12,7 +12,8 @@ record_answer-weighed-requires c = record {
   parameter_nonzero = search (rules, parts);
   closing_nonzero = search (rules, parts);
   le_pointer = search (rules, parts);
-  lines_bound = search (rules, parts) }
+  lines_bound = search (rules, parts);
+}
 
 pub overflow_add-head : goal.overflow_add-head
 overflow_add-head c = search (rules, parts)

@@ -26,7 +26,8 @@ kept_after-kept-requires c = search (rules, steps)
 pub returns-then-last : goal.returns-then-last
 returns-then-last c = record {
   value = search (rules, steps);
-  sane_check = (search (rules, steps), search (rules, steps), search (rules, steps), search (rules, steps)) }
+  sane_check = (search (rules, steps), search (rules, steps), search (rules, steps), search (rules, steps));
+}
 
 pub loop-fault-smaller : goal.loop-fault-smaller
 loop-fault-smaller c = search (rules, steps)

@@ -40,7 +40,8 @@ pub count_at-requires : goal.count_at-requires
 count_at-requires c = record {
   stands = search (rules, ends_laws);
   s_bound = search (rules, ends_laws);
-  within = search (rules, ends_laws) }
+  within = search (rules, ends_laws);
+}
 
 pub enum_known-h-in-Plain-1 : goal.enum_known-h-in-Plain-1
 enum_known-h-in-Plain-1 c = search (rules, ends_laws)

@@ -9,7 +9,7 @@ use Rattle.sheets_lay.proofs.put_numbers.Given as goal
 abbrev pub invariant-loop-left : goal.invariant-loop-left
 invariant-loop-left l =
     (l.k + l.left ≡ 13) × (length l.out ≡ length l.initial.out) × (l.next ≤ l.at + 29 * l.k)
-        × Owes l.initial.out l.at (spells 13 l.xs) l.out l.next (spells l.left (drop l.k l.xs))
+    × Owes l.initial.out l.at (spells 13 l.xs) l.out l.next (spells l.left (drop l.k l.xs))
 
 abbrev pub decreases-loop-left : goal.decreases-loop-left
 decreases-loop-left l = l.left

@@ -10,8 +10,8 @@ use Rattle.sheets_read.proofs.numbers.Given as goal
 abbrev pub invariant-loop-left : goal.invariant-loop-left
 invariant-loop-left l =
     (l.k + l.left ≡ 13) × (length l.xs ≡ 13) × (l.at ≤ l.i) × (l.i ≤ l.end)
-        × (numbers_of l.known l.left (take l.k l.xs) (columns l.s l.i l.end)
-            ≡ numbers_of l.known 13 [] (columns l.s l.at l.end))
+    × (numbers_of l.known l.left (take l.k l.xs) (columns l.s l.i l.end)
+    ≡ numbers_of l.known 13 [] (columns l.s l.at l.end))
 
 abbrev pub decreases-loop-left : goal.decreases-loop-left
 decreases-loop-left l = l.left

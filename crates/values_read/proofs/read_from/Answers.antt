@@ -45,7 +45,8 @@ finish_of-requires c =
     record {
       zeros_bound =
           omega (arith, c.scan_at-r.ensures.count_le_count.2.zeros, c.scan_at-r.ensures.count_le_count, c.before_of-w.ensures.count_in_bounds_2);
-      n_bound = omega (arith, c.scan_at-r.ensures.count_le_count, c.before_of-w.ensures.count_in_bounds_2) }
+      n_bound = omega (arith, c.scan_at-r.ensures.count_le_count, c.before_of-w.ensures.count_in_bounds_2);
+    }
 
 pub returns : goal.returns
 returns c = search (rules, numbered)

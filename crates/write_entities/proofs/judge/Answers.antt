@@ -1,8 +1,18 @@
 use borrow.Author.Rules.{rules}
 use Rattle.sheets.proofs.Valued.{value_long}
 use Rattle.write_lines.proofs.Lines.{line-given, skipped-on}
-use Rattle.write_entities.proofs.Judging.{judge_end, judge_piece, judge_other, judge_not, judge_on, told-judged, told-skipped, told-next,
-  told-within, judging}
+use Rattle.write_entities.proofs.Judging.{
+  judge_end,
+  judge_piece,
+  judge_other,
+  judge_not,
+  judge_on,
+  told-judged,
+  told-skipped,
+  told-next,
+  told-within,
+  judging,
+}
 use Rattle.write_entities.proofs.judge.Goals as goal
 
 pub loop-next-init : goal.loop-next-init
@@ -31,7 +41,7 @@ pub returns-then-not-is_value : goal.returns-then-not-is_value
 returns-then-not-is_value c = record {
   right_value = told-judged _ _ _ _ _ c.values_of-then-not-is_value.ensures _
       (judge_other _ _ _ _ _ _ _ c.loop-next.invariant.4 c.loop-next.invariant.2 c.end_of-end.result (search rules) (search rules) (search rules)
-        c.end_of-end.ensures.value c.if-end-size.false _ c.is_value.ensures c.if-not-is_value.true);
+      c.end_of-end.ensures.value c.if-end-size.false _ c.is_value.ensures c.if-not-is_value.true);
   skipped = search (rules, told-skipped);
   lines_bound = (search (rules, told-next), search (rules, told-within));
 }
@@ -70,9 +80,13 @@ pub loop-next-preserved : goal.loop-next-preserved
 loop-next-preserved c =
     let inv = c.loop-next.invariant in
     let line = line-given c.args.t.now c.loop-next.next c.end_of-end.result c.is_value.result c.is_value.ensures c.if-not-is_value.false
-        c.strict_at.result c.strict_at.ensures.value c.in-Is.value c.in-Is.is (search rules) (search rules) c.end_of-end.ensures.value in
-    (search rules, search rules, search rules, skipped-on _ _ _ _ _ inv.3 line,
-      judge_on _ _ _ _ _ line _ _ _ _ inv.4 _ _ c.right_too-right.ensures c.step_at-state.ensures)
+    c.strict_at.result c.strict_at.ensures.value c.in-Is.value c.in-Is.is (search rules) (search rules) c.end_of-end.ensures.value in (
+      search rules,
+      search rules,
+      search rules,
+      skipped-on _ _ _ _ _ inv.3 line,
+      judge_on _ _ _ _ _ line _ _ _ _ inv.4 _ _ c.right_too-right.ensures c.step_at-state.ensures,
+    )
 
 pub enum_told-1 : goal.enum_told-1
 enum_told-1 c = search (rules, judging)
@@ -84,7 +98,7 @@ pub returns-in-Not : goal.returns-in-Not
 returns-in-Not c = record {
   right_value = told-judged _ _ _ _ _ c.values_of-in-Not.ensures _
       (judge_not _ _ _ _ _ _ _ c.loop-next.invariant.4 c.loop-next.invariant.2 c.end_of-end.result (search rules) (search rules) (search rules)
-        c.end_of-end.ensures.value c.if-end-size.false _ c.is_value.ensures c.if-not-is_value.false _ c.strict_at.ensures.value c.in-Not.is);
+      c.end_of-end.ensures.value c.if-end-size.false _ c.is_value.ensures c.if-not-is_value.false _ c.strict_at.ensures.value c.in-Not.is);
   skipped = search (rules, told-skipped);
   lines_bound = (search (rules, told-next), search (rules, told-within));
 }

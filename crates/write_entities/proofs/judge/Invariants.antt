@@ -13,8 +13,8 @@ use Rattle.write_entities.proofs.judge.Given as goal
 abbrev pub invariant-loop-next : goal.invariant-loop-next
 invariant-loop-next l =
     (l.from + l.lines ≤ l.next) × (l.next ≤ l.size) × (l.size ≡ length l.t) × Skipped l.t l.from l.next l.lines
-        × (judged (sheet_types l.t) l.state l.right (values_first (lines_in (drop l.next l.t)))
-            ≡ judged (sheet_types l.t) l.initial.state true (values_first (lines_in (drop l.from l.t))))
+    × (judged (sheet_types l.t) l.state l.right (values_first (lines_in (drop l.next l.t)))
+    ≡ judged (sheet_types l.t) l.initial.state true (values_first (lines_in (drop l.from l.t))))
 
 abbrev pub decreases-loop-next : goal.decreases-loop-next
 decreases-loop-next l = l.size - l.next

@@ -10,7 +10,7 @@ use Rattle.file_canonical.proofs.starts.put_starts.Given as goal
 abbrev pub invariant-loop-k : goal.invariant-loop-k
 invariant-loop-k l =
     (l.at ≤ length l.t) × (l.next ≡ 81 * l.k) × (l.k + length (starts_first (lines_in (drop l.at l.t))) ≡ l.s)
-        × (behind_starts (lines_in (drop l.at l.t)) ≡ behind_starts (lines_in l.t))
+    × (behind_starts (lines_in (drop l.at l.t)) ≡ behind_starts (lines_in l.t))
     × Owes l.initial.out 0 (start_bytes 1 (starts_first (lines_in l.t))) l.out l.next (start_bytes (l.k + 1) (starts_first (lines_in (drop l.at l.t))))
 
 abbrev pub decreases-loop-k : goal.decreases-loop-k

@@ -9,7 +9,7 @@ use Rattle.print.proofs.characters.put_text.Given as goal
 abbrev pub invariant-loop-i : goal.invariant-loop-i
 invariant-loop-i l =
     (l.i ≤ l.count) × (l.next ≡ l.at + l.i) × (length l.out ≡ length l.initial.out)
-        × Wrote l.initial.out l.at (take l.i (drop l.start (text_of l.file l.base l.w l.lines))) l.out l.next
+    × Wrote l.initial.out l.at (take l.i (drop l.start (text_of l.file l.base l.w l.lines))) l.out l.next
 
 abbrev pub decreases-loop-i : goal.decreases-loop-i
 decreases-loop-i l = l.count - l.i

@@ -36,7 +36,8 @@ put_sheet-requires c = record {
   printable = search (rules, sheets, records-read);
   from_bound = search (rules, sheets, records-read);
   at_bound = search (rules, sheets, records-read);
-  rows_read = search (rules, sheets, records-read) }
+  rows_read = search (rules, sheets, records-read);
+}
 
 pub shape_of-out : goal.shape_of-out
 shape_of-out c = search (rules, sheets)

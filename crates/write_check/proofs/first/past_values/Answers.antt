@@ -70,7 +70,7 @@ loop-next-preserved c =
     let inv = c.loop-next.invariant in
     let step = c.value_step.ensures ∙ ap (value_step _) c.is_missing.ensures in
     let line = line-given c.args.t.now c.loop-next.next c.end_of-end.result c.is_value.result c.is_value.ensures c.if-not-is_value.false
-        c.strict_at.result c.strict_at.ensures.value c.in-Is.value c.in-Is.is (search rules) (search rules) c.end_of-end.ensures.value in (
+    c.strict_at.result c.strict_at.ensures.value c.in-Is.value c.in-Is.is (search rules) (search rules) c.end_of-end.ensures.value in (
       search rules,
       search rules,
       search rules,

@@ -81,8 +81,14 @@ with_values-tally-requires c = record { under = c.tally_said-more.ensures.under_
 
 pub loop-at-smaller : goal.loop-at-smaller
 loop-at-smaller c =
-    omega (arith, c.loop-at-test.true, c.end_of-end.ensures.lower_bound, c.past_values-past.ensures.from_le_next,
-      c.loop-at.invariant.2, c.loop-at.invariant.3)
+    omega (
+      arith,
+      c.loop-at-test.true,
+      c.end_of-end.ensures.lower_bound,
+      c.past_values-past.ensures.from_le_next,
+      c.loop-at.invariant.2,
+      c.loop-at.invariant.3,
+    )
 
 pub loop-at-preserved : goal.loop-at-preserved
 loop-at-preserved c =
@@ -104,16 +110,16 @@ loop-at-preserved c =
       omega (arith, past.from_le_next, lo, hi, c.keep-k.ensures.lower_bound, inv.4),
       wrote_length c.keep-k.ensures.wrote _ inv.5,
       ahead_go _ _ _ _ _ _ past.ahead _ (go_on _ t st at _ inv.6 inv.3 _ taken lo hi end.value c.step_line.result said.result more
-        said.ensures.value c.step_line.ensures _ c.in-On.is),
+          said.ensures.value c.step_line.ensures _ c.in-On.is),
       ahead-asked _ _ _ _ _ _ past.ahead global_rule row_rules c.rule_too-pass.result _
-        (next-asked st _ said.result c.step_line.result c.step_line.ensures c.in-On.is global_rule row_rules c.rule_too-pass.result _ _
+          (next-asked st _ said.result c.step_line.result c.step_line.ensures c.in-On.is global_rule row_rules c.rule_too-pass.result _ _
           (rules_said _ t at (st.line + 1) c.loop-at.pass inv.7 _ inv.3 _ taken lo hi end.value more said.result _ said.ensures.value
-            c.rule_too-pass.ensures)),
+          c.rule_too-pass.ensures)),
       ahead-laid _ _ _ _ _ _ past.ahead _ _ _ (fill_said t at _ inv.3 _ taken lo hi end.value _ _ _ inv.8 more said.result
-        said.ensures.value c.keep-k.ensures.wrote),
+          said.ensures.value c.keep-k.ensures.wrote),
       c.with_values-tally.ensures.under_2,
       ahead-counted _ _ c.tally_said-more.result _ _ _ past.ahead _ c.with_values-tally.ensures.value _
-        (count-on _ t c.loop-at.tally at _ inv.10 inv.3 _ taken lo hi end.value more said.result _ said.ensures.value
+          (count-on _ t c.loop-at.tally at _ inv.10 inv.3 _ taken lo hi end.value more said.result _ said.ensures.value
           c.tally_said-more.ensures.value),
     )
 

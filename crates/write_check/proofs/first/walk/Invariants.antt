@@ -14,7 +14,7 @@ use Rattle.write_check.proofs.first.walk.Given as goal
 abbrev pub invariant-loop-at : goal.invariant-loop-at
 invariant-loop-at l =
     (l.st.line ≤ l.at) × (l.st.entries ≤ l.st.line) × (l.at ≤ l.n) × (l.n ≡ length l.t) × (l.k ≤ l.at)
-        × (length l.classes ≡ length l.initial.classes)
+    × (length l.classes ≡ length l.initial.classes)
     × (go_lines l.st (lines_in (drop l.at l.t)) ≡ verdict_of l.t)
     × (or_else l.pass (lines_pass global_rule row_rules (l.st.line + 1) (lines_in (drop l.at l.t))) ≡ rules_pass l.t)
     × (laid l.classes l.k (classes_in (lines_in (drop l.at l.t))) ≡ laid l.initial.classes 0 (classes_in (lines_in l.t)))
