@@ -76,7 +76,10 @@ def defined(root):
 
 
 def snake(name):
-    return name if name[:1].isupper() else re.sub(r"([a-z0-9])([A-Z])", lambda m: m[1] + "_" + m[2].lower(), name)
+    if name[:1].isupper():
+        return name
+    name = re.sub("(?<=[a-z0-9])[A-Z](?=[A-Z][a-z])", lambda m: "_" + m[0].lower(), name)
+    return re.sub("([a-z0-9])([A-Z])", lambda m: m[1] + "_" + m[2].lower(), name)
 
 
 def word(name, defs):

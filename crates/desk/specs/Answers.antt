@@ -9,12 +9,13 @@ use Rattle.columns.specs.Format.{line_bytes, field_columns, most_list}
 use Rattle.columns.specs.Letters.{tab, newline, letter_x}
 use Rattle.cards.specs.Cards.{entry_line}
 use Rattle.directory.specs.Fields.{named, entry_of}
-use Rattle.directory.specs.Lines.{parameter_line, slots, slots_aLine, seek, label}
+use Rattle.directory.specs.Lines.{parameter_line, slots, slots_a_line, seek, label}
 use Rattle.layouts.specs.Known.{known}
 use Rattle.desk.specs.declared.Answer.{Answer}
 use Rattle.desk.specs.declared.Record.{Record}
 use Rattle.model.specs.Model.{type_of}
 use Rattle.model.specs.Read.{Before, Listed, before, read_model, reads}
+use Rattle.model.specs.Write.{writes}
 
 -- ---- read and write: 16 if the buffer is too short, after all other refusals
 
@@ -71,7 +72,7 @@ pub data Shown : Type 0 where
 
 -- where the label columns of the entry stand whose first D line is line k of the file
 abbrev pub label_byte : ℕ → ℕ
-label_byte k = line_bytes * (k + seek label slots / slots_aLine) + field_columns * (seek label slots % slots_aLine)
+label_byte k = line_bytes * (k + seek label slots / slots_a_line) + field_columns * (seek label slots % slots_a_line)
 
 -- the label from this byte on, or the stand-in if it is blank
 abbrev pub label_or : List ℕ → ℕ → Shown

@@ -20,7 +20,7 @@ use Rattle.columns.proofs.Tests.{cond_same, both_left, both_right}
 use Rattle.columns.proofs.Columns.{line-columns}
 use Rattle.columns.proofs.First.{get_d_up_from}
 use Rattle.directory.specs.Fields.{field_count}
-use Rattle.directory.specs.Lines.{Slot, number, label, slots, seek, slots_aLine, slot_in, unsigned, number_in, label_at}
+use Rattle.directory.specs.Lines.{Slot, number, label, slots, seek, slots_a_line, slot_in, unsigned, number_in, label_at}
 use Rattle.directory.specs.Reading.{slot_at, start_of}
 
 -- ---- the columns of each slot
@@ -31,14 +31,14 @@ in_at f k x = refl
 
 module _ (f : List ℕ) (k : ℕ) where
   -- of a slot on the first line, and on the second
-  pub first_slot : (j : ℕ) → j < slots_aLine → slot_at f k j ≡ columns (line_at f k) (field_columns * j) (field_columns * j + field_columns)
+  pub first_slot : (j : ℕ) → j < slots_a_line → slot_at f k j ≡ columns (line_at f k) (field_columns * j) (field_columns * j + field_columns)
   unfolding slot_at
   first_slot j h =
       let a : k + j / 9 ≡ k = omega arith in
       let b : j % 9 ≡ j = omega arith in
       rw (a, b)
 
-  pub second_slot : (j : ℕ) → j < slots_aLine → slot_at f k (slots_aLine + j) ≡ columns (line_at f (k + 1)) (field_columns * j) (field_columns * j + field_columns)
+  pub second_slot : (j : ℕ) → j < slots_a_line → slot_at f k (slots_a_line + j) ≡ columns (line_at f (k + 1)) (field_columns * j) (field_columns * j + field_columns)
   unfolding slot_at
   second_slot j h =
       let a : k + (9 + j) / 9 ≡ k + 1 = omega arith in

@@ -36,8 +36,8 @@ slots =
     ∷ reserved ∷ reserved ∷ label ∷ number subscript_at ∷ []
 
 -- nine fields fill the columns 1-72 of a line
-abbrev pub slots_aLine : ℕ
-slots_aLine = 9
+abbrev pub slots_a_line : ℕ
+slots_a_line = 9
 
 -- the same slot
 abbrev pub is_slot : Slot → Slot → Bool
@@ -67,8 +67,8 @@ seek x (y ∷ ys) = cond (is_slot x y) 0 (suc (seek x ys))
 unfoldable pub slot_in : List ℕ → ℕ → Slot → List ℕ
 slot_in f k x =
     let j = seek x slots in
-    let at = field_columns * (j % slots_aLine) in
-    columns (line_at f (k + j / slots_aLine)) at (at + field_columns)
+    let at = field_columns * (j % slots_a_line) in
+    columns (line_at f (k + j / slots_a_line)) at (at + field_columns)
 
 -- ---- reading
 
@@ -152,6 +152,6 @@ slot_of x from count name label = name
 -- the columns 1-72 of an entry's two D lines: its numbers, the pointer and line count of its parameters, its label
 unfoldable pub entry_lines : Fields → ℕ → ℕ → List ℕ → List (List ℕ)
 entry_lines x from count name =
-    joined (map (slot_of x from count name) (take slots_aLine slots))
-    ∷ joined (map (slot_of x from count name) (drop slots_aLine slots))
+    joined (map (slot_of x from count name) (take slots_a_line slots))
+    ∷ joined (map (slot_of x from count name) (drop slots_a_line slots))
     ∷ []

@@ -12,17 +12,17 @@ use Rattle.directory.specs.declared.EntryRead.{EntryRead}
 use Rattle.directory.specs.declared.EntryRead.TheVariants.{Spelt, Wrong}
 use Rattle.directory.specs.Fields.{in_order}
 use Rattle.directory.specs.Rules.{ranges_ok}
-use Rattle.directory.specs.Lines.{slots, slots_aLine, slot_of}
+use Rattle.directory.specs.Lines.{label, slots, slots_a_line, slot_of}
 
 -- ---- where a slot stands
 
 -- the columns of slot j of the entry whose first D line is line k
 unfoldable pub slot_at : List ℕ → ℕ → ℕ → List ℕ
-slot_at f k j = columns (line_at f (k + j / slots_aLine)) (field_columns * (j % slots_aLine)) (field_columns * (j % slots_aLine) + field_columns)
+slot_at f k j = columns (line_at f (k + j / slots_a_line)) (field_columns * (j % slots_a_line)) (field_columns * (j % slots_a_line) + field_columns)
 
 -- its first byte in the file
 abbrev pub start_of : ℕ → ℕ → ℕ
-start_of k j = line_bytes * (k + j / slots_aLine) + field_columns * (j % slots_aLine)
+start_of k j = line_bytes * (k + j / slots_a_line) + field_columns * (j % slots_a_line)
 
 -- ---- the lines as they are written
 
@@ -32,11 +32,11 @@ three x y z = padded field_columns (signed_dec x) ++ (padded field_columns (sign
 
 -- the two elements of entry_lines: neither line has what stands on the other
 unfoldable pub first_line : Fields → ℕ → List ℕ
-first_line x from = joined (map (slot_of x from 0 []) (take slots_aLine slots))
+first_line x from = joined (map (slot_of x from 0 []) (take slots_a_line slots))
 
 -- the columns of the second line
 unfoldable pub second_line : Fields → ℕ → List ℕ → List ℕ
-second_line x count name = joined (map (slot_of x 0 count name) (drop slots_aLine slots))
+second_line x count name = joined (map (slot_of x 0 count name) (drop slots_a_line slots))
 
 -- ---- how large
 
