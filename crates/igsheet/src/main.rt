@@ -8,9 +8,13 @@ use std::io::Read;
 const BUFFER: usize = 65536;
 
 fn main(rt: HostRuntime) -> io::Result<()> {
-    let mut file = Vec::new(rt.alloc());
-    rt.stdin().take(BUFFER as u64).read_to_end(&mut file)?;
+    let mut file = [0u8; BUFFER];
+    let read = io::copy(
+        &mut rt.stdin().take(BUFFER as u64),
+        &mut file.as_mut_slice(),
+    )?;
+    let n = (read as usize).min(BUFFER);
     let mut out = [0u8; BUFFER];
-    let n = desk_show::show(&file, &mut out);
-    rt.write_all(&out[..n])
+    let m = desk_show::show(&file[..n], &mut out);
+    rt.write_all(&out[..m])
 }

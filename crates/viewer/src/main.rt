@@ -13,7 +13,7 @@ use std::io;
 use std::io::Read;
 
 // So much of standard input is looked at: of a longer file a part that no file is.
-const MOST_INPUT: u64 = 65536;
+const MOST_INPUT: usize = 65536;
 
 // The slots that are lent, and how many names are asked for.
 const SLOTS: usize = 4;
@@ -113,14 +113,18 @@ fn print_name<'f, 's: 'f>(
 }
 
 fn main(rt: HostRuntime) -> io::Result<()> {
-    let mut file = Vec::new(rt.alloc());
-    rt.stdin().take(MOST_INPUT).read_to_end(&mut file)?;
+    let mut buffer = [0u8; MOST_INPUT];
+    let read = io::copy(
+        &mut rt.stdin().take(MOST_INPUT as u64),
+        &mut buffer.as_mut_slice(),
+    )?;
+    let file = &buffer[..(read as usize).min(MOST_INPUT)];
     let empty = unused();
-    for slot in listed(MOST_LIST, &file, [empty; SLOTS]) {
+    for slot in listed(MOST_LIST, file, [empty; SLOTS]) {
         print_slot(&rt, slot)?;
     }
     for number in 0..NAMES {
-        print_name(&rt, &file, b"no name", DirectoryNumber(number))?;
+        print_name(&rt, file, b"no name", DirectoryNumber(number))?;
     }
     Ok(())
 }
