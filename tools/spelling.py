@@ -39,9 +39,25 @@ ALIASES = {
     "sheetOutcome": "sheet_outcome",
     "meaningOf": "meaning_of",
     "kindType": "kind_type",
+    "sheets-textOf": "sheets-text_of",
+    "sheets-startLines": "sheets-start_lines",
+    "sheets-linesOf": "sheets-lines_of",
+    "sheets-lineOf": "sheets-line_of",
+    "sheets-globalLines": "sheets-global_lines",
+    "records-inRange": "records-in_range",
+    "owners-inRange": "owners-in_range",
+    "model-sheetOf": "model-sheet_of",
+    "directory-entryOf": "directory-entry_of",
+    "columns-textOf": "columns-text_of",
+    "cards-linesOf": "cards-lines_of",
+    "sheets-sheetOf": "sheets-sheet_of",
+    "sheets-entryOf": "sheets-entry_of",
+    "model-startLines": "model-start_lines",
+    "model-globalLines": "model-global_lines",
+    "cards-lineOf": "cards-line_of",
 }
 # `first_of` is a tactic, `goes_on` a constructor beside the definition that had a capital; the library has lemmas of the two names with a dash
-BY_HAND = {"and-false": "and-false", "or-false": "or-false", "first_of": "first_among", "first-of": "first_among_lem", "goes_on": "going_on"}
+BY_HAND = {"and-false": "and-false", "or-false": "or-false", "first_of": "first_among", "first-of": "first_among_lem", "goes_on": "going_on", "last-given": "last_is_given"}
 
 
 def texts(root, *kinds):

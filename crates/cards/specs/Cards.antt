@@ -1,6 +1,7 @@
 -- "Lines" of the paper: bytes and LF, section letters and their order, sequence numbers, the T line; the refusals 1 to 5 in their order.
 -- What has gone before a line is told by the counts alone: the section reached is the last with a line in it, and a line's number follows.
-use Rattle.std.specs.Prelude.{ℕ, zero, suc, ◌+◌, ◌-◌, ◌*◌, ◌/◌, ◌%◌, Bool, cond, ◌&&◌, List, [], ◌∷◌, length, get_or, leb, ltb, eqb}
+use Rattle.std.specs.Prelude.{ℕ, zero, suc, ◌+◌, ◌-◌, ◌*◌, ◌/◌, ◌%◌, Bool, cond, ◌&&◌, List, [], ◌∷◌}
+use Rattle.std.specs.Prelude.{length, get_or, leb, ltb, eqb}
 use Rattle.columns.specs.declared.Fault.TheVariants.{ListOrLength, Byte, Section, Sequence, Terminate}
 use Rattle.columns.specs.Refusal.{Outcome, accepted, refused}
 use Rattle.columns.specs.Columns.{columns, printable, blank, line_at}

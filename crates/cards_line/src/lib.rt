@@ -14,6 +14,7 @@ use columns::format::{LINE_BYTES, LINE_COLUMNS, TEXT_COLUMNS};
 const NUMBER: usize = TEXT_COLUMNS + 1;
 
 // Whether the line from `at` on has 80 bytes from 32 to 126, then LF.
+#[tactic(auto, using(cards::proofs::Laws::lines))]
 fn line_ok(file: &[u8], at: usize) -> bool
     requires { at + line_bytes ≤ length file.now }
     ensures { result ≡ line_ok (columns file.now at (at + line_bytes)) }

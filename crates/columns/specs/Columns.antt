@@ -1,5 +1,6 @@
 -- Columns of a line, and the lines of a file: 81 bytes each, 80 columns and LF.
-use Rattle.std.specs.Prelude.{ℕ, zero, suc, ◌+◌, ◌-◌, ◌*◌, Bool, true, false, ◌&&◌, List, [], ◌∷◌, ◌++◌, take, drop, leb, eqb}
+use Rattle.std.specs.Prelude.{ℕ, zero, suc, ◌+◌, ◌-◌, ◌*◌, Bool, true, false, ◌&&◌, List, [], ◌∷◌, ◌++◌, take}
+use Rattle.std.specs.Prelude.{drop, leb, eqb}
 use Rattle.columns.specs.Format.{line_bytes}
 use Rattle.columns.specs.Letters.{space}
 

@@ -1,5 +1,6 @@
 -- A number in plain decimal; text to the right of its columns.
-use Rattle.std.specs.Prelude.{ℕ, zero, suc, ◌+◌, ◌-◌, ◌/◌, ◌%◌, Bool, true, false, cond, List, [], ◌∷◌, ◌++◌, length, replicate, ltb}
+use Rattle.std.specs.Prelude.{ℕ, zero, suc, ◌+◌, ◌-◌, ◌/◌, ◌%◌, Bool, true, false, cond, List, [], ◌∷◌, ◌++◌}
+use Rattle.std.specs.Prelude.{length, replicate, ltb}
 use Rattle.columns.specs.declared.Signed.{Signed}
 use Rattle.columns.specs.Letters.{space, minus_sign, digit0}
 

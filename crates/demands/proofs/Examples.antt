@@ -99,7 +99,7 @@ module _ (list : ℕ) (types : List ℕ) where
     label = blanks_label;
     references_fit = refl;
     values = h;
-    last_given_lem = t;
+    last_is_given = t;
     layout = λ k. absurd (false≢true (sym (no_list list) ∙ k));
   }
 

@@ -51,7 +51,7 @@ module _ (list : ℕ) (f : List ℕ) (c : Counts) (g : GlobalRead) (types : List
         label = k.0.label;
         references_fit = k.1.0;
         values = rest_held 64 g.parameter g.record_end (parameters_of f c e) k.1.1 0 a.read (first_is (type_of e.fields) a.items a.first);
-        last_given_lem = trim_idle (drop 1 a.items);
+        last_is_given = trim_idle (drop 1 a.items);
         layout = accepts_keeps types (entity_of e.fields (trimmed (drop 1 a.items))) list p tt a.layout;
       })
 

@@ -74,7 +74,7 @@ module _ (list : ℕ) (types : List ℕ) where
         label = s.label;
         references_fit = f;
         values = each_made value_in (λ w h. h) s.values;
-        last_given_lem = given_ends r.values c;
+        last_is_given = given_ends r.values c;
         layout = l.layout;
       }) (rows_fit ss cs us fs ls)
 

@@ -38,7 +38,7 @@ each_value (w ∷ ws) (one p ps) = one p (each_value ws ps)
 module _ (list : ℕ) (types : List ℕ) where
   rows-closed : {es : List Carried} → Each (EntryFits list types) es → Closed (map (row_of list) es)
   rows-closed none = no_rows
-  rows-closed (one {x = e} f fs) = a-row (ends_given (row_of list e).values (rw (row_values list e) f.last_given_lem)) (rows-closed fs)
+  rows-closed (one {x = e} f fs) = a-row (ends_given (row_of list e).values (rw (row_values list e) f.last_is_given)) (rows-closed fs)
 
   row-spelt : (e : Carried) → EntryFits list types e → RowSpelt (row_of list e)
   unfolding row_of

@@ -34,7 +34,8 @@ BlockDetermined =
     → (z.lines ≡ z'.lines) × (lines_behind a.1.1.0.now z ≡ lines_behind a.1.1.0.now z') × (left ≡ left')
 
 -- arguments as a contract asks for, and two results as it promises
-pub record SecondFits {n : ℕ} (ps : List (ParamKind n)) (r : ResultKind n) (Pre : In n ps) (Post : Out n ps r) (κs : Lfts n) : Type 0 where
+pub record SecondFits {n : ℕ} (ps : List (ParamKind n)) (r : ResultKind n) (Pre : In n ps) (Post : Out n ps r)
+    (κs : Lfts n) : Type 0 where
   pub passed : Dens κs ps
   pub asked : Pre κs passed
   pub left : Lasts (ended_of n ps r) κs passed

@@ -40,7 +40,7 @@ record_read list types e h r = round 64 (omega arith) (fines (values_held list t
 -- what is made of its values
 values_taken : (list : ℕ) (types : List ℕ) (e : Carried) → EntryFits list types e → (from place end : ℕ)
     → by_parameters list types place (listed from e) (values (values_of e) end) ≡ accepted e
-values_taken list types e h from place end = rw (eq-eqb (type_of e.fields) (type_of e.fields) refl, h.last_given_lem, keeps_accepts types (entity_of e.fields e.values) list place h.layout)
+values_taken list types e h from place end = rw (eq-eqb (type_of e.fields) (type_of e.fields) refl, h.last_is_given, keeps_accepts types (entity_of e.fields e.values) list place h.layout)
 
 -- ---- in the file
 

@@ -1,5 +1,6 @@
 -- What the entry points answer, and what they leave in what was lent to them.
-use Rattle.std.specs.Prelude.{cond, ◌&&◌, List, [], ◌∷◌, ◌++◌, ℕ, ◌+◌, ◌*◌, ◌/◌, ◌%◌, length, take, drop, leb, ltb, eqb}
+use Rattle.std.specs.Prelude.{cond, ◌&&◌, List, [], ◌∷◌, ◌++◌, ℕ, ◌+◌, ◌*◌, ◌/◌, ◌%◌, length, take, drop}
+use Rattle.std.specs.Prelude.{leb, ltb, eqb}
 use Rattle.columns.specs.declared.Fault.TheVariants.{ListOrLength, Room}
 use Rattle.columns.specs.Refusal.{Outcome, accepted, refused, demand, number, ◌then◌}
 use Rattle.columns.specs.Columns.{blank}

@@ -1,5 +1,6 @@
 -- The three demands as statements over the definitions.
-use Rattle.std.specs.Prelude.{◌≡◌, Bool, true, false, List, [], ◌∷◌, map, ◌⊎◌, ℕ, ◌+◌, ◌*◌, ◌≤◌, ◌<◌, length, take, drop}
+use Rattle.std.specs.Prelude.{◌≡◌, Bool, true, false, List, [], ◌∷◌, map, ◌⊎◌, ℕ, ◌+◌, ◌*◌, ◌≤◌}
+use Rattle.std.specs.Prelude.{◌<◌, length, take, drop}
 use Rattle.columns.specs.declared.Fault.{Fault}
 use Rattle.columns.specs.declared.Fault.TheVariants.{TooLong}
 use Rattle.columns.specs.Refusal.{Outcome, accepted, refused, each_at}
@@ -23,7 +24,8 @@ use Rattle.desk.specs.Answers.{answer_of, left_in, slots_left}
 
 -- of an output buffer
 abbrev pub RefusalKeepsBuffer : Type 0
-RefusalKeepsBuffer = (o : Outcome (List ℕ)) (out : List ℕ) → ((answer_of (length out) o).number ≡ 0 → ⊥) → left_in out o ≡ out
+RefusalKeepsBuffer =
+    (o : Outcome (List ℕ)) (out : List ℕ) → ((answer_of (length out) o).number ≡ 0 → ⊥) → left_in out o ≡ out
 
 -- of a lent table
 abbrev pub RefusalKeepsTable : Type 0

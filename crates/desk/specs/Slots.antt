@@ -25,7 +25,8 @@ unfoldable pub entry_fields : List Line → List LineFields
 entry_fields [] = []
 entry_fields (start t ∷ ls) = entry_fields ls
 entry_fields (global n v ∷ ls) = entry_fields ls
-entry_fields (entry known n x label ∷ ls) = record { known = known; number = n.size; entry = entry_of x; label = label } ∷ entry_fields ls
+entry_fields (entry known n x label ∷ ls) =
+    record { known = known; number = n.size; entry = entry_of x; label = label } ∷ entry_fields ls
 entry_fields (value reference v ∷ ls) = entry_fields ls
 entry_fields (last n ∷ ls) = entry_fields ls
 entry_fields (none b ∷ ls) = entry_fields ls

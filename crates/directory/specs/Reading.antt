@@ -1,6 +1,7 @@
 -- The code's form: what the code goes by besides its answers: where a slot stands, the two lines one by one, how large what was read can
 -- be, and what can be read back.
-use Rattle.std.specs.Prelude.{◌≡◌, true, false, List, [], ◌∷◌, ◌++◌, map, ℕ, ◌+◌, ◌*◌, ◌/◌, ◌%◌, ◌≤◌, ◌<◌, length, take, drop}
+use Rattle.std.specs.Prelude.{◌≡◌, true, false, List, [], ◌∷◌, ◌++◌, map, ℕ, ◌+◌, ◌*◌, ◌/◌, ◌%◌}
+use Rattle.std.specs.Prelude.{◌≤◌, ◌<◌, length, take, drop}
 use Rattle.columns.specs.declared.Signed.{Signed}
 use Rattle.columns.specs.declared.ParameterLine.{ParameterLine}
 use Rattle.columns.specs.Columns.{columns, line_at, joined}
@@ -18,7 +19,9 @@ use Rattle.directory.specs.Lines.{label, slots, slots_a_line, slot_of}
 
 -- the columns of slot j of the entry whose first D line is line k
 unfoldable pub slot_at : List ℕ → ℕ → ℕ → List ℕ
-slot_at f k j = columns (line_at f (k + j / slots_a_line)) (field_columns * (j % slots_a_line)) (field_columns * (j % slots_a_line) + field_columns)
+slot_at f k j =
+    columns (line_at f (k + j / slots_a_line)) (field_columns * (j % slots_a_line))
+    (field_columns * (j % slots_a_line) + field_columns)
 
 -- its first byte in the file
 abbrev pub start_of : ℕ → ℕ → ℕ

@@ -1,5 +1,6 @@
 -- What rules 9, 13 and 10 ask of an entry, in a file and in a sheet.
-use Rattle.std.specs.Prelude.{Bool, true, cond, not, ◌&&◌, ◌||◌, List, [], ◌∷◌, ◌++◌, ℕ, ◌/◌, ◌%◌, length, leb, eqb}
+use Rattle.std.specs.Prelude.{Bool, true, cond, not, ◌&&◌, ◌||◌, List, [], ◌∷◌, ◌++◌, ℕ, ◌/◌, ◌%◌, length}
+use Rattle.std.specs.Prelude.{leb, eqb}
 use Rattle.columns.specs.declared.Fault.TheVariants.{Directory, Macro, Reference}
 use Rattle.columns.specs.declared.Signed.{Signed}
 use Rattle.columns.specs.declared.DirectoryNumber.{DirectoryNumber}

@@ -1,5 +1,6 @@
 -- The code's form: values with their delimiters before the record ends, the ends of lines, and what the line at a place says.
-use Rattle.std.specs.Prelude.{◌≡◌, false, List, [], ◌∷◌, ◌++◌, ℕ, zero, suc, ◌+◌, ◌-◌, ◌≤◌, ◌<◌, length, take, drop}
+use Rattle.std.specs.Prelude.{◌≡◌, false, List, [], ◌∷◌, ◌++◌, ℕ, zero, suc, ◌+◌, ◌-◌, ◌≤◌, ◌<◌}
+use Rattle.std.specs.Prelude.{length, take, drop}
 use Rattle.columns.specs.Decimal.{dec, padded}
 use Rattle.columns.specs.Laid.{laid}
 use Rattle.columns.specs.Format.{line_bytes, number_columns}

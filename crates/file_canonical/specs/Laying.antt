@@ -1,6 +1,7 @@
 -- The code's form: how the canonical file is laid: what a sheet's lines give from a place on, the bytes of each section, and D and P lines
 -- turn by turn.
-use Rattle.std.specs.Prelude.{◌≡◌, true, List, [], ◌∷◌, ◌++◌, map, ℕ, suc, ◌+◌, ◌-◌, ◌*◌, ◌^◌, ◌≤◌, ◌<◌, length, take, drop}
+use Rattle.std.specs.Prelude.{◌≡◌, true, List, [], ◌∷◌, ◌++◌, map, ℕ, suc, ◌+◌, ◌-◌, ◌*◌, ◌^◌}
+use Rattle.std.specs.Prelude.{◌≤◌, ◌<◌, length, take, drop}
 use Rattle.columns.specs.Columns.{joined}
 use Rattle.columns.specs.Decimal.{to_left}
 use Rattle.columns.specs.Laid.{laid, Wrote}

@@ -1,6 +1,7 @@
 -- The layouts as document 01 has them: the places of a row one by one, as many as its own counts say, what each asks of the value that
 -- stands there, and nothing but defaults behind. No step, no order.
-use Rattle.std.specs.Prelude.{◌≡◌, Bool, true, false, not, ◌&&◌, ◌||◌, List, [], ◌∷◌, ◌++◌, map, ℕ, ◌+◌, ◌*◌, eqb, get_or, drop, replicate}
+use Rattle.std.specs.Prelude.{◌≡◌, Bool, true, false, not, ◌&&◌, ◌||◌, List, [], ◌∷◌, ◌++◌, map, ℕ, ◌+◌}
+use Rattle.std.specs.Prelude.{◌*◌, eqb, get_or, drop, replicate}
 use Rattle.columns.specs.Format.{most_integer}
 use Rattle.layouts.specs.declared.Kind.{Kind}
 use Rattle.layouts.specs.declared.Kind.TheVariants.{R, Given, Weight, S, I, Flag, Count, Outer}

@@ -12,6 +12,7 @@ use columns::format::MOST_LIST;
 pub const ROWS: usize = 14;
 
 // The bit for a type and form; as many as there are bits where there is none.
+#[tactic(auto, using(crate::proofs::Forms::forms))]
 pub fn bit_of(typ: u32, form: u32) -> usize
     ensures { result ≡ bit_of typ form }
 {

@@ -77,6 +77,7 @@ fn settle_of(s: LayoutState) -> LayoutState
 }
 
 // Past a place that took a value.
+#[tactic(auto, using(layouts::proofs::Moves::moves))]
 fn onward_of(s: LayoutState) -> LayoutState
     requires { s.at < 900 }
     ensures { result ≡ onward s }

@@ -34,7 +34,7 @@ pub record EntryFits (list : ℕ) (types : List ℕ) (e : Carried) : Type 0 wher
   pub references_fit : all_fit types (references (entry_of e.fields)) ≡ true
   -- its values can be spelt, the last of them is given, and a known entity keeps to its layout
   pub values : Each Held e.values
-  pub last_given_lem : trimmed e.values ≡ e.values
+  pub last_is_given : trimmed e.values ≡ e.values
   pub layout : known list (type_of e.fields) e.fields.form.size ≡ true → Keeps types (entity_of e.fields e.values)
 
 -- a model under a list

@@ -1,5 +1,7 @@
 -- Reading a file: its refusals in the paper's order, its model, its sheet.
-use Rattle.std.specs.Prelude.{Bool, true, false, cond, not, ◌&&◌, List, [], ◌∷◌, map, ℕ, suc, ◌+◌, ◌-◌, ◌*◌, ◌/◌, length, get_or, drop, leb, eqb}
+use Rattle.std.specs.Prelude.{Bool, true, false, cond, not, ◌&&◌, List, [], ◌∷◌, map, ℕ, suc, ◌+◌, ◌-◌, ◌*◌}
+use Rattle.std.specs.Prelude.{◌/◌, length, get_or}
+use Rattle.std.specs.Prelude.{drop, leb, eqb}
 use Rattle.columns.specs.declared.Fault.TheVariants.{ListOrLength, Spelling, Global, Directory, FirstValue}
 use Rattle.columns.specs.Refusal.{Outcome, accepted, refused, demand, each_at, ◌then◌}
 use Rattle.columns.specs.First.{first_not, up_from}

@@ -51,7 +51,8 @@ pub record GivenStands (f : List ℕ) (base lines first n owed : ℕ) (v : Value
 pub record GivenPut (f : List ℕ) (base lines first n : ℕ) (g : Stepped) (owed : ℕ) (v : Value) (o : List ℕ) (at : ℕ)
     (o' : List ℕ) (r : Behind) : Type 0 where
   pub laid :
-      Wrote o at (value_bytes (marked_from (types_at f first n) g (owing owed (item_of (text_of f base parameter_columns lines) v ∷ [])))) o'
+      Wrote o at
+      (value_bytes (marked_from (types_at f first n) g (owing owed (item_of (text_of f base parameter_columns lines) v ∷ [])))) o'
       r.next
   pub marks : r.marks ≡ run (types_at f first n) g (owing owed (item_of (text_of f base parameter_columns lines) v ∷ []))
   pub near : r.next ≤ at + 1100 * owed + 1100

@@ -67,7 +67,8 @@ pub fn met_at(file: &[u8], base: usize, lines: usize, c: u8, d: u8, q: usize) ->
     requires d_nonzero { 0 < d }
     requires unrefused { Unrefused (values_at parameter_columns c d (text_of file.now base parameter_columns lines) q) }
     ensures value { result ≡ met_of (value_at parameter_columns c d (text_of file.now base parameter_columns lines) q) }
-    ensures q_lt_next { (q < result.next) × (result.next ≤ lines * parameter_columns) × Writable (lines * parameter_columns) result.value }
+    ensures q_lt_next { (q < result.next) × (result.next ≤ lines * parameter_columns)
+        × Writable (lines * parameter_columns) result.value }
 {
     let g = value_at(file, base, PARAMETER_COLUMNS, lines, c, d, q);
     met_of(g)

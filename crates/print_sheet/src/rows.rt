@@ -1,5 +1,6 @@
 // The lines of the entries: for each the entry line and its values, then the Z line.
-ghost use Rattle.std.specs.Prelude.{false, ◌≡◌, [], ◌∷◌, ◌++◌, ◌+◌, ◌-◌, ◌*◌, ◌^◌, ◌≤◌, ◌<◌, length};
+ghost use Rattle.std.specs.Prelude.{false, ◌≡◌, [], ◌∷◌, ◌++◌, ◌+◌, ◌-◌, ◌*◌, ◌^◌, ◌≤◌, ◌<◌};
+ghost use Rattle.std.specs.Prelude.{length};
 ghost use Rattle.columns.specs.Columns.{text_of};
 ghost use Rattle.columns.specs.Laid.{Wrote};
 ghost use Rattle.columns.specs.Format.{line_bytes, parameter_columns};

@@ -1,7 +1,8 @@
 // The S lines: the text of columns 1 to 72 without trailing blanks.
 #![tactic(auto)]
 
-ghost use Rattle.std.specs.Prelude.{◌≡◌, [], ◌∷◌, ◌++◌, map, ◌+◌, ◌*◌, ◌^◌, ◌≤◌, ◌<◌, length, take, drop};
+ghost use Rattle.std.specs.Prelude.{◌≡◌, [], ◌∷◌, ◌++◌, map, ◌+◌, ◌*◌, ◌^◌, ◌≤◌, ◌<◌, length, take};
+ghost use Rattle.std.specs.Prelude.{drop};
 ghost use Rattle.columns.specs.First.{up_from};
 ghost use Rattle.columns.specs.Trim.{trim_end};
 ghost use Rattle.columns.specs.Laid.{Wrote};

@@ -45,7 +45,8 @@ owed_after owed v = cond (is_missing v) (owed + 1) 0
 
 -- the rest of the walk, so many defaults owed and so many bytes measured
 abbrev pub walked_from : List ℕ → Stepped → ℕ → ℕ → Values → EntityWalked
-walked_from types g owed size (values vs end) = Done (run types g (owing owed (trimmed vs))) (size + carried_length (owing owed (trimmed vs)))
+walked_from types g owed size (values vs end) =
+    Done (run types g (owing owed (trimmed vs))) (size + carried_length (owing owed (trimmed vs)))
 walked_from types g owed size (wrong fault start at) = Wrong fault
 
 -- no more bytes than m

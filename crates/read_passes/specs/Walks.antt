@@ -55,7 +55,8 @@ got_value (GotRefused n s at) = Default
 
 -- whether value k of Global's text, read from a position on, may stand in its field
 unfoldable pub value_fits : ℕ → ℕ → List ℕ → ℕ → ℕ → Bool
-value_fits p d t from k = global_fits (first_field + k) (seen (got_item t (value_at text_columns p d t (position_of text_columns p d t from k))))
+value_fits p d t from k =
+    global_fits (first_field + k) (seen (got_item t (value_at text_columns p d t (position_of text_columns p d t from k))))
 
 -- rule 8 of the first n values
 unfoldable pub fields_fit : Counts → ℕ → ℕ → List ℕ → ℕ → ℕ → Outcome (Unit {0})

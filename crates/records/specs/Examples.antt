@@ -98,6 +98,6 @@ pub record Examples : Type 0 where
 
 -- all of them
 pub examples : Examples
-unfolding values_at values_from value_at next_at head_of number_of power_at power may_delimit opened record_delimiter opening_of kind_of in_range
-    global_fits in_lines line_count cut to_left flow piece gap firm spelled dec last_digits
+unfolding values_at values_from value_at next_at head_of number_of power_at power may_delimit opened record_delimiter opening_of
+    kind_of in_range global_fits in_lines line_count cut to_left flow piece gap firm spelled dec last_digits
 examples = record { read = refl; opened = refl; fit = refl; written = refl; kept = refl }

@@ -1,5 +1,7 @@
 -- How a record is written: its values in lines of w columns, as a text of which position p stands on line p / w.
-use Rattle.std.specs.Prelude.{Bool, true, false, cond, List, [], ◌∷◌, ◌++◌, ℕ, zero, suc, ◌+◌, ◌-◌, ◌/◌, ◌%◌, length, replicate, take, drop, leb}
+use Rattle.std.specs.Prelude.{Bool, true, false, cond, List, [], ◌∷◌, ◌++◌, ℕ, zero, suc, ◌+◌, ◌-◌, ◌/◌, ◌%◌}
+use Rattle.std.specs.Prelude.{length, replicate}
+use Rattle.std.specs.Prelude.{take, drop, leb}
 use Rattle.columns.specs.Decimal.{to_left}
 use Rattle.columns.specs.Letters.{space, comma, semicolon}
 use Rattle.values.specs.Value.{Item, default, whole, real, text, head, spelled, Fine, Printed}

@@ -1,6 +1,7 @@
 -- The code's form: what the code knows besides: where a record stands in its file, the bounds of what is read, and a record's check as the
 -- code counts it.
-use Rattle.std.specs.Prelude.{◌≡◌, Bool, not, ◌&&◌, List, [], ◌∷◌, ℕ, ◌+◌, ◌*◌, ◌^◌, ◌≤◌, ◌<◌, length, leb}
+use Rattle.std.specs.Prelude.{◌≡◌, Bool, not, ◌&&◌, List, [], ◌∷◌, ℕ, ◌+◌, ◌*◌, ◌^◌, ◌≤◌, ◌<◌}
+use Rattle.std.specs.Prelude.{length, leb}
 use Rattle.columns.specs.Format.{line_columns, line_bytes, most_bytes, most_integer}
 use Rattle.columns.specs.Letters.{space}
 use Rattle.values.specs.declared.Value.{Value}

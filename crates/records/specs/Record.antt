@@ -1,6 +1,7 @@
 -- The values of a record. Its text t is columns 1 to w of its lines, joined: position p stands on line p / w, so what "stands on one line"
 -- is read in the rest of the line of its first character. c parts the values, d ends the record.
-use Rattle.std.specs.Prelude.{true, false, cond, List, [], ◌∷◌, ℕ, zero, suc, ◌+◌, ◌-◌, ◌%◌, length, get_or, take, drop, leb, eqb}
+use Rattle.std.specs.Prelude.{true, false, cond, List, [], ◌∷◌, ℕ, zero, suc, ◌+◌, ◌-◌, ◌%◌, length, get_or, take}
+use Rattle.std.specs.Prelude.{drop, leb, eqb}
 use Rattle.columns.specs.declared.Fault.{Fault}
 use Rattle.columns.specs.declared.Fault.TheVariants.{Spelling, Limit}
 use Rattle.columns.specs.Trim.{trim_onto, trim_end}

@@ -15,7 +15,8 @@ use Rattle.sheets.specs.declared.SheetVerdict.TheVariants.{Good, Wrong}
 use Rattle.sheets.specs.Plain.{sized, is_plain, is_signed, signed_number, all_digits, is_status, status_number}
 use Rattle.sheets.specs.Line.{run, is_label, is_entry_number, entry_number, numbers_of, entry_of, label_of, spell, spells, entry_line}
 use Rattle.sheets.specs.Sheet.{row, Sheet, start_lines, global_lines, value_lines, row_lines, lines_of, line_of, text_of, sheet_text}
-use Rattle.sheets.specs.Sheet.{is_mark, is_start, start_line, is_field_number, is_numbered, global_line, last_line, by_mark, says_of, said_by}
+use Rattle.sheets.specs.Sheet.{is_mark, is_start, start_line, is_field_number, is_numbered, global_line, last_line, by_mark}
+use Rattle.sheets.specs.Sheet.{says_of, said_by}
 use Rattle.sheets.specs.Sheet.{into, pieces_of, last_piece, said_by_all, lines_in, parts_of, sheet_of}
 use Rattle.sheets.specs.Order.{sheet_line, closed, start_step, global_step, entry_step, value_step, last_step, none_step, finish, go_lines}
 use Rattle.sheets.specs.Order.{verdict_of, read_sheet}
@@ -91,10 +92,10 @@ table =
     ∷ []
 
 pub examples : map (λ (e : String × SheetVerdict). verdict_of (bytes e.0)) table ≡ map (λ (e : String × SheetVerdict). e.1) table
-unfolding printable same_bytes last_digits dec power power_at number_of head_of spelled strict_of is_plain is_signed signed_number all_digits is_status
-    status_number run is_label is_entry_number entry_number numbers_of entry_of label_of is_mark is_start start_line is_field_number is_numbered
-    global_line last_line by_mark says_of said_by into pieces_of last_piece said_by_all lines_in closed start_step global_step entry_step value_step
-    last_step none_step finish go_lines verdict_of
+unfolding printable same_bytes last_digits dec power power_at number_of head_of spelled strict_of is_plain is_signed signed_number
+    all_digits is_status status_number run is_label is_entry_number entry_number numbers_of entry_of label_of is_mark is_start
+    start_line is_field_number is_numbered global_line last_line by_mark says_of said_by into pieces_of last_piece said_by_all
+    lines_in closed start_step global_step entry_step value_step last_step none_step finish go_lines verdict_of
 examples = refl
 
 -- the chair's sheet: one entry of type 116
@@ -110,13 +111,14 @@ chair = record {
 }
 
 pub chair-text : sheet_text chair ≡ bytes chair_text
-unfolding chair last_digits dec signed_dec to_right spelled spell spells entry_line start_lines global_lines value_lines row_lines lines_of line_of
-    text_of sheet_text
+unfolding chair last_digits dec signed_dec to_right spelled spell spells entry_line start_lines global_lines value_lines row_lines
+    lines_of line_of text_of sheet_text
 chair-text = refl
 
 pub chair-read : read_sheet (bytes chair_text) ≡ accepted chair
-unfolding chair printable same_bytes last_digits dec power power_at number_of head_of spelled strict_of is_plain is_signed signed_number all_digits
-    is_status status_number run is_label is_entry_number entry_number numbers_of entry_of label_of is_mark is_start start_line is_field_number is_numbered
-    global_line last_line by_mark says_of said_by into pieces_of last_piece said_by_all lines_in parts_of sheet_of closed start_step global_step entry_step
-    value_step last_step none_step finish go_lines verdict_of read_sheet
+unfolding chair printable same_bytes last_digits dec power power_at number_of head_of spelled strict_of is_plain is_signed
+    signed_number all_digits is_status status_number run is_label is_entry_number entry_number numbers_of entry_of label_of
+    is_mark is_start start_line is_field_number is_numbered global_line last_line by_mark says_of said_by into pieces_of
+    last_piece said_by_all lines_in parts_of sheet_of closed start_step global_step entry_step value_step last_step none_step
+    finish go_lines verdict_of read_sheet
 chair-read = refl

@@ -65,6 +65,7 @@ pub fn size_at(s: &[u8], n: u64, at: usize, end: usize) -> u64
 }
 
 // Minus n; minus nought is misspelt.
+#[tactic(auto, using(sheets::proofs::Plains::numbers))]
 fn minus_of(n: u64) -> Signed
     requires { n ≤ unread }
     ensures { result ≡ minus_of n }

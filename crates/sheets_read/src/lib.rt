@@ -7,7 +7,8 @@ ghost use Rattle.columns.specs.Letters.{newline};
 ghost use Rattle.values.specs.Strict.{strict_of};
 ghost use Rattle.values.specs.Writing.{Placed};
 ghost use Rattle.sheets.specs.Line.{run, entry_from, numbers_of, number_count, entry_of};
-ghost use Rattle.sheets.specs.Sheet.{is_mark, is_value, is_start, start_line, global_of, global_line, entry_line_of, value_of, last_line, says_of};
+ghost use Rattle.sheets.specs.Sheet.{is_mark, is_value, is_start, start_line, global_of, global_line, entry_line_of, value_of};
+ghost use Rattle.sheets.specs.Sheet.{last_line, says_of};
 ghost use Rattle.sheets.specs.Reading.{Within};
 
 use columns::format::{FIELD_COLUMNS, MOST_INTEGER, MOST_INTEGER_WIDE, TEXT_COLUMNS};

@@ -1,6 +1,8 @@
 -- The code's form: how the code reads a spelling back: straight from the text, by what stands behind its sign and its digits. Positions
 -- count from the start of the text l.
-use Rattle.std.specs.Prelude.{Bool, true, false, cond, not, ◌&&◌, ◌||◌, List, [], ◌∷◌, ℕ, ◌+◌, ◌-◌, ◌*◌, ◌%◌, ◌^◌, length, get_or, drop, ltb, leb, eqb}
+use Rattle.std.specs.Prelude.{Bool, true, false, cond, not, ◌&&◌, ◌||◌, List, [], ◌∷◌, ℕ, ◌+◌, ◌-◌, ◌*◌}
+use Rattle.std.specs.Prelude.{◌%◌, ◌^◌, length, get_or}
+use Rattle.std.specs.Prelude.{drop, ltb, leb, eqb}
 use Rattle.columns.specs.Columns.{printable}
 use Rattle.columns.specs.Decimal.{minus}
 use Rattle.columns.specs.Format.{most_integer}

@@ -1,6 +1,8 @@
 -- A number of free format: an integer or a real, told by its spelling alone. A text is the list t of its characters; `get_or t i 0` is the
 -- character at i, and 0 past the end.
-use Rattle.std.specs.Prelude.{Bool, true, false, cond, ◌&&◌, ◌||◌, List, [], ◌∷◌, ◌++◌, ℕ, zero, suc, ◌+◌, ◌-◌, ◌*◌, ◌/◌, ◌%◌, ◌^◌, min, length, get_or, drop, ltb, leb, eqb}
+use Rattle.std.specs.Prelude.{Bool, true, false, cond, ◌&&◌, ◌||◌, List, [], ◌∷◌, ◌++◌, ℕ, zero, suc, ◌+◌}
+use Rattle.std.specs.Prelude.{◌-◌, ◌*◌, ◌/◌, ◌%◌}
+use Rattle.std.specs.Prelude.{◌^◌, min, length, get_or, drop, ltb, leb, eqb}
 use Rattle.columns.specs.Format.{most_integer}
 use Rattle.columns.specs.Letters.{plus_sign, minus_sign, point, digit0, digit9, letter_d, letter_e, letter_h}
 use Rattle.values.specs.declared.Number.{Number}
@@ -93,4 +95,5 @@ number_of t =
     let p = point_len (get_or t (a + length before) 0) in
     let behind = digits (drop (a + length before + p) t) in
     let end = a + (length before + length behind) + p in
-    finish (power_at t end) (eqb (get_or t 0 0) minus_sign) (value 0 (before ++ behind)) (length before + length behind) (length behind) p end
+    finish (power_at t end) (eqb (get_or t 0 0) minus_sign) (value 0 (before ++ behind))
+    (length before + length behind) (length behind) p end

@@ -2,7 +2,8 @@
 // Crate `values_digits` reads digits, `values_limits` makes the number of them.
 #![tactic(auto)]
 
-ghost use Rattle.std.specs.Prelude.{◌≡◌, true, false, ◌&&◌, ◌+◌, ◌-◌, ◌^◌, ◌≤◌, ◌<◌, length, drop, leb, eqb};
+ghost use Rattle.std.specs.Prelude.{◌≡◌, true, false, ◌&&◌, ◌+◌, ◌-◌, ◌^◌, ◌≤◌, ◌<◌, length, drop, leb};
+ghost use Rattle.std.specs.Prelude.{eqb};
 ghost use Rattle.columns.specs.Letters.{letter_h};
 ghost use Rattle.values.specs.Number.{sign_len, point_len, power_of, power, power_at, number_of};
 ghost use Rattle.values.specs.Reading.{start, scan, cap_run, Small, Within};

@@ -7,7 +7,8 @@ ghost use Rattle.columns.specs.Letters.{letter_d, letter_e};
 ghost use Rattle.values.specs.declared.Strict.TheVariants.{Is};
 ghost use Rattle.values.specs.Strict.{strict_of, meant};
 ghost use Rattle.values.specs.Writing.{front, Placed};
-ghost use Rattle.values.specs.Direct.{decimal, is_whole, is_nought, is_normal, as_whole, as_real, behind_letter, behind_point, behind_count};
+ghost use Rattle.values.specs.Direct.{decimal, is_whole, is_nought, is_normal, as_whole, as_real, behind_letter, behind_point};
+ghost use Rattle.values.specs.Direct.{behind_count};
 
 use columns::format::MOST_INTEGER_WIDE;
 use columns::{byte_u64, look};

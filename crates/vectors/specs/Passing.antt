@@ -1,5 +1,6 @@
 -- The code's form: what it means that a vector passes. It is tried in a buffer that was filled, so that a byte that was changed is seen.
-use Rattle.std.specs.Prelude.{Bool, true, cond, ◌&&◌, List, [], ◌∷◌, ◌++◌, ℕ, ◌-◌, length, take, drop, replicate, leb, eqb}
+use Rattle.std.specs.Prelude.{Bool, true, cond, ◌&&◌, List, [], ◌∷◌, ◌++◌, ℕ, ◌-◌, length, take, drop, replicate, leb}
+use Rattle.std.specs.Prelude.{eqb}
 use Rattle.columns.specs.declared.Fault.TheVariants.{Room}
 use Rattle.columns.specs.Columns.{same_bytes}
 use Rattle.columns.specs.Refusal.{Outcome, number}

@@ -1,5 +1,6 @@
 -- The code's form: what a line shows of the entry with a directory number, where it was found by a guess.
-use Rattle.std.specs.Prelude.{◌≡◌, Bool, true, cond, ◌&&◌, ◌||◌, List, ℕ, ◌+◌, ◌-◌, ◌≤◌, length, get_or, leb, eqb}
+use Rattle.std.specs.Prelude.{◌≡◌, Bool, true, cond, ◌&&◌, ◌||◌, List, ℕ, ◌+◌, ◌-◌, ◌≤◌, length, get_or}
+use Rattle.std.specs.Prelude.{leb, eqb}
 use Rattle.columns.specs.Columns.{columns}
 use Rattle.columns.specs.Format.{most_integer}
 use Rattle.columns.specs.Letters.{tab, newline, letter_e, letter_u}

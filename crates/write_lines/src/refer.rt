@@ -19,6 +19,7 @@ use sheets_read::end_of;
 const REFERENCES: usize = 7;
 
 // Whether what is asked, if it is, names such an entry.
+#[tactic(auto, using(crate::proofs::Referring::asks))]
 fn asks_ok(classes: &[u8], n: usize, t: &[u8], w: Wanted) -> bool
     requires { Tabled classes.now n t.now }
     ensures { result ≡ asks_ok (sheet_types t.now) w }

@@ -1,7 +1,7 @@
 -- Each arm is a row of the type list, in its order; 402 and 406 look at the form too, and any other type has no row.
 use Rattle.std.proofs.Common.{refl}
 use Rattle.layouts.specs.Layout.{paper, bit_of}
-use Rattle.layouts.proofs.Tables.{bit_is, bit_form, no_402, no_406, bit-none}
+use Rattle.layouts.proofs.Tables.{bit_is, bit-none}
 use Rattle.layouts_lists.proofs.bit_of.Goals as goal
 
 pub returns-in-100 : goal.returns-in-100
@@ -47,22 +47,6 @@ returns-in-308 c = bit_is _ _ c.args.form _ c.in-308.is refl
 pub returns-in-314 : goal.returns-in-314
 unfolding bit_of paper
 returns-in-314 c = bit_is _ _ c.args.form _ c.in-314.is refl
-
-pub returns-then-form-eq7 : goal.returns-then-form-eq7
-unfolding bit_of paper
-returns-then-form-eq7 c = bit_form _ _ _ _ _ c.in-402.is c.if-form-eq7.true refl
-
-pub returns-else-form-eq7 : goal.returns-else-form-eq7
-unfolding bit_of paper
-returns-else-form-eq7 c = no_402 _ _ c.in-402.is c.if-form-eq7.false
-
-pub returns-then-form-eq15 : goal.returns-then-form-eq15
-unfolding bit_of paper
-returns-then-form-eq15 c = bit_form _ _ _ _ _ c.in-406.is c.if-form-eq15.true refl
-
-pub returns-else-form-eq15 : goal.returns-else-form-eq15
-unfolding bit_of paper
-returns-else-form-eq15 c = no_406 _ _ c.in-406.is c.if-form-eq15.false
 
 pub returns-in-408 : goal.returns-in-408
 unfolding bit_of paper
