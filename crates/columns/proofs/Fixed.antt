@@ -1,18 +1,19 @@
--- One column of a fixed number field, at an index of the text.
-use mathlib.Core.Path.{◌≡◌, sym, ap, ◌∙◌}
+-- One column of a fixed number field: a digit of the columns, or a blank at an index of the text.
+use mathlib.Core.Path.{◌≡◌, refl, sym, ap, ◌∙◌}
 use mathlib.Core.Bool.{Bool, true, false}
-use Prim.Native.Nat.{ℕ, suc, ◌+◌, ◌-◌, ◌*◌, ◌^◌, ◌≤◌, ◌<◌}
-use native.Mathlib.Nat.{sub_self, pow-le-pow_right}
+use Prim.Native.Nat.{ℕ, ◌+◌, ◌-◌, ◌*◌, ◌^◌, ◌≤◌, ◌<◌}
+use native.Mathlib.Nat.{pow-le-pow_right}
+use native.Mathlib.Numerals.{add-one}
 use native.Mathlib.Omega.{arith}
 use native.Mathlib.Decide.{dec_lt}
 use mathlib.Core.List.{List, ◌∷◌}
-use lib.ListN.{length, get_or}
+use lib.ListN.{length, get_or, take, drop}
+use lib.Seq.{drop-cons}
 use lib.Dec.{eqb}
 use borrow.Author.Tests.{le-leb, lt-leb, eq-eqb, ne_eqb}
-use Rattle.columns.specs.declared.Field.{Field}
-use Rattle.columns.specs.declared.Field.TheVariants.{Number, Bad}
-use Rattle.columns.specs.declared.SignedField.{SignedField}
-use Rattle.columns.specs.declared.SignedField.TheVariants.{Number as SignedNumber, Bad as SignedBad}
+use Rattle.std.specs.Prelude.{Option, Some, None}
+use Rattle.std.proofs.lemmas.List.{length-take, drop_all}
+use Rattle.columns.specs.declared.Signed.{Signed}
 use Rattle.columns.specs.Columns.{columns}
 use Rattle.columns.specs.Fixed.{digits_of, field_of, is_number, with_sign, behind_sign, signed_of}
 use Rattle.columns.specs.Reading.{Below, Behind}
@@ -24,11 +25,11 @@ pub digits_more : (n b : ℕ) (bs : List ℕ) → 48 ≤ b → b ≤ 57 → digi
 unfolding digits_of
 digits_more n b bs lo hi = simp (digits_of, le-leb _ _ lo, le-leb _ _ hi)
 
-pub digits_low : (n b : ℕ) (bs : List ℕ) → b < 48 → digits_of n (b ∷ bs) ≡ Bad
+pub digits_low : (n b : ℕ) (bs : List ℕ) → b < 48 → digits_of n (b ∷ bs) ≡ None
 unfolding digits_of
 digits_low n b bs h = simp (digits_of, lt-leb _ _ h)
 
-pub digits_high : (n b : ℕ) (bs : List ℕ) → 57 < b → digits_of n (b ∷ bs) ≡ Bad
+pub digits_high : (n b : ℕ) (bs : List ℕ) → 57 < b → digits_of n (b ∷ bs) ≡ None
 unfolding digits_of
 digits_high n b bs h = simp (digits_of, le-leb 48 b (omega arith), lt-leb _ _ h)
 
@@ -56,48 +57,59 @@ pub signed-other : (b : ℕ) (bs : List ℕ) → (b ≡ 32 → ⊥) → (b ≡ 4
 unfolding signed_of
 signed-other b bs h k l = simp (signed_of, ne_eqb _ _ h, ne_eqb _ _ k, ne_eqb _ _ l)
 
--- ---- the same at an index of the text: where what is left has the answer f, what a turn of a loop does keeps that
+-- ---- the same at digit i of xs: where what is left has the answer f, what a turn of a loop does keeps that
 
-module _ (f : Field) (s : List ℕ) (i end : ℕ) where
-  pub low_at : (n : ℕ) → digits_of n (columns s i end) ≡ f → i < end → end ≤ length s → get_or s i 0 < 48 → Bad ≡ f
-  low_at n inv lt le h = sym (digits_low _ _ _ h) ∙ (rw (column s i end lt le) at inv)
+module _ (f : Option ℕ) (xs : List ℕ) (n i : ℕ) (inv : digits_of n (drop i xs) ≡ f) where
+  module _ (lt : i < length xs) where
+    ahead : digits_of n (get_or xs i 0 ∷ drop (i + 1) xs) ≡ f
+    ahead = rw (drop-cons xs i 0 lt, ← add-one) at inv
 
-  pub high_at : (n : ℕ) → digits_of n (columns s i end) ≡ f → i < end → end ≤ length s → 57 < get_or s i 0 → Bad ≡ f
-  high_at n inv lt le h = sym (digits_high _ _ _ h) ∙ (rw (column s i end lt le) at inv)
+    pub low_at : get_or xs i 0 < 48 → None ≡ f
+    low_at h = sym (digits_low _ _ _ h) ∙ ahead
 
-  pub digit_at : (n d : ℕ) → digits_of n (columns s i end) ≡ f → i < end → end ≤ length s → 48 ≤ get_or s i 0 → get_or s i 0 ≤ 57 → d ≡ get_or s i 0 - 48
-      → digits_of (n * 10 + d) (columns s (i + 1) end) ≡ f
-  digit_at n d inv lt le lo hi e = rw e (sym (digits_more _ _ _ lo hi) ∙ (rw (column s i end lt le) at inv))
+    pub high_at : 57 < get_or xs i 0 → None ≡ f
+    high_at h = sym (digits_high _ _ _ h) ∙ ahead
 
-  pub digits-end : (n : ℕ) → digits_of n (columns s i end) ≡ f → end ≤ i → Number n ≡ f
+    pub digit_at : (d : ℕ) → 48 ≤ get_or xs i 0 → get_or xs i 0 ≤ 57 → d ≡ get_or xs i 0 - 48 → digits_of (n * 10 + d) (drop (i + 1) xs) ≡ f
+    digit_at d lo hi e = rw e (sym (digits_more _ _ _ lo hi) ∙ ahead)
+
+  pub digits-end : length xs ≤ i → Some n ≡ f
   unfolding digits_of
-  digits-end n inv ge = rw (columns-end s i end ge) at inv
+  digits-end ge = rw (drop_all i xs ge) at inv
 
+-- they are columns of a text
+pub digits_here : (s : List ℕ) (at end : ℕ) → digits_of 0 (take (end - at) (drop at s)) ≡ digits_of 0 (columns s at end)
+unfolding columns
+digits_here s at end = refl
+
+-- ---- the same at an index of the text
+
+module _ (f : Option ℕ) (s : List ℕ) (i end : ℕ) where
   pub blank-at : field_of (columns s i end) ≡ f → i < end → end ≤ length s → get_or s i 0 ≡ 32 → field_of (columns s (i + 1) end) ≡ f
   blank-at inv lt le h = sym (field-blank _ _ h) ∙ (rw (column s i end lt le) at inv)
 
-  pub other_at : (r : Field) → r ≡ digits_of 0 (columns s i end) → field_of (columns s i end) ≡ f → i < end → end ≤ length s → (get_or s i 0 ≡ 32 → ⊥) → r ≡ f
+  pub other_at : (r : Option ℕ) → r ≡ digits_of 0 (columns s i end) → field_of (columns s i end) ≡ f → i < end → end ≤ length s → (get_or s i 0 ≡ 32 → ⊥) → r ≡ f
   other_at r e inv lt le h = e ∙ (rw (column s i end lt le) (sym (field-other _ _ h))) ∙ inv
 
-  pub field_end : field_of (columns s i end) ≡ f → end ≤ i → Number 0 ≡ f
+  pub field_end : field_of (columns s i end) ≡ f → end ≤ i → Some 0 ≡ f
   unfolding field_of
   field_end inv ge = rw (columns-end s i end ge) at inv
 
-module _ (f : SignedField) (s : List ℕ) (i end : ℕ) (inv : signed_of (columns s i end) ≡ f) where
+module _ (f : Option Signed) (s : List ℕ) (i end : ℕ) (inv : signed_of (columns s i end) ≡ f) where
   module _ (lt : i < end) (le : end ≤ length s) where
     pub signed_blank_at : get_or s i 0 ≡ 32 → signed_of (columns s (i + 1) end) ≡ f
     signed_blank_at h = sym (signed-blank _ _ h) ∙ (rw (column s i end lt le) at inv)
 
-    pub minus-at : (r : SignedField) → r ≡ behind_sign true (columns s (i + 1) end) → get_or s i 0 ≡ 45 → r ≡ f
+    pub minus-at : (r : Option Signed) → r ≡ behind_sign true (columns s (i + 1) end) → get_or s i 0 ≡ 45 → r ≡ f
     minus-at r e h = e ∙ sym (signed-minus _ _ h) ∙ (rw (column s i end lt le) at inv)
 
-    pub plus_at : (r : SignedField) → r ≡ behind_sign false (columns s (i + 1) end) → get_or s i 0 ≡ 43 → r ≡ f
+    pub plus_at : (r : Option Signed) → r ≡ behind_sign false (columns s (i + 1) end) → get_or s i 0 ≡ 43 → r ≡ f
     plus_at r e h = e ∙ sym (signed_plus _ _ h) ∙ (rw (column s i end lt le) at inv)
 
-    pub plain_at_lem : (x : Field) (r : SignedField) → x ≡ digits_of 0 (columns s i end) → r ≡ with_sign false x → (get_or s i 0 ≡ 32 → ⊥) → (get_or s i 0 ≡ 45 → ⊥) → (get_or s i 0 ≡ 43 → ⊥) → r ≡ f
+    pub plain_at_lem : (x : Option ℕ) (r : Option Signed) → x ≡ digits_of 0 (columns s i end) → r ≡ with_sign false x → (get_or s i 0 ≡ 32 → ⊥) → (get_or s i 0 ≡ 45 → ⊥) → (get_or s i 0 ≡ 43 → ⊥) → r ≡ f
     plain_at_lem x r e q h k l = q ∙ ap (with_sign false) (e ∙ ap (digits_of 0) (column s i end lt le)) ∙ sym (signed-other _ _ h k l) ∙ (rw (column s i end lt le) at inv)
 
-  pub signed-end : end ≤ i → SignedNumber (record { neg = false; size = 0 }) ≡ f
+  pub signed-end : end ≤ i → Some (record { neg = false; size = 0 }) ≡ f
   unfolding signed_of
   signed-end ge = rw (columns-end s i end ge) at inv
 
@@ -119,82 +131,78 @@ module _ (s : List ℕ) (at i end : ℕ) (low : at ≤ i) (field : field_of (col
       }
 
 module _ (s : List ℕ) (at end i : ℕ) (b : Behind s at end i) (le : end ≤ length s) where
-  pub behind-field : (r : Field) → r ≡ digits_of 0 (columns s i end) → r ≡ field_of (columns s at end)
+  pub behind-field : (r : Option ℕ) → r ≡ digits_of 0 (columns s i end) → r ≡ field_of (columns s at end)
   unfolding digits_of
   behind-field r e = elim (dec_lt i end) [
     | yes lt ↦ other_at (field_of (columns s at end)) s i end r e b.field lt le (b.next lt)
     | no ge ↦ (e ∙ rw (columns-end s i end (omega arith))) ∙ field_end (field_of (columns s at end)) s i end b.field (omega arith)
   ]
 
-  pub behind-plain : (x : Field) (r : SignedField) → x ≡ digits_of 0 (columns s i end) → r ≡ with_sign false x → i < end → (get_or s i 0 ≡ 45 → ⊥) → (get_or s i 0 ≡ 43 → ⊥) → r ≡ signed_of (columns s at end)
+  pub behind-plain : (x : Option ℕ) (r : Option Signed) → x ≡ digits_of 0 (columns s i end) → r ≡ with_sign false x → i < end → (get_or s i 0 ≡ 45 → ⊥) → (get_or s i 0 ≡ 43 → ⊥) → r ≡ signed_of (columns s at end)
   behind-plain x r e q lt k l = plain_at_lem (signed_of (columns s at end)) s i end b.signed lt le x r e q (b.next lt) k l
 
 -- ---- behind a sign
 
-pub sign_bad : (neg : Bool) (f : Field) → f ≡ Bad → SignedBad ≡ with_sign neg f
+pub sign_bad : (neg : Bool) (f : Option ℕ) → f ≡ None → None ≡ with_sign neg f
 sign_bad neg f e = rw e
 
-pub sign_nought : (neg : Bool) (f : Field) (n : ℕ) → f ≡ Number n → n ≡ 0 → SignedNumber (record { neg = false; size = n }) ≡ with_sign neg f
+pub sign_nought : (neg : Bool) (f : Option ℕ) (n : ℕ) → f ≡ Some n → n ≡ 0 → Some (record { neg = false; size = n }) ≡ with_sign neg f
 sign_nought neg f n e h = rw (e, eq-eqb _ _ h)
 
-pub sign_some : (neg : Bool) (f : Field) (n : ℕ) → f ≡ Number n → (n ≡ 0 → ⊥) → SignedNumber (record { neg = neg; size = n }) ≡ with_sign neg f
+pub sign_some : (neg : Bool) (f : Option ℕ) (n : ℕ) → f ≡ Some n → (n ≡ 0 → ⊥) → Some (record { neg = neg; size = n }) ≡ with_sign neg f
 sign_some neg f n e h = rw (e, ne_eqb _ _ h)
 
-pub behind-none : (neg : Bool) (s : List ℕ) (at end : ℕ) → end ≤ at → SignedBad ≡ behind_sign neg (columns s at end)
+pub behind-none : (neg : Bool) (s : List ℕ) (at end : ℕ) → end ≤ at → None ≡ behind_sign neg (columns s at end)
 behind-none neg s at end h = rw (columns-end s at end h)
 
-pub behind_some : (neg : Bool) (s : List ℕ) (at end : ℕ) (x : Field) (r : SignedField) → x ≡ digits_of 0 (columns s at end) → r ≡ with_sign neg x → at < end → end ≤ length s
+pub behind_some : (neg : Bool) (s : List ℕ) (at end : ℕ) (x : Option ℕ) (r : Option Signed) → x ≡ digits_of 0 (columns s at end) → r ≡ with_sign neg x → at < end → end ≤ length s
     → r ≡ behind_sign neg (columns s at end)
 behind_some neg s at end x r e q lt le = rw (column s at end lt le) (q ∙ ap (with_sign neg) (e ∙ ap (digits_of 0) (column s at end lt le)))
 
 -- ---- the field holds n
 
-pub holds_bad : (f : Field) (n : ℕ) → f ≡ Bad → false ≡ is_number f n
+pub holds_bad : (f : Option ℕ) (n : ℕ) → f ≡ None → false ≡ is_number f n
 unfolding is_number
 holds_bad f n e = rw e
 
-pub holds-number : (f : Field) (m n : ℕ) → f ≡ Number m → eqb m n ≡ is_number f n
+pub holds-number : (f : Option ℕ) (m n : ℕ) → f ≡ Some m → eqb m n ≡ is_number f n
 unfolding is_number
 holds-number f m n e = rw e
 
-pub holds-field : (f g : Field) (n : ℕ) (r : Bool) → f ≡ g → r ≡ is_number f n → r ≡ is_number g n
+pub holds-field : (f g : Option ℕ) (n : ℕ) (r : Bool) → f ≡ g → r ≡ is_number f n → r ≡ is_number g n
 holds-field f g n r e h = rw (← e) h
 
--- ---- a number of as many digits as columns have passed
+-- ---- a number of as many digits as have passed
 
-pub no_digits : (at : ℕ) → 0 < 10 ^ (at - at)
-no_digits at = rw sub_self (omega arith)
+module _ (n i : ℕ) (h : n < 10 ^ i) where
+  pub more-digits : (d b : ℕ) → b ≤ 57 → d ≡ b - 48 → n * 10 + d < 10 ^ (i + 1)
+  more-digits d b l m = rw add-one (omega arith)
 
-module _ (n i at : ℕ) (h : n < 10 ^ (i - at)) where
-  pub more-digits : (d b : ℕ) → at ≤ i → b ≤ 57 → d ≡ b - 48 → n * 10 + d < 10 ^ (i + 1 - at)
-  more-digits d b k l m =
-      let e : i + 1 - at ≡ suc (i - at) = omega arith in
-      rw e (omega arith)
+  module _ (s : List ℕ) (at end : ℕ) (l : end ≤ at + 8) where
+    few_digits : i < length (take (end - at) s) → n < 10000000
+    few_digits k =
+        let e : i ≤ 7 = omega (arith, length-take (end - at) s) in
+        let t : 0 < 10 = omega arith in
+        omega (arith, pow-le-pow_right t e)
 
-  few_digits : (end : ℕ) → i < end → end ≤ at + 8 → n < 10000000
-  few_digits end k l =
-      let e : i - at ≤ 7 = omega arith in
-      let t : 0 < 10 = omega arith in
-      omega (arith, pow-le-pow_right t e)
+    pub ten_fits : i < length (take (end - at) s) → n * 10 < 2 ^ 32
+    ten_fits k = omega (arith, few_digits k)
 
-  pub ten_fits : (end : ℕ) → i < end → end ≤ at + 8 → n * 10 < 2 ^ 32
-  ten_fits end k l = omega (arith, few_digits end k l)
+    pub digit_fits : (d b : ℕ) → i < length (take (end - at) s) → b ≤ 57 → d ≡ b - 48 → n * 10 + d < 2 ^ 32
+    digit_fits d b k m e = omega (arith, few_digits k)
 
-  pub digit_fits : (end d b : ℕ) → i < end → end ≤ at + 8 → b ≤ 57 → d ≡ b - 48 → n * 10 + d < 2 ^ 32
-  digit_fits end d b k l m e = omega (arith, few_digits end k l)
-
-  pub below-digits : (end : ℕ) → i ≤ end → end ≤ at + 8 → n < 100000000
-  below-digits end k l =
-      let e : i - at ≤ 8 = omega arith in
-      let t : 0 < 10 = omega arith in
-      omega (arith, pow-le-pow_right t e)
+    pub below-digits : i ≤ length (take (end - at) s) → n < 100000000
+    below-digits k =
+        let e : i ≤ 8 = omega (arith, length-take (end - at) s) in
+        let t : 0 < 10 = omega arith in
+        omega (arith, pow-le-pow_right t e)
 
 -- ---- how large: what callers of the readers cite
 
-pub below-number : (f : Field) (m n : ℕ) → Below m f → f ≡ Number n → n < m
+pub below-number : (f : Option ℕ) (m n : ℕ) → Below m f → f ≡ Some n → n < m
 below-number f m n h e = rw e at h
 
-pub ruleset reads = (low_at, high_at, digit_at, digits-end, behind-field, no_digits, more-digits, ten_fits, digit_fits, below-digits)
+pub ruleset reads = (low_at, high_at, digit_at, digits-end, digits_here, behind-field, more-digits, ten_fits, digit_fits, below-digits)
 
 pub ruleset blanks = (blank-at, signed_blank_at, behind-here, behind_all)
 

@@ -1,23 +1,21 @@
 -- The code's form: what callers of the code lean on besides its answers: how large a number that was read can be, and where a number
 -- starts.
 use Rattle.std.specs.Prelude.{◌≡◌, List, ℕ, ◌≤◌, ◌<◌, get_or}
-use Rattle.columns.specs.declared.Field.{Field}
-use Rattle.columns.specs.declared.Field.TheVariants.{Number, Bad}
-use Rattle.columns.specs.declared.SignedField.{SignedField}
-use Rattle.columns.specs.declared.SignedField.TheVariants.{Number as SignedNumber, Bad as SignedBad}
+use Rattle.std.specs.Prelude.{Option, Some, None}
+use Rattle.columns.specs.declared.Signed.{Signed}
 use Rattle.columns.specs.Columns.{columns}
 use Rattle.columns.specs.Fixed.{field_of, signed_of}
 use Rattle.columns.specs.Letters.{space}
 
 -- a number, if it is one, below m
-abbrev pub Below : ℕ → Field → Type 0
-Below m (Number n) = n < m
-Below m Bad = Unit {0}
+abbrev pub Below : ℕ → Option ℕ → Type 0
+Below m (Some n) = n < m
+Below m None = Unit {0}
 
 -- the same of its size
-abbrev pub SizeBelow : ℕ → SignedField → Type 0
-SizeBelow m (SignedNumber x) = x.size < m
-SizeBelow m SignedBad = Unit {0}
+abbrev pub SizeBelow : ℕ → Option Signed → Type 0
+SizeBelow m (Some x) = x.size < m
+SizeBelow m None = Unit {0}
 
 -- r is behind the blanks: from there on the columns say what all say, and they go on with no blank
 pub record Behind (s : List ℕ) (at end r : ℕ) : Type 0 where

@@ -44,25 +44,11 @@ pub struct FileLine(pub usize);
 #[derive(Clone, Copy)]
 pub struct SheetLine(pub usize);
 
-// A fixed number field without a sign.
-#[derive(Clone, Copy)]
-pub enum Field {
-    Number(u32),
-    Bad,
-}
-
 // A number with its sign: a sign and a size. Nought has no sign.
 #[derive(Clone, Copy)]
 pub struct Signed {
     pub neg: bool,
     pub size: u32,
-}
-
-// A fixed number field that may have a sign.
-#[derive(Clone, Copy)]
-pub enum SignedField {
-    Number(Signed),
-    Bad,
 }
 
 // A count or a number of the file as a length.

@@ -1,4 +1,4 @@
-// Numbers read in fixed columns.
+// Numbers read in fixed columns: `None` where they hold no number.
 #![tactic(auto)]
 
 ghost use Rattle.std.specs.Prelude.{true, false, ◌≡◌, ◌+◌, ◌≤◌, ◌<◌, length};
@@ -7,10 +7,11 @@ ghost use Rattle.columns.specs.Fixed.{digits_of, field_of, is_number, with_sign,
 ghost use Rattle.columns.specs.Reading.{Below, SizeBelow, Behind};
 ghost use Rattle.columns.specs.Format.{field_columns};
 
-use columns::{Field, Signed, SignedField, byte_u32};
+use columns::{Signed, byte_u32};
 
 // Digits from `at` up to `end`.
-fn digits(s: &[u8], at: usize, end: usize) -> Field
+#[tactic(auto, using(columns::proofs::Fixed::reads))]
+fn digits(s: &[u8], at: usize, end: usize) -> Option<u32>
     requires at_le_end { at ≤ end }
     requires end_in_bounds { end ≤ length s.now }
     requires end_bound { end ≤ at + field_columns }
@@ -18,39 +19,36 @@ fn digits(s: &[u8], at: usize, end: usize) -> Field
     ensures below { Below 100000000 result }
 {
     let mut n: u32 = 0;
-    let mut i = at;
-    while i < end {
-        let b = s[i];
+    for &b in &s[at..end] {
         if b < b'0' {
-            return Field::Bad;
+            return None;
         }
         if b'9' < b {
-            return Field::Bad;
+            return None;
         }
         n = n * 10 + byte_u32(b - b'0');
-        i += 1;
     }
-    Field::Number(n)
+    Some(n)
 }
 
 // Where the columns from `at` up to `end` go on behind their blanks.
+#[tactic(auto, using(columns::proofs::Fixed::blanks))]
 fn behind_blanks(s: &[u8], at: usize, end: usize) -> usize
     requires at_le_end { at ≤ end }
     requires end_in_bounds { end ≤ length s.now }
     ensures { Behind s.now at end result }
 {
-    let mut i = at;
-    while i < end {
+    for i in at..end {
         if s[i] != b' ' {
             return i;
         }
-        i += 1;
     }
     end
 }
 
 // The number in the columns from `at` up to `end`.
-pub fn read_field(s: &[u8], at: usize, end: usize) -> Field
+#[tactic(auto, using(columns::proofs::Fixed::reads))]
+pub fn read_field(s: &[u8], at: usize, end: usize) -> Option<u32>
     requires at_le_end { at ≤ end }
     requires end_in_bounds { end ≤ length s.now }
     requires end_bound { end ≤ at + field_columns }
@@ -61,46 +59,37 @@ pub fn read_field(s: &[u8], at: usize, end: usize) -> Field
     digits(s, i, end)
 }
 
-fn is_number(f: Field, n: u32) -> bool
-    ensures { result ≡ is_number f n }
-{
-    let Field::Number(m) = f else {
-        return false;
-    };
-    m == n
-}
-
 // Whether the columns from `at` up to `end` hold n.
+#[tactic(auto, using(columns::proofs::Fixed::held))]
 pub fn holds(s: &[u8], at: usize, end: usize, n: u32) -> bool
     requires at_le_end { at ≤ end }
     requires end_in_bounds { end ≤ length s.now }
     requires end_bound { end ≤ at + field_columns }
     ensures { result ≡ is_number (field_of (columns s.now at end)) n }
 {
-    let f = read_field(s, at, end);
-    is_number(f, n)
+    read_field(s, at, end) == Some(n)
 }
 
 // The sign goes before the number; nought has none.
-fn with_sign(neg: bool, f: Field) -> SignedField
+#[tactic(auto, using(columns::proofs::Fixed::signs))]
+fn with_sign(neg: bool, f: Option<u32>) -> Option<Signed>
     requires { Below 100000000 f }
     ensures value { result ≡ with_sign neg f }
     ensures size_below { SizeBelow 100000000 result }
 {
-    let Field::Number(n) = f else {
-        return SignedField::Bad;
-    };
+    let n = f?;
     if n == 0 {
-        return SignedField::Number(Signed {
+        return Some(Signed {
             neg: false,
             size: n,
         });
     }
-    SignedField::Number(Signed { neg, size: n })
+    Some(Signed { neg, size: n })
 }
 
 // The digits from `at` up to `end`, behind a sign.
-fn behind_sign(neg: bool, s: &[u8], at: usize, end: usize) -> SignedField
+#[tactic(auto, using(columns::proofs::Fixed::signs))]
+fn behind_sign(neg: bool, s: &[u8], at: usize, end: usize) -> Option<Signed>
     requires at_le_end { at ≤ end }
     requires end_in_bounds { end ≤ length s.now }
     requires end_bound { end ≤ at + field_columns }
@@ -108,14 +97,15 @@ fn behind_sign(neg: bool, s: &[u8], at: usize, end: usize) -> SignedField
     ensures size_below { SizeBelow 100000000 result }
 {
     if end <= at {
-        return SignedField::Bad;
+        return None;
     }
     let f = digits(s, at, end);
     with_sign(neg, f)
 }
 
 // The number, with a sign or without, in the columns from `at` up to `end`.
-pub fn read_signed(s: &[u8], at: usize, end: usize) -> SignedField
+#[tactic(auto, using(columns::proofs::Fixed::signs))]
+pub fn read_signed(s: &[u8], at: usize, end: usize) -> Option<Signed>
     requires at_le_end { at ≤ end }
     requires end_in_bounds { end ≤ length s.now }
     requires end_bound { end ≤ at + field_columns }
@@ -124,7 +114,7 @@ pub fn read_signed(s: &[u8], at: usize, end: usize) -> SignedField
 {
     let i = behind_blanks(s, at, end);
     if end <= i {
-        return SignedField::Number(Signed {
+        return Some(Signed {
             neg: false,
             size: 0,
         });
