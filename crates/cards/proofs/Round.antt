@@ -8,7 +8,7 @@ use mathlib.Core.List.{List, [], ◌∷◌, ◌++◌, append_assoc}
 use lib.ListN.{length, get_or, replicate, length-append, get_or-append}
 use lib.Seq.{get_or_at, get_or-append-add}
 use borrow.Author.Tests.{eq-eqb}
-use Rattle.columns.specs.declared.Field.TheVariants.{Number}
+use Rattle.std.specs.Prelude.{Some}
 use Rattle.columns.specs.Columns.{columns, printable, line_at}
 use Rattle.columns.specs.Fixed.{field_of, is_number}
 use Rattle.columns.specs.Decimal.{dec}
@@ -32,7 +32,7 @@ pub length-zeros : (n : ℕ) → n < 10 ^ 7 → length (zeros n) ≡ 7
 unfolding zeros
 length-zeros n h = length_right 48 7 (dec n) (length_dec_le 6 n h)
 
-zeros-read : (n : ℕ) → field_of (zeros n) ≡ Number n
+zeros-read : (n : ℕ) → field_of (zeros n) ≡ Some n
 unfolding zeros
 zeros-read n = field_zero_filled 7 n
 

@@ -1,6 +1,6 @@
 -- What numbers mean, and what references ask: one by one they ask what all ask together.
 use mathlib.Core.Path.{◌≡◌, refl, sym, ap, ◌∙◌}
-use mathlib.Core.Bool.{Bool, true, false, cond, not, ◌&&◌}
+use mathlib.Core.Bool.{Bool, true, false, cond, ◌&&◌}
 use mathlib.Core.List.{List, [], ◌∷◌, ◌++◌}
 use Prim.Native.Nat.{ℕ, ◌+◌, ◌≤◌, ◌<◌}
 use native.Mathlib.Numerals.{add-one}
@@ -8,7 +8,8 @@ use native.Mathlib.Omega.{arith}
 use lib.ListN.{drop_of_length-le}
 use lib.Seq.{drop-cons}
 use lib.Dec.{eqb}
-use borrow.Author.Tests.{eqb-true}
+use borrow.Author.Tests.{eqb-true, eq-eqb, ne_eqb}
+use Rattle.std.specs.Prelude.{Option, Some, None}
 use Rattle.columns.specs.declared.Signed.{Signed}
 use Rattle.columns.specs.declared.DirectoryNumber.{DirectoryNumber}
 use Rattle.columns.specs.Fixed.{NormalSign}
@@ -62,13 +63,19 @@ pub ruleset meaning = (attribute_minus, attribute_plain, entry-is)
 
 -- ---- what a reference asks
 
-pub asks_number : (a : Attribute) (n want : ℕ) → a ≡ Number n → asking false (named 0) want ≡ of_attribute a want
+pub asks_none : (d : DirectoryNumber) (want : ℕ) → d.0 ≡ 0 → None ≡ of_number d want
+asks_none d want e = rw (eq-eqb _ _ e)
+
+pub asks_some : (d : DirectoryNumber) (want : ℕ) → (d.0 ≡ 0 → ⊥) → asking d want ≡ of_number d want
+asks_some d want h = rw (ne_eqb _ _ h)
+
+pub asks_number : (a : Attribute) (n want : ℕ) → a ≡ Number n → None ≡ of_attribute a want
 asks_number a n want e = rw e
 
-pub asks_reference : (a : Attribute) (d : DirectoryNumber) (want : ℕ) → a ≡ Reference d → asking true d want ≡ of_attribute a want
+pub asks_reference : (a : Attribute) (d : DirectoryNumber) (want : ℕ) → a ≡ Reference d → asking d want ≡ of_attribute a want
 asks_reference a d want e = rw e
 
-module _ (e : Entry) (j : ℕ) (r : Wanted) where
+module _ (e : Entry) (j : ℕ) (r : Option Wanted) where
   pub wants_structure : j ≡ 0 → r ≡ of_number e.structure any → r ≡ wanted_of e j
   unfolding wanted_of
   wants_structure h p = rw h p
@@ -99,15 +106,15 @@ module _ (e : Entry) (j : ℕ) (r : Wanted) where
       let z : j ≡ 6 = omega arith in
       rw z p
 
-pub ruleset wanting = (asks_number, asks_reference, wants_structure, wants_font, wants_level, wants_view, wants_matrix, wants_display, wants_colour)
+pub ruleset wanting = (asks_none, asks_some, asks_number, asks_reference, wants_structure, wants_font, wants_level, wants_view, wants_matrix, wants_display, wants_colour)
 
 -- what one asks
-module _ (types : List ℕ) (w : Wanted) where
-  pub asks_nothing : w.asked ≡ false → true ≡ asks_ok types w
+module _ (types : List ℕ) (o : Option Wanted) where
+  pub asks_nothing : o ≡ None → true ≡ asks_ok types o
   asks_nothing e = rw e
 
-  pub asks_class : w.asked ≡ true → (class : ℕ) (r : Bool) → class ≡ class_at types w.number.0 → r ≡ fits w.want class → r ≡ asks_ok types w
-  asks_class e class r ec er = rw (e, er, ec)
+  pub asks_class : (w : Wanted) → o ≡ Some w → (class : ℕ) (r : Bool) → class ≡ class_at types w.number.0 → r ≡ fits w.want class → r ≡ asks_ok types o
+  asks_class w e class r ec er = rw (e, er, ec)
 
 -- ---- all seven
 
@@ -119,7 +126,7 @@ module _ (types : List ℕ) where
   fit_number : (d : DirectoryNumber) (want : ℕ) → all_fit types (unless0 d want) ≡ asks_ok types (of_number d want)
   fit_number d want = pick (eqb d.0 0)
     where
-      pick : (b : Bool) → all_fit types (cond b [] ((d.0, want) ∷ [])) ≡ cond (not b) (fits want (class_at types d.0)) true
+      pick : (b : Bool) → all_fit types (cond b [] ((d.0, want) ∷ [])) ≡ asks_ok types (cond b None (asking d want))
       pick true = refl
       pick false = and_true (fits want (class_at types d.0))
 
@@ -150,7 +157,7 @@ module _ (types : List ℕ) where
 
     pub rest_next : (j : ℕ) → j < reference_count → rest_fit types e j ≡ asks_ok types (wanted_of e j) && rest_fit types e (j + 1)
     unfolding rest_fit wanted_of
-    rest_next j h = rw add-one (ap (all_ask_ok types) (drop-cons (wants e) j (asking false (named 0) any) h))
+    rest_next j h = rw add-one (ap (all_ask_ok types) (drop-cons (wants e) j None h))
 
     pub rest_end : (j : ℕ) → reference_count ≤ j → rest_fit types e j ≡ true
     unfolding rest_fit
@@ -158,7 +165,7 @@ module _ (types : List ℕ) where
 
     -- the same where the test is a call's answer, and f is the answer of the loop
     module _ (f : Bool) (j : ℕ) (inv : rest_fit types e j ≡ f) where
-      module _ (h : j < reference_count) (w : Wanted) (x : Bool) (ew : w ≡ wanted_of e j) (ex : x ≡ asks_ok types w) where
+      module _ (h : j < reference_count) (w : Option Wanted) (x : Bool) (ew : w ≡ wanted_of e j) (ex : x ≡ asks_ok types w) where
         step : x && rest_fit types e (j + 1) ≡ f
         step = rw (ex, ew) (sym (rest_next j h) ∙ inv)
 

@@ -16,7 +16,7 @@ use Rattle.columns.specs.Decimal.{dec, minus, signed_dec}
 use Rattle.columns.specs.Refusal.{◌then◌, demand}
 use Rattle.columns.proofs.Decimals.{dec-below, length_dec_below, length-signed}
 use Rattle.directory.specs.declared.Fields.{Fields}
-use Rattle.directory.specs.declared.Rule.TheVariants.{Good, Refused}
+use Rattle.std.specs.Prelude.{Ok, Err}
 use Rattle.directory.specs.Fields.{nought, in_order}
 use Rattle.directory.specs.Rules.{narrow, ranges_ok, entry_rules}
 use Rattle.directory.specs.Asking.{outcome_of, rule_of}
@@ -86,15 +86,15 @@ narrow_all x xs r e h = h ∙ ap narrow e
 module _ (x : Fields) where
   -- ---- 9, then 13
 
-  pub rule_9 : (s : Bool) → s ≡ ranges_ok x → s ≡ false → Refused Directory ≡ rule_of x
+  pub rule_9 : (s : Bool) → s ≡ ranges_ok x → s ≡ false → Err Directory ≡ rule_of x
   unfolding rule_of
   rule_9 s e h = rw (← e, h)
 
-  pub rule_13 : (s : Bool) → s ≡ ranges_ok x → s ≡ true → x.entity.size ≡ 306 → Refused Macro ≡ rule_of x
+  pub rule_13 : (s : Bool) → s ≡ ranges_ok x → s ≡ true → x.entity.size ≡ 306 → Err Macro ≡ rule_of x
   unfolding rule_of
   rule_13 s e h k = rw (← e, h, k)
 
-  pub rule_good : (s : Bool) → s ≡ ranges_ok x → s ≡ true → (x.entity.size ≡ 306 → ⊥) → Good ≡ rule_of x
+  pub rule_good : (s : Bool) → s ≡ ranges_ok x → s ≡ true → (x.entity.size ≡ 306 → ⊥) → Ok tt ≡ rule_of x
   unfolding rule_of
   rule_good s e h k = rw (← e, h, ne_eqb _ _ k)
 
@@ -103,7 +103,7 @@ module _ (x : Fields) where
   unfolding rule_of entry_rules
   rule_outcome place = pick (ranges_ok x) (eqb x.entity.size 306)
     where
-      pick : (a b : Bool) → outcome_of (cond a (cond b (Refused Macro) Good) (Refused Directory)) place ≡ demand a Directory place then λ _. demand (not b) Macro place
+      pick : (a b : Bool) → outcome_of (cond a (cond b (Err Macro) (Ok tt)) (Err Directory)) place ≡ demand a Directory place then λ _. demand (not b) Macro place
       pick true true = refl
       pick true false = refl
       pick false b = refl

@@ -11,7 +11,7 @@ use lib.Seq.{get_or-take, get_or-drop}
 use lib.Dec.{leb, eqb}
 use borrow.Author.Tests.{le-leb, leb-true, eq-eqb, ne_eqb, eqb-true, not-true}
 use Rattle.columns.specs.declared.Signed.{Signed}
-use Rattle.columns.specs.declared.SignedField.TheVariants.{Number}
+use Rattle.std.specs.Prelude.{Some, None}
 use Rattle.columns.specs.declared.ParameterLine.{ParameterLine}
 use Rattle.columns.specs.Columns.{columns, line_at, joined}
 use Rattle.columns.specs.Fixed.{field_of, signed_of, with_sign, signed, NormalSign}
@@ -21,9 +21,8 @@ use Rattle.columns.proofs.Columns.{columns_skip, columns-part}
 use Rattle.columns.proofs.Decimals.{length_right, length_dec_below, length-signed}
 use Rattle.columns.proofs.Round.{field-padded, field_zero_filled, signed-padded}
 use Rattle.directory.specs.declared.Fields.{Fields}
-use Rattle.directory.specs.declared.EntryRead.TheVariants.{Spelt, Wrong}
 use Rattle.directory.specs.Fields.{nought, in_order}
-use Rattle.directory.specs.Lines.{Slot, number, again, pointer, lines, reserved, label, slots, seek, slot_in, unsigned, number_in, numbers, with, numbers_from, is_same, parameter_line, entry_at, label_at, written, slot_of, entry_lines}
+use Rattle.directory.specs.Lines.{Slot, number, again, pointer, lines, reserved, label, slots, seek, slot_in, unsigned, number_in, numbers, with, numbers_from, is_same, parameter_line, entry_at, label_at, written, slot_of, entry_lines, spelt_entry}
 use Rattle.directory.specs.Rules.{narrow, ranges_ok, signs_ok, limits_ok, status_ok}
 use Rattle.directory.specs.Reading.{slot_at, first_line, second_line, Within, Normals, Writable}
 use Rattle.directory.proofs.Slots.{in_at, first_slot, second_slot, placed, placed_low, others_signed}
@@ -75,18 +74,18 @@ plain-is y h = eta y.neg h
     eta : (b : Bool) → b ≡ false → ◌≡◌ {A = Signed} (signed false y.size) (record { neg = b; size = y.size })
     eta b e = rw (cond_same (eqb y.size 0) false, e)
 
-signed-number : (n : ℕ) → signed_of (to_right 32 8 (dec n)) ≡ Number (record { neg = false; size = n })
+signed-number : (n : ℕ) → signed_of (to_right 32 8 (dec n)) ≡ Some (record { neg = false; size = n })
 signed-number n =
     ap (λ (t : List ℕ). signed_of (to_right 32 8 t)) (sym (plain-dec (record { neg = false; size = n }) refl))
     ∙ signed-padded 8 (record { neg = false; size = n }) (λ z. refl)
 
-written_status : (y : Signed) → with_sign false (field_of (written 8 y)) ≡ Number (signed false y.size)
+written_status : (y : Signed) → with_sign false (field_of (written 8 y)) ≡ Some (signed false y.size)
 written_status y = ap (with_sign false) (field_zero_filled 8 y.size)
 
-written-plain : (n : ℕ) (y : Signed) → (n ≡ 8 → ⊥) → y.neg ≡ false → with_sign false (field_of (written n y)) ≡ Number (signed false y.size)
+written-plain : (n : ℕ) (y : Signed) → (n ≡ 8 → ⊥) → y.neg ≡ false → with_sign false (field_of (written n y)) ≡ Some (signed false y.size)
 written-plain n y h p = rw (ne_eqb _ _ h, plain-dec y p) (ap (with_sign false) (field-padded 8 y.size))
 
-written-signed : (n : ℕ) (y : Signed) → (n ≡ 8 → ⊥) → NormalSign y → signed_of (written n y) ≡ Number y
+written-signed : (n : ℕ) (y : Signed) → (n ≡ 8 → ⊥) → NormalSign y → signed_of (written n y) ≡ Some y
 written-signed n y h p = rw (ne_eqb _ _ h) (signed-padded 8 y p)
 
 written-length : (n : ℕ) (y : Signed) → length (signed_dec y) ≤ 8 → length (written n y) ≡ 8
@@ -119,7 +118,7 @@ nine_second : (g : Slot → List ℕ) → length (map g (drop 9 slots)) ≡ 9
 unfolding slots
 nine_second g = refl
 
-same_self : (y : Signed) → is_same y (Number y) ≡ true
+same_self : (y : Signed) → is_same y (Some y) ≡ true
 same_self y = both_true (eq-eqb y.size y.size refl) (pick y.neg)
   where
     pick : (b : Bool) → cond b b (not b) ≡ true
@@ -127,11 +126,11 @@ same_self y = both_true (eq-eqb y.size y.size refl) (pick y.neg)
     pick false = refl
 
 -- numbers read one by one are the list of them
-numbers_are : (f : List ℕ) (k : ℕ) (xs : List Signed) (n : ℕ) → ((j : ℕ) → j < length xs → number_in f k (n + j) ≡ Number (get_or xs j nought)) → numbers_from f k n (length xs) ≡ numbers xs
+numbers_are : (f : List ℕ) (k : ℕ) (xs : List Signed) (n : ℕ) → ((j : ℕ) → j < length xs → number_in f k (n + j) ≡ Some (get_or xs j nought)) → numbers_from f k n (length xs) ≡ numbers xs
 unfolding numbers_from
 numbers_are f k [] n h = refl
 numbers_are f k (x ∷ xs) n h =
-    rw (← add-zero n, h 0 (omega arith)) (rw add-zero (ap (with (Number x)) (numbers_are f k xs (n + 1) (λ j l. ap (number_in f k) (next j) ∙ h (suc j) (omega arith)))))
+    rw (← add-zero n, h 0 (omega arith)) (rw add-zero (ap (with (Some x)) (numbers_are f k xs (n + 1) (λ j l. ap (number_in f k) (next j) ∙ h (suc j) (omega arith)))))
   where
     next : (j : ℕ) → n + 1 + j ≡ n + suc j
     next j = omega arith
@@ -254,16 +253,16 @@ module _ (x : Fields) (from count : ℕ) (name : List ℕ) (w : Writable x from 
         let l : seek (number n) slots < 18 = rw (placed n h) at (placed_low n) in
         in_at f k (number n) ∙ slot_written (seek (number n) slots) l ∙ ap slotted (seek_finds slots n (omega (arith, eighteen)))
 
-    number_read : (n : ℕ) → n < 12 → number_in f k n ≡ Number (get_or (in_order x) n nought)
+    number_read : (n : ℕ) → n < 12 → number_in f k n ≡ Some (get_or (in_order x) n nought)
     unfolding number_in
     number_read n h = rw (number_slot n h) (pick (ℕ_discrete n 8) (ℕ_discrete n 11))
       where
         y : Signed
         y = get_or (in_order x) n nought
 
-        pick : Dec (n ≡ 8) → Dec (n ≡ 11) → cond (unsigned n) (with_sign false (field_of (written n y))) (signed_of (written n y)) ≡ Number y
-        pick (yes e) d = rw e (written_status x.status ∙ ap Number (plain-is x.status w.status_plain))
-        pick (no e) (yes d) = rw d (written-plain 11 x.subscript (λ z. omega arith) subscript_plain_lem ∙ ap Number (plain-is x.subscript subscript_plain_lem))
+        pick : Dec (n ≡ 8) → Dec (n ≡ 11) → cond (unsigned n) (with_sign false (field_of (written n y))) (signed_of (written n y)) ≡ Some y
+        pick (yes e) d = rw e (written_status x.status ∙ ap Some (plain-is x.status w.status_plain))
+        pick (no e) (yes d) = rw d (written-plain 11 x.subscript (λ z. omega arith) subscript_plain_lem ∙ ap Some (plain-is x.subscript subscript_plain_lem))
         pick (no e) (no d) = rw (others_signed n e d) (written-signed n y e (normal-at (in_order x) w.normal n h))
 
     -- ---- what stands besides the numbers
@@ -271,15 +270,15 @@ module _ (x : Fields) (from count : ℕ) (name : List ℕ) (w : Writable x from 
     field_slot : (j : ℕ) (t : Slot) → seek t slots ≡ j → j < 18 → get_or slots j reserved ≡ t → slot_in f k t ≡ slotted t
     field_slot j t e h g = in_at f k t ∙ ap (slot_at f k) e ∙ slot_written j h ∙ ap slotted g
 
-    again_read : signed_of (slot_in f k again) ≡ Number x.entity
+    again_read : signed_of (slot_in f k again) ≡ Some x.entity
     unfolding slots
     again_read = ap signed_of (field_slot 9 again refl (omega arith) refl) ∙ written-signed 0 x.entity (λ z. omega arith) w.normal.0
 
-    pointer_read : signed_of (slot_in f k pointer) ≡ Number (record { neg = false; size = from })
+    pointer_read : signed_of (slot_in f k pointer) ≡ Some (record { neg = false; size = from })
     unfolding slots
     pointer_read = ap signed_of (field_slot 1 pointer refl (omega arith) refl) ∙ signed-number from
 
-    lines-read : signed_of (slot_in f k lines) ≡ Number (record { neg = false; size = count })
+    lines-read : signed_of (slot_in f k lines) ≡ Some (record { neg = false; size = count })
     unfolding slots
     lines-read = ap signed_of (field_slot 12 lines refl (omega arith) refl) ∙ signed-number count
 
@@ -294,11 +293,11 @@ module _ (x : Fields) (from count : ℕ) (name : List ℕ) (w : Writable x from 
     numbers_read = numbers_are f k (in_order x) 0 (λ j h. ap (number_in f k) (zero-add j) ∙ number_read j h)
 
     -- the entry is read back
-    pub entry_read : entry_at f k ≡ Spelt x (parameter_line from) count
+    pub entry_read : entry_at f k ≡ Some (spelt_entry x (parameter_line from) count)
     unfolding entry_at
     entry_read =
         rw (numbers_read, again_read, pointer_read, lines-read)
-        (cond_true (Spelt x (parameter_line from) count) Wrong (both_true (same_self x.entity) (both_true (le-leb 1 from w.from_low) (le-leb 1 count w.count_low))))
+        (cond_true (Some (spelt_entry x (parameter_line from) count)) None (both_true (same_self x.entity) (both_true (le-leb 1 from w.from_low) (le-leb 1 count w.count_low))))
 
 -- ---- the two elements of entry_lines
 
@@ -307,13 +306,13 @@ pub data Begin (f : List ℕ) (k : ℕ) : List (List ℕ) → Type 0 where
   begin : {a b : List ℕ} (r s : List ℕ) → line_at f k ≡ a ++ r → line_at f (k + 1) ≡ b ++ s → Begin f k (a ∷ b ∷ [])
 
 pub entry_back : (x : Fields) (from count : ℕ) (name f : List ℕ) (k : ℕ) → Writable x from count name → Begin f k (entry_lines x from count name)
-    → (entry_at f k ≡ Spelt x (parameter_line from) count) × (label_at f k ≡ name)
+    → (entry_at f k ≡ Some (spelt_entry x (parameter_line from) count)) × (label_at f k ≡ name)
 entry_back x from count name f k w b = back (rw (entry-lines x from count name) at b)
   where
-    back : Begin f k (first_line x from ∷ second_line x count name ∷ []) → (entry_at f k ≡ Spelt x (parameter_line from) count) × (label_at f k ≡ name)
+    back : Begin f k (first_line x from ∷ second_line x count name ∷ []) → (entry_at f k ≡ Some (spelt_entry x (parameter_line from) count)) × (label_at f k ≡ name)
     back (begin r s p q) = (entry_read x from count name w f k r s p q, label_read x from count name w f k r s p q)
 
 -- ---- what was read
 
-pub spelt-within : (f : List ℕ) (k : ℕ) (x : Fields) (from : ParameterLine) (count : ℕ) → entry_at f k ≡ Spelt x from count → Within x from count
+pub spelt-within : (f : List ℕ) (k : ℕ) (x : Fields) (from : ParameterLine) (count : ℕ) → entry_at f k ≡ Some (spelt_entry x from count) → Within x from count
 spelt-within f k x from count e = rw e at (small f k)

@@ -8,15 +8,13 @@ use native.Mathlib.Omega.{arith}
 use lib.ListN.{get_or, get_or-map}
 use lib.Dec.{ltb, eqb}
 use borrow.Author.Tests.{ne_eqb, ltb-true}
-use Rattle.columns.specs.declared.Field.{Field}
-use Rattle.columns.specs.declared.Field.TheVariants.{Number, Bad}
-use Rattle.columns.specs.declared.SignedField.{SignedField}
-use Rattle.columns.specs.declared.SignedField.TheVariants.{Number as SignedNumber, Bad as SignedBad}
+use Rattle.std.specs.Prelude.{Option}
+use Rattle.columns.specs.declared.Signed.{Signed}
 use Rattle.columns.specs.Columns.{columns, line_at}
 use Rattle.columns.specs.First.{up_from}
 use Rattle.columns.specs.Fixed.{field_of, signed_of, with_sign}
 use Rattle.columns.specs.Format.{field_columns}
-use Rattle.columns.proofs.Tests.{cond_same, both_left, both_right}
+use Rattle.columns.proofs.Tests.{both_left, both_right}
 use Rattle.columns.proofs.Columns.{line-columns}
 use Rattle.columns.proofs.First.{get_d_up_from}
 use Rattle.directory.specs.Fields.{field_count}
@@ -86,21 +84,15 @@ placed_low n = all_below_lem 18 (omega arith) places refl n
 
 -- ---- what the functions that read a slot are asked
 
-pub plain-number : (f : Field) (n : ℕ) → f ≡ Number n → SignedNumber (record { neg = false; size = n }) ≡ with_sign false f
-plain-number f n e = rw (e, cond_same (eqb n 0) false)
-
-pub plain_bad : (f : Field) → f ≡ Bad → SignedBad ≡ with_sign false f
-plain_bad f e = rw e
-
 module _ (f : List ℕ) (k j at : ℕ) (start : at ≡ start_of k j) where
-  pub slot_signed : (r : SignedField) → r ≡ signed_of (columns f at (at + 8)) → r ≡ signed_of (slot_at f k j)
+  pub slot_signed : (r : Option Signed) → r ≡ signed_of (columns f at (at + 8)) → r ≡ signed_of (slot_at f k j)
   slot_signed r e = rw (slot_columns f k j, ← start) e
 
-  pub slot_plain : (x : Field) (r : SignedField) → x ≡ field_of (columns f at (at + 8)) → r ≡ with_sign false x → r ≡ with_sign false (field_of (slot_at f k j))
+  pub slot_plain : (x : Option ℕ) (r : Option Signed) → x ≡ field_of (columns f at (at + 8)) → r ≡ with_sign false x → r ≡ with_sign false (field_of (slot_at f k j))
   slot_plain x r e h = rw (slot_columns f k j, ← start, ← e) h
 
 -- a number of the entry, with a sign or without
-module _ (f : List ℕ) (k n j : ℕ) (r : SignedField) (place : j ≡ seek (number n) slots) (b : Bool) (plain : b ≡ unsigned n) where
+module _ (f : List ℕ) (k n j : ℕ) (r : Option Signed) (place : j ≡ seek (number n) slots) (b : Bool) (plain : b ≡ unsigned n) where
   pub number-plain : b ≡ true → r ≡ with_sign false (field_of (slot_at f k j)) → r ≡ number_in f k n
   unfolding number_in
   number-plain h e = rw (← plain, h, in_at f k (number n), ← place) e
@@ -118,7 +110,7 @@ unsigned_no n h = simp (ne_eqb _ _ h)
 pub others_signed : (n : ℕ) → (n ≡ 8 → ⊥) → (n ≡ 11 → ⊥) → unsigned n ≡ false
 others_signed n h l = simp (ne_eqb _ _ h, ne_eqb _ _ l)
 
-pub ruleset slotted = (placed, placed_low, plain-number, plain_bad, slot_signed, slot_plain, unsigned_yes, unsigned_no, number-plain, number-signed)
+pub ruleset slotted = (placed, placed_low, slot_signed, slot_plain, unsigned_yes, unsigned_no, number-plain, number-signed)
 
 -- the label in the file
 pub label_columns : (f : List ℕ) (k : ℕ) → label_at f k ≡ columns f (81 * (k + 1) + 56) (81 * (k + 1) + 64)

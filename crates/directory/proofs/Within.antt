@@ -7,18 +7,15 @@ use native.Mathlib.Omega.{arith}
 use lib.ListN.{length, get_or, length-take}
 use lib.Dec.{leb, eqb}
 use borrow.Author.Tests.{leb-true}
-use Rattle.columns.specs.declared.Field.{Field}
-use Rattle.columns.specs.declared.Field.TheVariants.{Number as FieldNumber, Bad as FieldBad}
+use Rattle.std.specs.Prelude.{Option, Some, None}
 use Rattle.columns.specs.declared.Signed.{Signed}
-use Rattle.columns.specs.declared.SignedField.{SignedField}
-use Rattle.columns.specs.declared.SignedField.TheVariants.{Number, Bad}
 use Rattle.columns.specs.Columns.{columns}
 use Rattle.columns.specs.Fixed.{field_of, signed_of, with_sign, signed}
 use Rattle.columns.specs.Decimal.{dec, signed_dec}
 use Rattle.columns.proofs.Tests.{cond_cases, cond_same, both_left, both_right, true_false}
 use Rattle.columns.proofs.Decimals.{dec-below, length-signed, dec-nought}
 use Rattle.columns.proofs.Round.{signed-fits, signed-normal, field_fits_lem}
-use Rattle.directory.specs.declared.EntryRead.{EntryRead}
+use Rattle.directory.specs.declared.Spelt.{Spelt}
 use Rattle.directory.specs.Fields.{nought, fields_of}
 use Rattle.directory.specs.Lines.{Slot, number, again, pointer, lines, slot_in, unsigned, number_in, Numbers, numbers, misspelt, with, numbers_from, positive, size_of, is_same, spelt_as, spelt, entry_at}
 use Rattle.directory.specs.Reading.{Eight, Small}
@@ -33,20 +30,20 @@ pub fits_below : (x : Signed) → length (signed_dec x) ≤ 8 → x.size < 10000
 fits_below x h = dec-below 8 x.size (omega (arith, length-signed x))
 
 -- no column at all is nought
-none_fit : (x : Signed) → Number (signed false 0) ≡ Number x → length (signed_dec x) ≤ 8
+none_fit : (x : Signed) → Some (signed false 0) ≡ Some x → length (signed_dec x) ≤ 8
 none_fit x e =
     let z : signed false 0 ≡ x = cc in
     rw (← z, length-signed (signed false 0), dec-nought) (omega arith)
 
-signed_fit : (t : List ℕ) (x : Signed) → length t ≤ 8 → signed_of t ≡ Number x → length (signed_dec x) ≤ 8
+signed_fit : (t : List ℕ) (x : Signed) → length t ≤ 8 → signed_of t ≡ Some x → length (signed_dec x) ≤ 8
 unfolding signed_of
 signed_fit [] x h e = none_fit x e
 signed_fit (b ∷ t) x h e = omega (arith, signed-fits (b ∷ t) x (omega arith) e)
 
-pub signed_eight : (t : List ℕ) (x : Signed) → length t ≤ 8 → signed_of t ≡ Number x → Eight x
+pub signed_eight : (t : List ℕ) (x : Signed) → length t ≤ 8 → signed_of t ≡ Some x → Eight x
 signed_eight t x h e = record { fits = signed_fit t x h e; below = fits_below x (signed_fit t x h e); normal = signed-normal t x e }
 
-plain_fit : (t : List ℕ) (n : ℕ) → length t ≤ 8 → field_of t ≡ FieldNumber n → length (dec n) ≤ 8
+plain_fit : (t : List ℕ) (n : ℕ) → length t ≤ 8 → field_of t ≡ Some n → length (dec n) ≤ 8
 unfolding field_of
 plain_fit [] n h e =
     let z : 0 ≡ n = cc in
@@ -63,14 +60,14 @@ plain-number n h =
     let l : length (signed_dec (record { neg = false; size = n })) ≤ 8 = rw (length-signed (record { neg = false; size = n })) (omega arith) in
     record { eight = record { fits = l; below = fits_below (record { neg = false; size = n }) l; normal = λ z. refl }; plain = refl }
 
-pub plain_eight : (t : List ℕ) (x : Signed) → length t ≤ 8 → with_sign false (field_of t) ≡ Number x → Plain x
+pub plain_eight : (t : List ℕ) (x : Signed) → length t ≤ 8 → with_sign false (field_of t) ≡ Some x → Plain x
 plain_eight t x h e = pick (field_of t) refl e
   where
-    pick : (f : Field) → field_of t ≡ f → with_sign false f ≡ Number x → Plain x
-    pick (FieldNumber n) q e =
+    pick : (f : Option ℕ) → field_of t ≡ f → with_sign false f ≡ Some x → Plain x
+    pick (Some n) q e =
         let z : signed false n ≡ x = cc in
         rw (← z, cond_same (eqb n 0) false) (plain-number n (plain_fit t n h q))
-    pick FieldBad q e = let z : ◌≡◌ {A = ℕ} 0 1 = cc in absurd (omega arith)
+    pick None q e = let z : ◌≡◌ {A = ℕ} 0 1 = cc in absurd (omega arith)
 
 -- ---- the numbers of an entry
 
@@ -79,14 +76,14 @@ pub record Good (n : ℕ) (x : Signed) : Type 0 where
   pub eight : Eight x
   pub plain : unsigned n ≡ true → x.neg ≡ false
 
-pub number_good : (f : List ℕ) (k n : ℕ) (x : Signed) → number_in f k n ≡ Number x → Good n x
+pub number_good : (f : List ℕ) (k n : ℕ) (x : Signed) → number_in f k n ≡ Some x → Good n x
 unfolding number_in
 number_good f k n x = pick (unsigned n) refl
   where
     t : List ℕ
     t = slot_in f k (number n)
 
-    pick : (b : Bool) → unsigned n ≡ b → cond b (with_sign false (field_of t)) (signed_of t) ≡ Number x → Good n x
+    pick : (b : Bool) → unsigned n ≡ b → cond b (with_sign false (field_of t)) (signed_of t) ≡ Some x → Good n x
     pick true u e =
         let p : Plain x = plain_eight t x (slot_length f k (number n)) e in
         record { eight = p.eight; plain = λ _. p.plain }
@@ -105,10 +102,10 @@ unfolding numbers_from
 all_good f k zero n = (refl, tt)
 all_good f k (suc more) n = pick (number_in f k n) refl (numbers_from f k (n + 1) more) (all_good f k more (n + 1))
   where
-    pick : (r : SignedField) → number_in f k n ≡ r → (ns : Numbers) → AllGood (n + 1) more ns → AllGood n (suc more) (with r ns)
-    pick (Number x) e (numbers xs) g = (ap suc g.0, (number_good f k n x e, g.1))
-    pick (Number x) e misspelt g = tt
-    pick Bad e ns g = tt
+    pick : (r : Option Signed) → number_in f k n ≡ r → (ns : Numbers) → AllGood (n + 1) more ns → AllGood n (suc more) (with r ns)
+    pick (Some x) e (numbers xs) g = (ap suc g.0, (number_good f k n x e, g.1))
+    pick (Some x) e misspelt g = tt
+    pick None e ns g = tt
 
 good_at : (xs : List Signed) (n j : ℕ) → GoodFrom n xs → j < length xs → Good (n + j) (get_or xs j nought)
 good_at [] n j g h = absurd (omega arith)
@@ -124,19 +121,19 @@ good_at (x ∷ xs) n (suc j) g h =
 size_eight : (t : List ℕ) → length t ≤ 8 → size_of (signed_of t) ≤ 99999999
 size_eight t h = pick (signed_of t) refl
   where
-    pick : (r : SignedField) → signed_of t ≡ r → size_of r ≤ 99999999
-    pick (Number x) e = omega (arith, (signed_eight t x h e).below)
-    pick Bad e = omega arith
+    pick : (r : Option Signed) → signed_of t ≡ r → size_of r ≤ 99999999
+    pick (Some x) e = omega (arith, (signed_eight t x h e).below)
+    pick None e = omega arith
 
-positive_low : (r : SignedField) → positive r ≡ true → 1 ≤ size_of r
-positive_low (Number x) e = leb-true 1 x.size (both_right (not x.neg) (leb 1 x.size) e)
-positive_low Bad e = let z : ◌≡◌ {A = ℕ} 0 1 = cc in absurd (omega arith)
+positive_low : (r : Option Signed) → positive r ≡ true → 1 ≤ size_of r
+positive_low (Some x) e = leb-true 1 x.size (both_right (not x.neg) (leb 1 x.size) e)
+positive_low None e = let z : ◌≡◌ {A = ℕ} 0 1 = cc in absurd (omega arith)
 
 module _ (xs : List Signed) (l : length xs ≡ 12) (g : GoodFrom 0 xs) where
   good : (j : ℕ) → j < 12 → Good (0 + j) (get_or xs j nought)
   good j h = good_at xs 0 j g (omega arith)
 
-  pub entry_small : (a from count : SignedField) → size_of from ≤ 99999999 → size_of count ≤ 99999999 → Small (spelt_as (fields_of xs) a from count)
+  pub entry_small : (a from count : Option Signed) → size_of from ≤ 99999999 → size_of count ≤ 99999999 → Small (spelt_as (fields_of xs) a from count)
   entry_small a from count hf hc =
       cond_cases Small (is_same (get_or xs 0 nought) a && (positive from && positive count)) _ _
       (λ e.
@@ -174,5 +171,5 @@ small f k = pick (numbers_from f k 0 12) (all_good f k 12 0)
         (size_eight (slot_in f k pointer) (slot_length f k pointer)) (size_eight (slot_in f k lines) (slot_length f k lines))
     pick misspelt g = tt
 
-pub small_read : (f : List ℕ) (k : ℕ) (r : EntryRead) → r ≡ entry_at f k → Small r
+pub small_read : (f : List ℕ) (k : ℕ) (r : Option Spelt) → r ≡ entry_at f k → Small r
 small_read f k r e = rw e (small f k)

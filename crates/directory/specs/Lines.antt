@@ -2,9 +2,8 @@
 use Rattle.std.specs.Prelude.{Bool, true, false, cond, not, ◌&&◌, ◌||◌, List, [], ◌∷◌, map, ℕ, zero, suc, ◌+◌}
 use Rattle.std.specs.Prelude.{◌*◌, ◌/◌, ◌%◌}
 use Rattle.std.specs.Prelude.{get_or, replicate, take, drop, leb, eqb}
+use Rattle.std.specs.Prelude.{Option, Some, None}
 use Rattle.columns.specs.declared.Signed.{Signed}
-use Rattle.columns.specs.declared.SignedField.{SignedField}
-use Rattle.columns.specs.declared.SignedField.TheVariants.{Number, Bad}
 use Rattle.columns.specs.declared.ParameterLine.{ParameterLine}
 use Rattle.columns.specs.Columns.{columns, line_at, joined}
 use Rattle.columns.specs.Fixed.{field_of, signed_of, with_sign}
@@ -12,8 +11,7 @@ use Rattle.columns.specs.Decimal.{dec, signed_dec, padded, zero_filled}
 use Rattle.columns.specs.Format.{field_columns}
 use Rattle.columns.specs.Letters.{space}
 use Rattle.directory.specs.declared.Fields.{Fields}
-use Rattle.directory.specs.declared.EntryRead.{EntryRead}
-use Rattle.directory.specs.declared.EntryRead.TheVariants.{Spelt, Wrong}
+use Rattle.directory.specs.declared.Spelt.{Spelt}
 use Rattle.directory.specs.Fields.{type_at, form_at, structure_at, font_at, level_at, view_at, matrix_at, display_at}
 use Rattle.directory.specs.Fields.{status_at, weight_at, colour_at, subscript_at, field_count, nought, in_order, fields_of}
 
@@ -79,7 +77,7 @@ abbrev pub unsigned : ℕ → Bool
 unsigned n = eqb n status_at || eqb n subscript_at
 
 -- number n of the entry
-unfoldable pub number_in : List ℕ → ℕ → ℕ → SignedField
+unfoldable pub number_in : List ℕ → ℕ → ℕ → Option Signed
 number_in f k n = cond (unsigned n) (with_sign false (field_of (slot_in f k (number n)))) (signed_of (slot_in f k (number n)))
 
 -- all of them are numbers, or one is misspelt
@@ -88,10 +86,10 @@ pub data Numbers : Type 0 where
   misspelt : Numbers
 
 -- one number more in front
-abbrev pub with : SignedField → Numbers → Numbers
-with (Number n) (numbers ns) = numbers (n ∷ ns)
-with (Number n) misspelt = misspelt
-with Bad ns = misspelt
+abbrev pub with : Option Signed → Numbers → Numbers
+with (Some n) (numbers ns) = numbers (n ∷ ns)
+with (Some n) misspelt = misspelt
+with None ns = misspelt
 
 -- so many numbers, from number n on
 unfoldable pub numbers_from : List ℕ → ℕ → ℕ → ℕ → Numbers
@@ -99,36 +97,41 @@ numbers_from f k n zero = numbers []
 numbers_from f k n (suc more) = with (number_in f k n) (numbers_from f k (n + 1) more)
 
 -- a field that is at least 1
-abbrev pub positive : SignedField → Bool
-positive (Number n) = not n.neg && leb 1 n.size
-positive Bad = false
+abbrev pub positive : Option Signed → Bool
+positive (Some n) = not n.neg && leb 1 n.size
+positive None = false
 
 -- the size of a field
-abbrev pub size_of : SignedField → ℕ
-size_of (Number n) = n.size
-size_of Bad = 0
+abbrev pub size_of : Option Signed → ℕ
+size_of (Some n) = n.size
+size_of None = 0
 
 -- the type again is equal, as a number
-abbrev pub is_same : Signed → SignedField → Bool
-is_same x (Number n) = eqb x.size n.size && cond x.neg n.neg (not n.neg)
-is_same x Bad = false
+abbrev pub is_same : Signed → Option Signed → Bool
+is_same x (Some n) = eqb x.size n.size && cond x.neg n.neg (not n.neg)
+is_same x None = false
 
 -- as the code has it
 abbrev pub parameter_line : ℕ → ParameterLine
 parameter_line n = record { 0 = n }
 
+-- what two D lines spell
+abbrev pub spelt_entry : Fields → ParameterLine → ℕ → Spelt
+spelt_entry x from count = record { fields = x; pointer = from; lines = count }
+
 -- parameter pointer and line count are at least 1; the type again is equal
-abbrev pub spelt_as : Fields → SignedField → SignedField → SignedField → EntryRead
+abbrev pub spelt_as : Fields → Option Signed → Option Signed → Option Signed → Option Spelt
 spelt_as x type² from count =
-    cond (is_same x.entity type² && (positive from && positive count)) (Spelt x (parameter_line (size_of from)) (size_of count)) Wrong
+    cond (is_same x.entity type² && (positive from && positive count))
+    (Some (spelt_entry x (parameter_line (size_of from)) (size_of count))) None
 
 -- all of it, or a wrong field
-abbrev pub spelt : Numbers → SignedField → SignedField → SignedField → EntryRead
-spelt misspelt type² from count = Wrong
+abbrev pub spelt : Numbers → Option Signed → Option Signed → Option Signed → Option Spelt
+spelt misspelt type² from count = None
 spelt (numbers ns) type² from count = spelt_as (fields_of ns) type² from count
 
 -- the entry whose first D line is line k of the file
-unfoldable pub entry_at : List ℕ → ℕ → EntryRead
+unfoldable pub entry_at : List ℕ → ℕ → Option Spelt
 entry_at f k =
     spelt (numbers_from f k 0 field_count) (signed_of (slot_in f k again)) (signed_of (slot_in f k pointer)) (signed_of (slot_in f k lines))
 

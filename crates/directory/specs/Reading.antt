@@ -2,6 +2,7 @@
 -- be, and what can be read back.
 use Rattle.std.specs.Prelude.{◌≡◌, true, false, List, [], ◌∷◌, ◌++◌, map, ℕ, ◌+◌, ◌*◌, ◌/◌, ◌%◌}
 use Rattle.std.specs.Prelude.{◌≤◌, ◌<◌, length, take, drop}
+use Rattle.std.specs.Prelude.{Option, Some, None}
 use Rattle.columns.specs.declared.Signed.{Signed}
 use Rattle.columns.specs.declared.ParameterLine.{ParameterLine}
 use Rattle.columns.specs.Columns.{columns, line_at, joined}
@@ -9,11 +10,10 @@ use Rattle.columns.specs.Fixed.{NormalSign}
 use Rattle.columns.specs.Decimal.{signed_dec, padded}
 use Rattle.columns.specs.Format.{line_bytes, field_columns}
 use Rattle.directory.specs.declared.Fields.{Fields}
-use Rattle.directory.specs.declared.EntryRead.{EntryRead}
-use Rattle.directory.specs.declared.EntryRead.TheVariants.{Spelt, Wrong}
+use Rattle.directory.specs.declared.Spelt.{Spelt}
 use Rattle.directory.specs.Fields.{in_order}
 use Rattle.directory.specs.Rules.{ranges_ok}
-use Rattle.directory.specs.Lines.{label, slots, slots_a_line, slot_of}
+use Rattle.directory.specs.Lines.{slots, slots_a_line, slot_of}
 
 -- ---- where a slot stands
 
@@ -71,9 +71,9 @@ pub record Within (x : Fields) (from : ParameterLine) (count : ℕ) : Type 0 whe
   pub count_high : count ≤ 99999999
 
 -- the same of an entry, if it was read
-abbrev pub Small : EntryRead → Type 0
-Small (Spelt x from count) = Within x from count
-Small Wrong = Unit {0}
+abbrev pub Small : Option Spelt → Type 0
+Small (Some e) = Within e.fields e.pointer e.lines
+Small None = Unit {0}
 
 -- none is a nought with a sign
 abbrev pub Normals : List Signed → Type 0

@@ -6,7 +6,7 @@
 pub mod lines;
 pub mod order;
 
-use columns::{DirectoryNumber, Fault, ParameterLine, Signed};
+use columns::{DirectoryNumber, ParameterLine, Signed};
 
 // The numbers of an entry as they are spelt, in a file or in a sheet; `entity` is its type, `display` its label display.
 #[derive(Clone, Copy)]
@@ -49,28 +49,17 @@ pub struct Entry {
     pub subscript: u32,
 }
 
-// An entry as its two D lines spell it: its numbers, where its parameters start and how many lines they take; or a wrong field.
+// An entry as its two D lines spell it: its numbers, where its parameters start and how many lines they take.
 #[derive(Clone, Copy)]
-pub enum EntryRead {
-    Spelt {
-        fields: Fields,
-        pointer: ParameterLine,
-        lines: u32,
-    },
-    Wrong,
+pub struct Spelt {
+    pub fields: Fields,
+    pub pointer: ParameterLine,
+    pub lines: u32,
 }
 
-// What rules 9 and 13 say of an entry's numbers.
-#[derive(Clone, Copy)]
-pub enum Rule {
-    Good,
-    Refused(Fault),
-}
-
-// What a reference of an entry asks, if it asks: that this directory number names an entry of the class wanted.
+// What a reference of an entry asks: that this directory number names an entry of the class wanted.
 #[derive(Clone, Copy)]
 pub struct Wanted {
-    pub asked: bool,
     pub number: DirectoryNumber,
     pub want: u8,
 }

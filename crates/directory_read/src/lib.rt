@@ -12,11 +12,11 @@ ghost use Rattle.directory.specs.Lines.{positive, size_of, is_same, spelt_as};
 ghost use Rattle.directory.specs.Reading.{slot_at, Small};
 
 use columns::format::FIELD_COLUMNS;
-use columns::{Field, ParameterLine, Signed, SignedField};
-use directory::{EntryRead, Fields, lines, order};
+use columns::{ParameterLine, Signed};
+use directory::{Fields, Spelt, lines, order};
 
 // What the slot from `at` on holds, a sign allowed.
-fn signed_at(file: &[u8], at: usize) -> SignedField
+fn signed_at(file: &[u8], at: usize) -> Option<Signed>
     requires { at + field_columns ≤ length file.now }
     ensures value { result ≡ signed_of (columns file.now at (at + field_columns)) }
     ensures size_below { SizeBelow 100000000 result }
@@ -25,7 +25,7 @@ fn signed_at(file: &[u8], at: usize) -> SignedField
 }
 
 // What slot j holds, a sign allowed.
-fn signed_in(file: &[u8], k: usize, j: usize) -> SignedField
+fn signed_in(file: &[u8], k: usize, j: usize) -> Option<Signed>
     requires line_bytes_in_bounds { line_bytes * k + 2 * line_bytes ≤ length file.now }
     requires j_bound { j < 18 }
     ensures value { result ≡ signed_of (slot_at file.now k j) }
@@ -36,20 +36,17 @@ fn signed_in(file: &[u8], k: usize, j: usize) -> SignedField
 }
 
 // A field without a sign.
-fn plain(f: Field) -> SignedField
+fn plain(f: Option<u32>) -> Option<Signed>
     ensures { result ≡ with_sign false f }
 {
-    match f {
-        Field::Number(n) => SignedField::Number(Signed {
-            neg: false,
-            size: n,
-        }),
-        Field::Bad => SignedField::Bad,
-    }
+    f.map(|n| Signed {
+        neg: false,
+        size: n,
+    })
 }
 
 // What slot j holds, no sign allowed.
-fn plain_in(file: &[u8], k: usize, j: usize) -> SignedField
+fn plain_in(file: &[u8], k: usize, j: usize) -> Option<Signed>
     requires line_bytes_in_bounds { line_bytes * k + 2 * line_bytes ≤ length file.now }
     requires j_bound { j < 18 }
     ensures { result ≡ with_sign false (field_of (slot_at file.now k j)) }
@@ -66,7 +63,7 @@ fn is_plain(n: usize) -> bool
 }
 
 // Number n of the entry.
-fn number_in(file: &[u8], k: usize, n: usize) -> SignedField
+fn number_in(file: &[u8], k: usize, n: usize) -> Option<Signed>
     requires line_bytes_in_bounds { line_bytes * k + 2 * line_bytes ≤ length file.now }
     requires n_bound { n < 12 }
     ensures { result ≡ number_in file.now k n }
@@ -78,10 +75,10 @@ fn number_in(file: &[u8], k: usize, n: usize) -> SignedField
     signed_in(file, k, j)
 }
 
-fn is_same(x: Signed, f: SignedField) -> bool
+fn is_same(x: Signed, f: Option<Signed>) -> bool
     ensures { result ≡ is_same x f }
 {
-    let SignedField::Number(n) = f else {
+    let Some(n) = f else {
         return false;
     };
     if x.size != n.size {
@@ -93,10 +90,10 @@ fn is_same(x: Signed, f: SignedField) -> bool
     !n.neg
 }
 
-fn is_positive(f: SignedField) -> bool
+fn is_positive(f: Option<Signed>) -> bool
     ensures { result ≡ positive f }
 {
-    let SignedField::Number(n) = f else {
+    let Some(n) = f else {
         return false;
     };
     if n.neg {
@@ -105,37 +102,39 @@ fn is_positive(f: SignedField) -> bool
     1 <= n.size
 }
 
-fn size_of(f: SignedField) -> u32
+fn size_of(f: Option<Signed>) -> u32
     ensures { result ≡ size_of f }
 {
-    match f {
-        SignedField::Number(n) => n.size,
-        SignedField::Bad => 0,
-    }
+    f.map_or(0, |n| n.size)
 }
 
 // The numbers x, with the type again, the parameter pointer and the line count.
-fn spelt_as(x: Fields, again: SignedField, from: SignedField, count: SignedField) -> EntryRead
+fn spelt_as(
+    x: Fields,
+    again: Option<Signed>,
+    from: Option<Signed>,
+    count: Option<Signed>,
+) -> Option<Spelt>
     ensures { result ≡ spelt_as x again from count }
 {
     if !is_same(x.entity, again) {
-        return EntryRead::Wrong;
+        return None;
     }
     if !is_positive(from) {
-        return EntryRead::Wrong;
+        return None;
     }
     if !is_positive(count) {
-        return EntryRead::Wrong;
+        return None;
     }
-    EntryRead::Spelt {
+    Some(Spelt {
         fields: x,
         pointer: ParameterLine(size_of(from)),
         lines: size_of(count),
-    }
+    })
 }
 
 // The entry of the numbers xs.
-fn with_pointer(file: &[u8], k: usize, xs: [Signed; order::NUMBERS]) -> EntryRead
+fn with_pointer(file: &[u8], k: usize, xs: [Signed; order::NUMBERS]) -> Option<Spelt>
     requires line_bytes_in_bounds { line_bytes * k + 2 * line_bytes ≤ length file.now }
     requires k_value { numbers_from file.now k 0 12 ≡ Numbers.numbers xs }
     ensures value { result ≡ entry_at file.now k }
@@ -147,8 +146,9 @@ fn with_pointer(file: &[u8], k: usize, xs: [Signed; order::NUMBERS]) -> EntryRea
     spelt_as(order::fields_of(xs), again, from, count)
 }
 
-// The entry whose first D line is line k.
-pub fn entry_at(file: &[u8], k: usize) -> EntryRead
+// The entry whose first D line is line k; `None` if a field of it is wrong.
+#[tactic(auto, using(crate::proofs::Spelt::entries))]
+pub fn entry_at(file: &[u8], k: usize) -> Option<Spelt>
     requires { line_bytes * k + 2 * line_bytes ≤ length file.now }
     ensures value { result ≡ entry_at file.now k }
     ensures small { Small result }
@@ -158,18 +158,14 @@ pub fn entry_at(file: &[u8], k: usize) -> EntryRead
         size: 0,
     };
     let mut xs = [none; order::NUMBERS];
-    let mut n = 0;
-    while n < order::NUMBERS {
-        let SignedField::Number(x) = number_in(file, k, n) else {
-            return EntryRead::Wrong;
-        };
-        xs[n] = x;
-        n += 1;
+    for n in 0..order::NUMBERS {
+        xs[n] = number_in(file, k, n)?;
     }
     with_pointer(file, k, xs)
 }
 
 // The size of what slot j holds.
+#[tactic(auto, using(crate::proofs::Spelt::sizes))]
 fn size_in(file: &[u8], k: usize, j: usize) -> u32
     requires line_bytes_in_bounds { line_bytes * k + 2 * line_bytes ≤ length file.now }
     requires j_bound { j < 18 }

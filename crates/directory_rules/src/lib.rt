@@ -9,7 +9,7 @@ ghost use Rattle.directory.specs.Rules.{or_less, up_to, signs_ok, limits_ok, pai
 ghost use Rattle.directory.specs.Asking.{rule_of, of_number, of_attribute, reference_count, wanted_of};
 
 use columns::{DirectoryNumber, Fault, Signed};
-use directory::{Attribute, Entry, Fields, Rule, Wanted, order};
+use directory::{Attribute, Entry, Fields, Wanted, order};
 
 // ---- what the numbers mean
 
@@ -118,49 +118,40 @@ fn ranges_ok(x: Fields) -> bool
 }
 
 // Rules 9 and 13.
-pub fn entry_rules(x: Fields) -> Rule
+pub fn entry_rules(x: Fields) -> Result<(), Fault>
     ensures { result ≡ rule_of x }
 {
     if !ranges_ok(x) {
-        return Rule::Refused(Fault::Directory);
+        return Err(Fault::Directory);
     }
     if x.entity.size == 306 {
-        return Rule::Refused(Fault::Macro);
+        return Err(Fault::Macro);
     }
-    Rule::Good
+    Ok(())
 }
 
 // ---- 10
 
-fn of_number(d: DirectoryNumber, want: u8) -> Wanted
+fn of_number(d: DirectoryNumber, want: u8) -> Option<Wanted>
     ensures { result ≡ of_number d want }
 {
-    Wanted {
-        asked: d.0 != 0,
-        number: d,
-        want,
+    if d.0 == 0 {
+        return None;
     }
+    Some(Wanted { number: d, want })
 }
 
-fn of_attribute(a: Attribute, want: u8) -> Wanted
+fn of_attribute(a: Attribute, want: u8) -> Option<Wanted>
     ensures { result ≡ of_attribute a want }
 {
     match a {
-        Attribute::Number(_) => Wanted {
-            asked: false,
-            number: DirectoryNumber(0),
-            want,
-        },
-        Attribute::Reference(d) => Wanted {
-            asked: true,
-            number: d,
-            want,
-        },
+        Attribute::Number(_) => None,
+        Attribute::Reference(d) => Some(Wanted { number: d, want }),
     }
 }
 
-// What reference j of the entry asks: structure, font, level, view, matrix, label display, colour.
-pub fn wanted(e: Entry, j: usize) -> Wanted
+// What reference j of the entry asks, if it asks: structure, font, level, view, matrix, label display, colour.
+pub fn wanted(e: Entry, j: usize) -> Option<Wanted>
     requires { j < reference_count }
     ensures { result ≡ wanted_of e j }
 {

@@ -11,10 +11,7 @@ use borrow.Author.Tests.{le-leb, lt-leb, lt-ltb, le-ltb, eq-eqb, ne_eqb, not-tru
 use Rattle.columns.specs.declared.DirectoryNumber.{DirectoryNumber}
 use Rattle.columns.specs.declared.ParameterLine.{ParameterLine}
 use Rattle.columns.specs.declared.Signed.{Signed}
-use Rattle.columns.specs.declared.SignedField.{SignedField}
-use Rattle.columns.specs.declared.SignedField.TheVariants.{Number as SignedNumber, Bad as SignedBad}
-use Rattle.columns.specs.declared.Field.{Field}
-use Rattle.columns.specs.declared.Field.TheVariants.{Number, Bad}
+use Rattle.std.specs.Prelude.{Option, Some, None, unwrap_or}
 use Rattle.columns.specs.Columns.{columns, line_at}
 use Rattle.columns.specs.Fixed.{field_of, signed_of}
 use Rattle.cards.specs.declared.Counts.{Counts}
@@ -33,35 +30,32 @@ use Rattle.owners.specs.Owners.{name_is, entry_owns, in_range, line_owned, owner
 use Rattle.owners.specs.InFile.{number_or0, size_or0, name_of, owner_in, from_in, count_in, entry_in, line_in, owners_in, line_of, Small}
 use Rattle.columns.proofs.First.{first_ge, first_on, first_here, first_end, call_on, call_here, from_start}
 
-pub number_0 : (f : Field) → f ≡ Bad → 0 ≡ number_or0 f
+pub number_is : (f : Option ℕ) (r : ℕ) → r ≡ unwrap_or f 0 → r ≡ number_or0 f
 unfolding number_or0
-number_0 f e = rw e
-
-pub number-n : (f : Field) (n : ℕ) → f ≡ Number n → n ≡ number_or0 f
-unfolding number_or0
-number-n f n e = rw e
+number_is None r e = e
+number_is (Some n) r e = e
 
 -- with a sign
-pub size_bad : (f : SignedField) → f ≡ SignedBad → 0 ≡ size_or0 f
+pub size_bad : (f : Option Signed) → f ≡ None → 0 ≡ size_or0 f
 unfolding size_or0
 size_bad f e = rw e
 
-pub size_negative : (f : SignedField) (x : Signed) → f ≡ SignedNumber x → x.neg ≡ true → 0 ≡ size_or0 f
+pub size_negative : (f : Option Signed) (x : Signed) → f ≡ Some x → x.neg ≡ true → 0 ≡ size_or0 f
 unfolding size_or0
 size_negative f x e h = rw (e, h)
 
-pub size_some : (f : SignedField) (x : Signed) → f ≡ SignedNumber x → x.neg ≡ false → x.size ≡ size_or0 f
+pub size_some : (f : Option Signed) (x : Signed) → f ≡ Some x → x.neg ≡ false → x.size ≡ size_or0 f
 unfolding size_or0
 size_some f x e h = rw (e, h)
 
-pub size_of : (f : List ℕ) (k j at r : ℕ) (x : SignedField) → at ≡ start_of k j → x ≡ signed_of (columns f at (at + 8)) → r ≡ size_or0 x → r ≡ size_or0 (signed_of (slot_at f k j))
+pub size_of : (f : List ℕ) (k j at r : ℕ) (x : Option Signed) → at ≡ start_of k j → x ≡ signed_of (columns f at (at + 8)) → r ≡ size_or0 x → r ≡ size_or0 (signed_of (slot_at f k j))
 size_of f k j at r x s e q = q ∙ ap size_or0 (slot_signed f k j at s x e)
 
 pub name_none : (f : List ℕ) (l : ℕ) → (get_or f (81 * l + 64) 0 ≡ 32 → ⊥) → 0 ≡ name_of (line_at f l)
 unfolding name_of
 name_none f l h = rw (line-byte f l 64 (omega arith), ne_eqb _ _ h)
 
-pub name_some : (f : List ℕ) (l r : ℕ) (x : Field) → get_or f (81 * l + 64) 0 ≡ 32 → x ≡ field_of (columns f (81 * l + 65) (81 * l + 72)) → r ≡ number_or0 x → r ≡ name_of (line_at f l)
+pub name_some : (f : List ℕ) (l r : ℕ) (x : Option ℕ) → get_or f (81 * l + 64) 0 ≡ 32 → x ≡ field_of (columns f (81 * l + 65) (81 * l + 72)) → r ≡ number_or0 x → r ≡ name_of (line_at f l)
 unfolding name_of
 name_some f l r x h e q = rw (line-byte f l 64 (omega arith), eq-eqb _ _ h, line-columns f l 65 72 (omega arith) (omega arith), ← e) q
 
@@ -77,7 +71,7 @@ pub count-is : (f : List ℕ) (c : Counts) (i l r : ℕ) → l ≡ c.s + c.g + 2
 unfolding count_in slots
 count-is f c i l r e h = rw (in_at f (c.s + c.g + 2 * i) lines, ← e) h
 
-pub ruleset fields = (number_0, number-n, size_bad, size_negative, size_some, size_of, name_none, name_some, owner_is, from_is, count-is)
+pub ruleset fields = (number_is, size_bad, size_negative, size_some, size_of, name_none, name_some, owner_is, from_is, count-is)
 
 -- ---- the first that fails: r is the answer
 

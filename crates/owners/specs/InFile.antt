@@ -1,10 +1,8 @@
 -- The same of a file: the directory number in columns 66-72 of a P line, pointer and line count in their slots of an entry's D lines.
 use Rattle.std.specs.Prelude.{ℕ, ◌+◌, ◌≤◌, Bool, cond, List, get_or, eqb}
+use Rattle.std.specs.Prelude.{Option, Some, None}
+use Rattle.columns.specs.declared.Signed.{Signed}
 use Rattle.columns.specs.declared.Fault.TheVariants.{Ownership}
-use Rattle.columns.specs.declared.Field.{Field}
-use Rattle.columns.specs.declared.Field.TheVariants.{Number, Bad}
-use Rattle.columns.specs.declared.SignedField.{SignedField}
-use Rattle.columns.specs.declared.SignedField.TheVariants.{Number as SignedNumber, Bad as SignedBad}
 use Rattle.columns.specs.Refusal.{Outcome, accepted, refused}
 use Rattle.columns.specs.Columns.{columns, line_at}
 use Rattle.columns.specs.Fixed.{field_of, signed_of}
@@ -18,14 +16,14 @@ use Rattle.owners.specs.declared.Owned.TheVariants.{Everyone, Entry, Line}
 use Rattle.owners.specs.Owners.{entry_owns, line_owned, owners_of}
 
 -- a number, or 0 if it is badly spelt
-unfoldable pub number_or0 : Field → ℕ
-number_or0 Bad = 0
-number_or0 (Number n) = n
+unfoldable pub number_or0 : Option ℕ → ℕ
+number_or0 None = 0
+number_or0 (Some n) = n
 
 -- the same with a sign: 0 also if it is negative
-unfoldable pub size_or0 : SignedField → ℕ
-size_or0 SignedBad = 0
-size_or0 (SignedNumber x) = cond x.neg 0 x.size
+unfoldable pub size_or0 : Option Signed → ℕ
+size_or0 None = 0
+size_or0 (Some x) = cond x.neg 0 x.size
 
 -- the directory number that a P line names: none if column 65 is not blank
 unfoldable pub name_of : List ℕ → ℕ

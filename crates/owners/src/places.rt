@@ -6,29 +6,20 @@ ghost use Rattle.columns.specs.Format.{line_bytes};
 ghost use Rattle.cards.specs.Cards.{entries};
 ghost use Rattle.cards.specs.Rules.{Holds};
 ghost use Rattle.directory.specs.Reading.{slot_at};
-ghost use Rattle.owners.specs.InFile.{number_or0, size_or0, name_of, owner_in, from_in, count_in};
+ghost use Rattle.owners.specs.InFile.{size_or0, name_of, owner_in, from_in, count_in};
 
 use cards::Counts;
 use columns::format::{FIELD_COLUMNS, LINE_BYTES, PARAMETER_COLUMNS, TEXT_COLUMNS};
-use columns::{DirectoryNumber, Field, ParameterLine, SignedField};
+use columns::{DirectoryNumber, ParameterLine, Signed};
 use directory::lines;
 
 // Where a P line has its directory number: behind a blank column.
 const NAME: usize = PARAMETER_COLUMNS + 1;
 
-fn number_or_0(f: Field) -> u32
-    ensures { result ≡ number_or0 f }
-{
-    match f {
-        Field::Number(n) => n,
-        Field::Bad => 0,
-    }
-}
-
-fn size_or_0(f: SignedField) -> u32
+fn size_or_0(f: Option<Signed>) -> u32
     ensures { result ≡ size_or0 f }
 {
-    let SignedField::Number(x) = f else {
+    let Some(x) = f else {
         return 0;
     };
     if x.neg {
@@ -58,7 +49,7 @@ fn name_at(file: &[u8], line: usize) -> DirectoryNumber
         return DirectoryNumber(0);
     }
     let f = columns_fixed::read_field(file, at + NAME, at + TEXT_COLUMNS);
-    DirectoryNumber(number_or_0(f))
+    DirectoryNumber(f.unwrap_or(0))
 }
 
 // What P line k names, or 0.

@@ -1,10 +1,6 @@
--- 9 is asked before 13.
 use borrow.Author.Rules.{rules}
 use Rattle.directory.proofs.Ranges.{ruling}
 use Rattle.directory_rules.proofs.entry_rules.Goals as goal
-
-pub ranges_ok-requires : goal.ranges_ok-requires
-ranges_ok-requires c = search (rules, ruling)
 
 pub returns-then-not-ranges_ok : goal.returns-then-not-ranges_ok
 returns-then-not-ranges_ok c = search (rules, ruling)
