@@ -34,17 +34,16 @@ fn digits(s: &[u8], at: usize, end: usize) -> Field
 }
 
 // Where the columns from `at` up to `end` go on behind their blanks.
+#[tactic(auto, using(columns::proofs::Fixed::blanks))]
 fn behind_blanks(s: &[u8], at: usize, end: usize) -> usize
     requires at_le_end { at ≤ end }
     requires end_in_bounds { end ≤ length s.now }
     ensures { Behind s.now at end result }
 {
-    let mut i = at;
-    while i < end {
+    for i in at..end {
         if s[i] != b' ' {
             return i;
         }
-        i += 1;
     }
     end
 }
