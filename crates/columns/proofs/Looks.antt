@@ -2,34 +2,43 @@
 use mathlib.Core.Path.{◌≡◌, refl, sym, ap, ◌∙◌}
 use mathlib.Core.Bool.{Bool, true, false, ◌&&◌}
 use Prim.Native.Nat.{ℕ, zero, suc, ◌+◌, ◌-◌, ◌≤◌, ◌<◌, min, max}
+use native.Mathlib.Numerals.{add-one}
 use native.Mathlib.Omega.{arith}
 use mathlib.Core.List.{List, [], ◌∷◌, ◌++◌}
-use lib.ListN.{length, get_or, take, drop, replicate, take-append-drop, get_or-eq_default}
+use lib.ListN.{length, get_or, take, drop, replicate, take-append-drop}
+use lib.Seq.{drop-cons}
+use Rattle.std.proofs.lemmas.List.{drop_all}
 use lib.Dec.{leb, eqb}
-use borrow.Author.Tests.{le-leb, lt-leb, eq-eqb, ne_eqb, eqb-true, leb-true, leb-false}
+use borrow.Author.Tests.{le-leb, lt-leb, eq-eqb, eqb-true, leb-true, leb-false}
+use Rattle.std.specs.Prelude.{nat_eq, ◌==◌}
+use Rattle.std.specs.List.{list_all}
+use lib.Pointwise.{pointwise}
 use Rattle.columns.specs.Columns.{columns, printable, blank, same_bytes}
 use Rattle.columns.proofs.Tests.{both, both_left, both_right, both_true, and_true, and_assoc}
-use Rattle.columns.proofs.Columns.{column, columns_all, columns-end}
 
-pub past_end : (s : List ℕ) (i : ℕ) → length s ≤ i → 0 ≡ get_or s i 0
-past_end s i h = sym (get_or-eq_default s 0 h)
+-- ---- columns as a slice: the rest of it behind the bytes passed
 
--- ---- the loops: f is the answer
+pub sliced : (s : List ℕ) (at end : ℕ) → take (end - at) (drop at s) ≡ columns s at end
+unfolding columns
+sliced s at end = refl
 
-module _ (f : Bool) (s : List ℕ) (i end : ℕ) where
-  module _ (inv : blank (columns s i end) ≡ f) where
-    module _ (lt : i < end) (le : end ≤ length s) where
-      pub blank-on : get_or s i 0 ≡ 32 → blank (columns s (i + 1) end) ≡ f
-      unfolding blank
-      blank-on h = simp (blank, eq-eqb _ _ h) at (rw (column s i end lt le) at inv)
+-- what `all` answers of a slice, of its columns
+all_blank : (s : List ℕ) → list_all (λ b. b == 32) s ≡ blank s
+unfolding blank
+all_blank [] = refl
+all_blank (b ∷ s) = rw (all_blank s)
 
-      pub blank_no : (get_or s i 0 ≡ 32 → ⊥) → false ≡ f
-      unfolding blank
-      blank_no h = simp (blank, ne_eqb _ _ h) at (rw (column s i end lt le) at inv)
+pub blank_all : (r : Bool) (s : List ℕ) (at end : ℕ) → r ≡ list_all (λ b. b == 32) (take (end - at) (drop at s)) → r ≡ blank (columns s at end)
+unfolding columns
+blank_all r s at end e = e ∙ all_blank (take (end - at) (drop at s))
 
-    pub blank-end : end ≤ i → true ≡ f
-    unfolding blank
-    blank-end h = rw (columns-end s i end h) at inv
+-- what `==` answers of two slices
+pub same_is : (s t : List ℕ) → pointwise nat_eq s t ≡ same_bytes s t
+unfolding same_bytes
+same_is [] [] = refl
+same_is [] (b ∷ t) = refl
+same_is (a ∷ s) [] = refl
+same_is (a ∷ s) (b ∷ t) = rw (same_is s t)
 
 -- ---- the least and the greatest byte passed: f is the answer
 
@@ -60,41 +69,23 @@ shuffle true false true d p = refl
 shuffle true false false d p = refl
 shuffle false b c d p = refl
 
-pub span_start : (p : Bool) → between 126 32 p ≡ p
+pub span_start : (s : List ℕ) → between 126 32 (printable (drop 0 s)) ≡ printable s
 unfolding between
-span_start p = refl
+span_start s = refl
 
-module _ (f : Bool) (s : List ℕ) (i end low high : ℕ) (inv : between low high (printable (columns s i end)) ≡ f) where
-  pub span_on : (l h : ℕ) → i < end → end ≤ length s → l ≡ min low (get_or s i 0) → h ≡ max high (get_or s i 0) → between l h (printable (columns s (i + 1) end)) ≡ f
+module _ (f : Bool) (s : List ℕ) (i low high : ℕ) (inv : between low high (printable (drop i s)) ≡ f) where
+  pub span_on : (l h : ℕ) → i < length s → l ≡ min low (get_or s i 0) → h ≡ max high (get_or s i 0) → between l h (printable (drop (i + 1) s)) ≡ f
   unfolding between printable
-  span_on l h lt le p q =
-      rw (p, q, least, greatest) (shuffle (leb 32 low) (leb 32 (get_or s i 0)) (leb high 126) (leb (get_or s i 0) 126) (printable (columns s (i + 1) end)) ∙ (rw (column s i end lt le) at inv))
+  span_on l h lt p q =
+      rw (p, q, least, greatest, add-one) (shuffle (leb 32 low) (leb 32 (get_or s i 0)) (leb high 126) (leb (get_or s i 0) 126) (printable (drop (suc i) s)) ∙ (rw (drop-cons s i 0 lt) at inv))
 
   pub span_low : low < 32 → false ≡ f
   unfolding between
   span_low h = rw (lt-leb 32 low h) at inv
 
-  pub span_end : 32 ≤ low → end ≤ i → leb high 126 ≡ f
+  pub span_end : 32 ≤ low → length s ≤ i → leb high 126 ≡ f
   unfolding between printable
-  span_end h k = sym (and_true (leb high 126)) ∙ (rw (le-leb 32 low h, columns-end s i end k) at inv)
-
--- two texts side by side
-module _ (f : Bool) (s t : List ℕ) (i : ℕ) (inv : same_bytes (columns s i (length s)) (columns t i (length t)) ≡ f) (e : length s ≡ length t) where
-  module _ (lt : i < length s) where
-    pub same_on : get_or s i 0 ≡ get_or t i 0 → same_bytes (columns s (i + 1) (length s)) (columns t (i + 1) (length t)) ≡ f
-    unfolding same_bytes
-    same_on h = simp (same_bytes, eq-eqb _ _ h) at (rw (column s i (length s) lt (omega arith), column t i (length t) (omega arith) (omega arith)) at inv)
-
-    pub same_no : (get_or s i 0 ≡ get_or t i 0 → ⊥) → false ≡ f
-    unfolding same_bytes
-    same_no h = simp (same_bytes, ne_eqb _ _ h) at (rw (column s i (length s) lt (omega arith), column t i (length t) (omega arith) (omega arith)) at inv)
-
-  pub same_end : length s ≤ i → true ≡ f
-  unfolding same_bytes
-  same_end h = rw (columns-end s i (length s) h, columns-end t i (length t) (omega arith)) at inv
-
-pub same_start : (s t : List ℕ) → same_bytes (columns s 0 (length s)) (columns t 0 (length t)) ≡ same_bytes s t
-same_start s t = rw (columns_all s, columns_all t)
+  span_end h k = sym (and_true (leb high 126)) ∙ (rw (le-leb 32 low h, drop_all i s k) at inv)
 
 -- ---- the same: true exactly where the two are equal
 
@@ -120,9 +111,7 @@ same_length s t h = pick (same_bytes s t) refl
     pick true e = absurd (h (ap length (same_eq s t e)))
     pick false e = refl
 
-pub ruleset looks = (past_end, blank-on, blank_no, blank-end, same_on, same_no, same_end, same_start, same_length)
-
-pub ruleset spans = (span_start, span_on, span_low, span_end)
+pub ruleset spans = (sliced, span_start, span_on, span_low, span_end)
 
 -- ---- blanks
 

@@ -6,6 +6,7 @@ ghost use Rattle.std.specs.Prelude.{◌≡◌, ◌+◌, ◌-◌, ◌<◌, ◌^�
 ghost use Rattle.columns.specs.Laid.{Wrote};
 
 // Writes b at `at`, if there is room.
+#[tactic(auto, using(columns::proofs::Writes::writes))]
 pub fn put(out: &mut [u8], at: usize, b: u8) -> usize
     requires { at + 1 < 2 ^ 64 }
     ensures wrote { Wrote out.old at (b ∷ []) out.new result }
@@ -18,22 +19,8 @@ pub fn put(out: &mut [u8], at: usize, b: u8) -> usize
     next
 }
 
-// Writes all of s, byte by byte.
-fn put_all_clipped(out: &mut [u8], at: usize, s: &[u8]) -> usize
-    requires { at < 2 ^ 62 }
-    ensures wrote { Wrote out.old at s.now out.new result }
-    ensures value { result ≡ at + length s.now }
-{
-    let mut next = at;
-    let mut i = 0;
-    while i < s.len() {
-        next = put(out, next, s[i]);
-        i += 1;
-    }
-    next
-}
-
-// Writes all of s: where there is room nothing is asked of a byte, past the end nothing is laid.
+// Writes all of s, as far as there is room: nothing is asked of a byte, past the end nothing is laid.
+#[tactic(auto, using(columns::proofs::Writes::copies))]
 pub fn put_all(out: &mut [u8], at: usize, s: &[u8]) -> usize
     requires { at < 2 ^ 62 }
     ensures wrote { Wrote out.old at s.now out.new result }
@@ -43,30 +30,9 @@ pub fn put_all(out: &mut [u8], at: usize, s: &[u8]) -> usize
     if out.len() <= at {
         return end;
     }
-    if out.len() < end {
-        return put_all_clipped(out, at, s);
-    }
-    let mut i = 0;
-    while i < s.len() {
-        out[at + i] = s[i];
-        i += 1;
-    }
+    let last = end.min(out.len());
+    out[at..last].copy_from_slice(&s[..last - at]);
     end
-}
-
-// Writes b count times, one by one.
-fn put_run_clipped(out: &mut [u8], at: usize, b: u8, count: usize) -> usize
-    requires { at + count < 2 ^ 64 }
-    ensures wrote { Wrote out.old at (replicate count b) out.new result }
-    ensures value { result ≡ at + count }
-{
-    let mut next = at;
-    let mut i = 0;
-    while i < count {
-        next = put(out, next, b);
-        i += 1;
-    }
-    next
 }
 
 // Writes b count times, as `put_all` does.
@@ -79,13 +45,7 @@ pub fn put_run(out: &mut [u8], at: usize, b: u8, count: usize) -> usize
     if out.len() <= at {
         return end;
     }
-    if out.len() < end {
-        return put_run_clipped(out, at, b, count);
-    }
-    let mut i = 0;
-    while i < count {
-        out[at + i] = b;
-        i += 1;
-    }
+    let last = end.min(out.len());
+    out[at..last].fill(b);
     end
 }

@@ -30,6 +30,7 @@ pub fn put_char(out: &mut [u8], base: usize, w: usize, p: usize, b: u8) -> usize
 }
 
 // Writes all of s from position p on, character by character.
+#[tactic(auto, using(records::proofs::Puts::puts))]
 fn put_each(out: &mut [u8], base: usize, w: usize, p: usize, s: &[u8]) -> usize
     requires base_bound { base ≤ 2 ^ 40 }
     requires s_bound { p + length s.now ≤ 2 ^ 41 }
@@ -39,10 +40,8 @@ fn put_each(out: &mut [u8], base: usize, w: usize, p: usize, s: &[u8]) -> usize
     ensures value { result ≡ p + length s.now }
 {
     let mut next = p;
-    let mut i = 0;
-    while i < s.len() {
-        next = put_char(out, base, w, next, s[i]);
-        i += 1;
+    for b in s {
+        next = put_char(out, base, w, next, *b);
     }
     next
 }
@@ -68,6 +67,7 @@ pub fn put_all(out: &mut [u8], base: usize, w: usize, p: usize, s: &[u8]) -> usi
 }
 
 // Writes b count times, one by one.
+#[tactic(auto, using(records::proofs::Puts::puts))]
 fn put_times(out: &mut [u8], base: usize, w: usize, p: usize, b: u8, count: usize) -> usize
     requires base_bound { base ≤ 2 ^ 40 }
     requires count_bound { p + count ≤ 2 ^ 41 }
@@ -77,10 +77,8 @@ fn put_times(out: &mut [u8], base: usize, w: usize, p: usize, b: u8, count: usiz
     ensures value { result ≡ p + count }
 {
     let mut next = p;
-    let mut i = 0;
-    while i < count {
+    for _ in 0..count {
         next = put_char(out, base, w, next, b);
-        i += 1;
     }
     next
 }

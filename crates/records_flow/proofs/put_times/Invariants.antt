@@ -1,14 +1,10 @@
--- What is written so far is b, i times.
+-- What is written so far is b, as often as counted.
 use mathlib.Core.Path.{◌≡◌}
-use Prim.Native.Nat.{◌+◌, ◌-◌, ◌≤◌}
-use lib.ListN.{length, replicate}
+use Prim.Native.Nat.{◌+◌}
+use lib.ListN.{replicate}
 use Rattle.records.specs.Written.{Put}
 use Rattle.records_flow.proofs.put_times.Given as goal
 
-abbrev pub invariant-loop-i : goal.invariant-loop-i
-invariant-loop-i l =
-    (l.i ≤ l.count) × (l.next ≡ l.p + l.i) × (length l.out ≡ length l.initial.out)
-    × Put l.base l.w l.initial.out l.p (replicate l.i l.b) l.out l.next
-
-abbrev pub decreases-loop-i : goal.decreases-loop-i
-decreases-loop-i l = l.count - l.i
+abbrev pub invariant-loop : goal.invariant-loop
+invariant-loop l =
+    (l.next ≡ l.p + l.counter) × Put l.base l.w l.initial.out l.p (replicate l.counter l.b) l.out l.next

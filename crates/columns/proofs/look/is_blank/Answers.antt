@@ -1,24 +1,16 @@
 use borrow.Author.Rules.{rules}
-use Rattle.columns.proofs.Looks.{looks}
+use borrow.Author.Tests.{tests}
+use Prim.Native.Nat.{◌-◌}
+use lib.ListN.{take, drop}
+use Rattle.std.specs.Prelude.{◌==◌}
+use Rattle.std.proofs.lemmas.Iterator.{YieldsList-from_slice}
+use Rattle.std.proofs.lemmas.Iterator.Search.{all_from_yields_List}
+use Rattle.columns.proofs.Looks.{blank_all}
 use Rattle.columns.proofs.look.is_blank.Goals as goal
 
-pub loop-i-init : goal.loop-i-init
-loop-i-init c = search (rules, looks)
-
-pub bounds-s-i : goal.bounds-s-i
-bounds-s-i c = search (rules, looks)
-
-pub returns-then-s-i-ne32 : goal.returns-then-s-i-ne32
-returns-then-s-i-ne32 c = search (rules, looks)
-
-pub overflow_add-i : goal.overflow_add-i
-overflow_add-i c = search (rules, looks)
-
-pub loop-i-smaller : goal.loop-i-smaller
-loop-i-smaller c = search (rules, looks)
-
-pub loop-i-preserved : goal.loop-i-preserved
-loop-i-preserved c = search (rules, looks)
-
 pub returns : goal.returns
-returns c = search (rules, looks)
+returns c =
+    let a = c.args in
+    blank_all _ a.s.now a.at a.end
+    (all_from_yields_List (λ b. b == 32) _ _ c.all.result c.all.ensures.ran (YieldsList-from_slice (take (a.end - a.at) (drop a.at a.s.now)) cc)
+    (λ x b q k. search (rules, tests)))
