@@ -7,7 +7,7 @@ ghost use Rattle.columns.specs.Fixed.{digits_of, field_of, is_number, with_sign,
 ghost use Rattle.columns.specs.Reading.{Below, SizeBelow, Behind};
 ghost use Rattle.columns.specs.Format.{field_columns};
 
-use columns::{Field, Signed, SignedField, byte_u32};
+use columns::{Field, Signed, SignedField};
 
 // Digits from `at` up to `end`.
 fn digits(s: &[u8], at: usize, end: usize) -> Field
@@ -27,7 +27,7 @@ fn digits(s: &[u8], at: usize, end: usize) -> Field
         if b'9' < b {
             return Field::Bad;
         }
-        n = n * 10 + byte_u32(b - b'0');
+        n = n * 10 + u32::from(b - b'0');
         i += 1;
     }
     Field::Number(n)
