@@ -1,15 +1,14 @@
 -- Ranges of an entry's numbers: one that is out of its range fails the whole, and so does one that is too wide.
 use mathlib.Core.Path.{◌≡◌, refl, sym, ap, ◌∙◌}
-use mathlib.Core.Bool.{◌||◌, Bool, true, false, cond, not, ◌&&◌}
-use mathlib.Core.List.{List}
-use Prim.Native.Nat.{ℕ, suc, ◌+◌, ◌^◌, ◌≤◌, ◌<◌}
-use native.Mathlib.Numerals.{add-one}
+use mathlib.Core.Bool.{Bool, true, false, cond, not, ◌&&◌}
+use mathlib.Core.List.{List, [], ◌∷◌}
+use Prim.Native.Nat.{ℕ, ◌+◌, ◌^◌, ◌≤◌, ◌<◌}
 use native.Mathlib.Omega.{arith}
 use native.Mathlib.Decide.{dec_lt}
-use lib.ListN.{length, get_or, drop, drop_of_length-le}
-use lib.Seq.{drop-cons}
+use lib.ListN.{length}
 use lib.Dec.{leb, ltb, eqb}
 use borrow.Author.Tests.{le-leb, lt-leb, lt-ltb, le-ltb, ne_eqb, not-true, not-false}
+use Rattle.std.specs.List.{list_all}
 use Rattle.columns.specs.declared.Fault.TheVariants.{Directory, Macro}
 use Rattle.columns.specs.declared.Signed.{Signed}
 use Rattle.columns.specs.Decimal.{dec, minus, signed_dec}
@@ -50,38 +49,11 @@ pub ruleset numbered = (narrow-minus, narrow-plain)
 
 -- ---- all of them, one by one
 
-module _ (f : Bool) (xs : List Signed) (n : ℕ) (inv : narrow (drop n xs) ≡ f) where
-  module _ (h : n < length xs) (x : Bool) (e : x ≡ leb (length (signed_dec (get_or xs n nought))) 8) where
-    next : leb (length (signed_dec (get_or xs n nought))) 8 && narrow (drop (suc n) xs) ≡ f
-    next = rw (drop-cons xs n nought h) at inv
-
-    pub narrow_no : x ≡ false → false ≡ f
-    narrow_no t = rw (← e, t) at next
-
-    pub narrow-on : x ≡ true → narrow (drop (n + 1) xs) ≡ f
-    narrow-on t = rw add-one (rw (← e, t) at next)
-
--- none is left
-pub narrow-end : (xs : List Signed) (n : ℕ) → narrow (drop n xs) ≡ narrow xs → length xs ≡ 12 → 12 ≤ n → true ≡ narrow xs
-narrow-end xs n inv l h = ap narrow (sym (drop_of_length-le xs {i = n} (omega arith))) ∙ inv
-
-pub ruleset narrowing = (not-true, not-false, narrow_no, narrow-on, narrow-end)
+pub narrow_is_all : (xs : List Signed) → list_all (λ x. leb (length (signed_dec x)) 8) xs ≡ narrow xs
+narrow_is_all [] = refl
+narrow_is_all (x ∷ xs) = ap (λ b. leb (length (signed_dec x)) 8 && b) (narrow_is_all xs)
 
 -- ---- the whole
-
--- an answer that is `p && q`: s, which is p, if that is false, else q
-pub and_no : (s p q : Bool) → s ≡ p → s ≡ false → s ≡ (p && q)
-and_no s p q e h = rw (← e, h)
-
-pub and_yes : (s p q r : Bool) → s ≡ p → s ≡ true → r ≡ q → r ≡ (p && q)
-and_yes s p q r e h f = rw (← e, h) f
-
--- an answer that is `p || q` where p is false
-pub or_no : (p q : Bool) → p ≡ false → q ≡ (p || q)
-or_no p q h = rw h
-
-pub narrow_all : (x : Fields) (xs : List Signed) (r : Bool) → xs ≡ in_order x → r ≡ narrow xs → r ≡ narrow (in_order x)
-narrow_all x xs r e h = h ∙ ap narrow e
 
 module _ (x : Fields) where
   -- ---- 9, then 13
@@ -107,7 +79,5 @@ module _ (x : Fields) where
       pick true true = refl
       pick true false = refl
       pick false b = refl
-
-pub ruleset ranging = (and_no, and_yes, or_no, narrow_all)
 
 pub ruleset ruling = (not-true, not-false, rule_9, rule_13, rule_good)

@@ -36,32 +36,20 @@ pub const NUMBERS: usize = 12;
 pub fn in_order(x: Fields) -> [Signed; NUMBERS]
     ensures { result ≡ in_order x }
 {
-    let entity = x.entity;
-    let form = x.form;
-    let structure = x.structure;
-    let font = x.font;
-    let level = x.level;
-    let view = x.view;
-    let matrix = x.matrix;
-    let display = x.display;
-    let status = x.status;
-    let weight = x.weight;
-    let colour = x.colour;
-    let subscript = x.subscript;
-    let mut xs = [entity; NUMBERS];
-    xs[TYPE] = entity;
-    xs[FORM] = form;
-    xs[STRUCTURE] = structure;
-    xs[FONT] = font;
-    xs[LEVEL] = level;
-    xs[VIEW] = view;
-    xs[MATRIX] = matrix;
-    xs[DISPLAY] = display;
-    xs[STATUS] = status;
-    xs[WEIGHT] = weight;
-    xs[COLOUR] = colour;
-    xs[SUBSCRIPT] = subscript;
-    xs
+    [
+        x.entity,
+        x.form,
+        x.structure,
+        x.font,
+        x.level,
+        x.view,
+        x.matrix,
+        x.display,
+        x.status,
+        x.weight,
+        x.colour,
+        x.subscript,
+    ]
 }
 
 // And back.

@@ -23,24 +23,22 @@ fn attribute_of(x: Signed) -> Attribute
 }
 
 // The directory record of an entry's numbers.
+#[tactic(auto, using(directory::proofs::Asked::meaning))]
 pub fn entry_of(x: Fields) -> Entry
     ensures { result ≡ entry_of x }
 {
-    let font = attribute_of(x.font);
-    let level = attribute_of(x.level);
-    let colour = attribute_of(x.colour);
     Entry {
         entity: x.entity.size,
         form: x.form.size,
         structure: DirectoryNumber(x.structure.size),
-        font,
-        level,
+        font: attribute_of(x.font),
+        level: attribute_of(x.level),
         view: DirectoryNumber(x.view.size),
         matrix: DirectoryNumber(x.matrix.size),
         display: DirectoryNumber(x.display.size),
         status: x.status.size,
         weight: x.weight.size,
-        colour,
+        colour: attribute_of(x.colour),
         subscript: x.subscript.size,
     }
 }
@@ -51,9 +49,12 @@ fn signs_ok(x: Fields) -> bool
     ensures { result ≡ signs_ok x }
 {
     !x.entity.neg
-        && (!x.view.neg
-            && (!x.matrix.neg
-                && (!x.display.neg && (!x.weight.neg && (!x.form.neg && !x.subscript.neg)))))
+        && !x.view.neg
+        && !x.matrix.neg
+        && !x.display.neg
+        && !x.weight.neg
+        && !x.form.neg
+        && !x.subscript.neg
 }
 
 fn or_less(x: Signed) -> bool
@@ -71,7 +72,7 @@ fn up_to(most: u32, x: Signed) -> bool
 fn limits_ok(x: Fields) -> bool
     ensures { result ≡ limits_ok x }
 {
-    or_less(x.structure) && (up_to(5, x.font) && up_to(8, x.colour))
+    or_less(x.structure) && up_to(5, x.font) && up_to(8, x.colour)
 }
 
 fn pair_ok(pair: u32, most: u32) -> bool
@@ -80,10 +81,11 @@ fn pair_ok(pair: u32, most: u32) -> bool
     pair % 100 <= most
 }
 
+#[tactic(auto, unfolding(directory::specs::Rules::status_ok))]
 fn status_ok(n: u32) -> bool
     ensures { result ≡ status_ok n }
 {
-    pair_ok(n / 1000000, 1) && (pair_ok(n / 10000, 3) && (pair_ok(n / 100, 5) && pair_ok(n, 2)))
+    pair_ok(n / 1000000, 1) && pair_ok(n / 10000, 3) && pair_ok(n / 100, 5) && pair_ok(n, 2)
 }
 
 // Whether x fits eight columns, its sign counted.
@@ -99,22 +101,15 @@ fn is_narrow(x: Signed) -> bool
 fn all_narrow(xs: [Signed; order::NUMBERS]) -> bool
     ensures { result ≡ narrow xs }
 {
-    let mut n = 0;
-    while n < order::NUMBERS {
-        let x = xs[n];
-        if !is_narrow(x) {
-            return false;
-        }
-        n += 1;
-    }
-    true
+    xs.iter().all(|x| is_narrow(*x))
 }
 
 // Whether every number is in its range and fits its columns.
+#[tactic(auto, unfolding(directory::specs::Rules::ranges_ok))]
 fn ranges_ok(x: Fields) -> bool
     ensures { result ≡ ranges_ok x }
 {
-    signs_ok(x) && (limits_ok(x) && (status_ok(x.status.size) && all_narrow(order::in_order(x))))
+    signs_ok(x) && limits_ok(x) && status_ok(x.status.size) && all_narrow(order::in_order(x))
 }
 
 // Rules 9 and 13.

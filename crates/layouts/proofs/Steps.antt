@@ -253,8 +253,10 @@ module _ (o : LayoutVerdict) (n : ℕ) (t : LayoutState) (p : LayoutPlace) (b : 
   pub end_bad : (x : LayoutState) (g : Stepped) → b ≡ false → x ≡ stand t t.at 1 → g ≡ step x Default 0 → g ≡ Bad → Layout ≡ o
   end_bad x g f ex eg h = sym (end_last x g f ex eg ∙ ap (gone_on (n - 1)) h)
 
-  pub end_go : (x u : LayoutState) (g : Stepped) → b ≡ false → x ≡ stand t t.at 1 → g ≡ step x Default 0 → g ≡ Go u → o ≡ finish (n - 1) u
-  end_go x u g f ex eg h = end_last x g f ex eg ∙ ap (gone_on (n - 1)) h
+  pub end_go : (x u : LayoutState) (g : Stepped) (m : ℕ) → b ≡ false → x ≡ stand t t.at 1 → g ≡ step x Default 0 → g ≡ Go u → n ≡ suc m → o ≡ finish m u
+  end_go x u g m f ex eg h e =
+      let d : n - 1 ≡ m = omega arith in
+      end_last x g f ex eg ∙ ap (gone_on (n - 1)) h ∙ ap (λ (k : ℕ). finish k u) d
 
 pub end_none : (o : LayoutVerdict) (n : ℕ) (t : LayoutState) → o ≡ finish n t → n ≤ 0 → Layout ≡ o
 unfolding finish
@@ -272,6 +274,6 @@ pub started : (typ form b i : ℕ) (r : LayoutState) → b ≡ bit_of typ form �
 unfolding start
 started typ form b i r eb e q = rw (e, eb) at q
 
-pub start-past : (bit : ℕ) → 14 ≤ bit → 0 ≡ start_of bit
+pub start_past : (bit : ℕ) → 14 ≤ bit → 0 ≡ start_of bit
 unfolding start_of paper
-start-past bit h = sym (get_or-eq_default (starts 0 paper) 0 h)
+start_past bit h = sym (get_or-eq_default (starts 0 paper) 0 h)

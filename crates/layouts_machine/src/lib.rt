@@ -16,6 +16,7 @@ use references::NO_ENTRY;
 use values::Value;
 
 // How many places of a kind there are, by what was read.
+#[tactic(auto, using(layouts::proofs::Values::products))]
 fn times_in(t: Times, s: LayoutState) -> u64
     ensures { result ≡ times t s }
 {
@@ -95,15 +96,7 @@ fn onward_of(s: LayoutState) -> LayoutState
 pub fn with_left(s: LayoutState, left: u64) -> LayoutState
     ensures { result ≡ stand s s.at left }
 {
-    LayoutState {
-        at: s.at,
-        left,
-        k1: s.k1,
-        k2: s.k2,
-        m1: s.m1,
-        m2: s.m2,
-        bad: s.bad,
-    }
+    LayoutState { left, ..s }
 }
 
 // One value more, at a place of any kind.
@@ -199,13 +192,12 @@ fn closed_of(bad: bool) -> LayoutVerdict
 }
 
 // No value more: what is missing is a default.
+#[tactic(auto, using(layouts::proofs::Steps::ends))]
 pub fn end(s: LayoutState) -> LayoutVerdict
     ensures { result ≡ end s }
 {
     let mut t = s;
-    let mut n: usize = 16;
-    while 0 < n {
-        n -= 1;
+    for _ in 0..16_usize {
         let p = look(t.at);
         let k = p.kind;
         if rests_in(k) {
@@ -224,17 +216,16 @@ pub fn end(s: LayoutState) -> LayoutVerdict
 // Where the places of each row start.
 const STARTS: [u8; 14] = [0, 6, 13, 19, 26, 32, 45, 60, 69, 79, 88, 95, 102, 109];
 
-fn wide(x: u8) -> usize
-    ensures { (result ≡ x) × (result < 256) }
-{
-    x as usize
-}
-
 // No row: where the first one starts.
+#[tactic(auto, using(layouts::proofs::Steps::start_past), unfolding(layouts::specs::Table::start_of, layouts::specs::Layout::paper))]
 fn start_of(bit: usize) -> usize
     ensures { result ≡ start_of bit }
 {
-    if bit < ROWS { wide(STARTS[bit]) } else { 0 }
+    if bit < ROWS {
+        usize::from(STARTS[bit])
+    } else {
+        0
+    }
 }
 
 // At the first place of a type and form.

@@ -125,22 +125,5 @@ pub fn look(at: usize) -> LayoutPlace
 pub fn rests_in(k: Kind) -> bool
     ensures { result ≡ rests k }
 {
-    match k {
-        Kind::R => false,
-        Kind::Given => false,
-        Kind::Weight => false,
-        Kind::S => false,
-        Kind::I { .. } => false,
-        Kind::Flag => false,
-        Kind::Count => false,
-        Kind::Outer => false,
-        Kind::Upper1 => false,
-        Kind::Upper2 => false,
-        Kind::Degree1 => false,
-        Kind::Degree2 => false,
-        Kind::P { .. } => false,
-        Kind::Q { .. } => false,
-        Kind::Bound { .. } => false,
-        Kind::Rest => true,
-    }
+    matches!(k, Kind::Rest)
 }

@@ -8,12 +8,7 @@ use values::Value;
 pub fn numeric_in(v: Value) -> bool
     ensures { result ≡ numeric v }
 {
-    match v {
-        Value::Default => false,
-        Value::Whole { .. } => true,
-        Value::Real { .. } => true,
-        Value::Text { .. } => false,
-    }
+    matches!(v, Value::Whole { .. } | Value::Real { .. })
 }
 
 // Above zero.
@@ -21,22 +16,16 @@ pub fn above_in(v: Value) -> bool
     ensures { result ≡ above v }
 {
     match v {
-        Value::Default => false,
-        Value::Whole { neg, size: n } => if neg { false } else { 0 < n },
-        Value::Real { neg, m, .. } => if neg { false } else { 0 < m },
-        Value::Text { .. } => false,
+        Value::Whole { neg, size: n } => !neg && 0 < n,
+        Value::Real { neg, m, .. } => !neg && 0 < m,
+        _ => false,
     }
 }
 
 pub fn text_in(v: Value) -> bool
     ensures { result ≡ text v }
 {
-    match v {
-        Value::Default => false,
-        Value::Whole { .. } => false,
-        Value::Real { .. } => false,
-        Value::Text { .. } => true,
-    }
+    matches!(v, Value::Text { .. })
 }
 
 // An integer from low to high; a default is 0 where it need not be given.
@@ -44,18 +33,9 @@ pub fn within_in(given: bool, low: u32, high: u32, v: Value) -> bool
     ensures { result ≡ within given low high v }
 {
     match v {
-        Value::Default => if given { false } else { low == 0 },
-        Value::Whole { neg, size: n } => {
-            if neg {
-                false
-            } else if low <= n {
-                n <= high
-            } else {
-                false
-            }
-        }
-        Value::Real { .. } => false,
-        Value::Text { .. } => false,
+        Value::Default => !given && low == 0,
+        Value::Whole { neg, size: n } => !neg && low <= n && n <= high,
+        _ => false,
     }
 }
 
@@ -64,9 +44,7 @@ pub fn size_in(v: Value) -> u32
     ensures { result ≡ size v }
 {
     match v {
-        Value::Default => 0,
         Value::Whole { size: n, .. } => n,
-        Value::Real { .. } => 0,
-        Value::Text { .. } => 0,
+        _ => 0,
     }
 }

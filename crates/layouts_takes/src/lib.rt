@@ -11,12 +11,6 @@ use values::{Value, is_missing};
 
 const MOST_UPPER: u32 = 10000;
 
-fn either(a: bool, b: bool) -> bool
-    ensures { result ≡ (a || b) }
-{
-    if a { true } else { b }
-}
-
 // A test that fails is refusal 14.
 fn need_of(b: bool, s: LayoutState) -> Stepped
     ensures { result ≡ need b s }
@@ -27,7 +21,7 @@ fn need_of(b: bool, s: LayoutState) -> Stepped
 fn zero_in(free: bool, n: u32) -> bool
     ensures { result ≡ (free && eqb n 0) }
 {
-    if free { n == 0 } else { false }
+    free && n == 0
 }
 
 // A bad reference is kept to the end.
@@ -35,7 +29,7 @@ fn noted(s: LayoutState, bad: bool) -> Stepped
     ensures { result ≡ Stepped.Go (with_bad s (s.bad || bad)) }
 {
     let mut t = s;
-    t.bad = either(s.bad, bad);
+    t.bad = s.bad || bad;
     Stepped::Go(t)
 }
 
@@ -85,7 +79,7 @@ fn refer_in(free: bool, want: u8, s: LayoutState, v: Value, class: u8) -> Steppe
         Value::Default => noted(s, !free),
         Value::Whole { size: n, .. } => noted(
             s,
-            !either(zero_in(free, n), references::fits(want, class)),
+            !(zero_in(free, n) || references::fits(want, class)),
         ),
         Value::Real { .. } => Stepped::Bad,
         Value::Text { .. } => Stepped::Bad,
@@ -93,14 +87,15 @@ fn refer_in(free: bool, want: u8, s: LayoutState, v: Value, class: u8) -> Steppe
 }
 
 // What a place of kind k makes of a value.
+#[tactic(auto, using(crate::proofs::Taking::small_outer, crate::proofs::Taking::small_upper), unfolding(layouts::specs::Machine::takes))]
 pub fn takes_in(k: Kind, s: LayoutState, v: Value, class: u8) -> Stepped
     ensures { result ≡ takes k s v class }
 {
     match k {
-        Kind::R => need_of(either(numeric_in(v), is_missing(v)), s),
+        Kind::R => need_of(numeric_in(v) || is_missing(v), s),
         Kind::Given => need_of(numeric_in(v), s),
         Kind::Weight => need_of(above_in(v), s),
-        Kind::S => need_of(either(text_in(v), is_missing(v)), s),
+        Kind::S => need_of(text_in(v) || is_missing(v), s),
         Kind::I { low, high } => need_of(within_in(false, low, high, v), s),
         Kind::Flag => need_of(within_in(true, 0, 1, v), s),
         Kind::Count => keep_k1(within_in(false, 0, MOST_INTEGER, v), s, size_in(v)),

@@ -21,23 +21,18 @@ pub const ENTRY_308: u8 = 4;
 pub const ENTRY_142: u8 = 5;
 
 // The class of an entry of this type.
+#[tactic(auto, using(crate::proofs::Classes::classes))]
 pub fn class_of(typ: u32) -> u8
     ensures value { result ≡ class_of typ }
     ensures lower_bound { (other_entry ≤ result) × (result ≤ entry142) }
 {
-    if typ == 124 {
-        return ENTRY_124;
+    match typ {
+        124 => ENTRY_124,
+        314 => ENTRY_314,
+        308 => ENTRY_308,
+        142 => ENTRY_142,
+        _ => OTHER_ENTRY,
     }
-    if typ == 314 {
-        return ENTRY_314;
-    }
-    if typ == 308 {
-        return ENTRY_308;
-    }
-    if typ == 142 {
-        return ENTRY_142;
-    }
-    OTHER_ENTRY
 }
 
 // Whether an entry of this class is what a place wants: any entry, or one of the class wanted.

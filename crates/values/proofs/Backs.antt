@@ -2,7 +2,7 @@
 use mathlib.Core.Path.{◌≡◌, refl, sym, ap, ◌∙◌}
 use mathlib.Core.Bool.{Bool, true, false, cond, ◌&&◌, ◌||◌, and-false}
 use mathlib.Core.List.{List, [], ◌∷◌}
-use Prim.Native.Nat.{ℕ, suc, ◌+◌, ◌-◌, ◌*◌, ◌%◌, ◌^◌, ◌≤◌, ◌<◌, min}
+use Prim.Native.Nat.{ℕ, suc, ◌+◌, ◌-◌, ◌*◌, ◌^◌, ◌≤◌, ◌<◌, min}
 use native.Mathlib.Nat.{lt_of_lt_of_le, pow-le-pow_right, pow-suc}
 use native.Mathlib.Decide.{dec_lt}
 use native.Mathlib.Omega.{arith}
@@ -29,7 +29,7 @@ use Rattle.values.specs.Head.{head_of}
 use Rattle.values.specs.Value.{head}
 use Rattle.values.specs.Writing.{Inside, Placed}
 use Rattle.values.specs.Strict.{spelt, numeral, by_head, strict_of}
-use Rattle.values.specs.Direct.{longer, decimal, is_whole, is_nought, is_normal, as_whole, as_real, by_exponent, behind_letter, behind_point, behind_count, behind_digits, direct_of}
+use Rattle.values.specs.Direct.{longer, decimal, is_whole, is_normal, as_whole, as_real, by_exponent, behind_letter, behind_point, behind_count, behind_digits, direct_of}
 use Rattle.values.proofs.Ends.{inside}
 use Rattle.values.proofs.Digits.{here}
 use Rattle.values.proofs.Decimals.{up_to}
@@ -131,15 +131,6 @@ pub ruleset decimals = (decimal_low, decimal_high, decimal_in, decimal-stop, dec
 -- ---- limits
 
 module _ (neg : Bool) (size : ℕ) where
-  pub whole_beyond : 2147483647 < size → false ≡ is_whole neg size
-  whole_beyond h = simp (lt-leb size 2147483647 h)
-
-  pub whole_minus : size ≤ 2147483647 → neg ≡ true → ltb 0 size ≡ is_whole neg size
-  whole_minus h e = simp (le-leb size 2147483647 h, e)
-
-  pub whole_plus : size ≤ 2147483647 → neg ≡ false → true ≡ is_whole neg size
-  whole_plus h e = simp (le-leb size 2147483647 h, e)
-
   module _ {b : Bool} (e : b ≡ is_whole neg size) where
     pub whole_fits : b ≡ true → size < 2 ^ 32
     whole_fits h = omega (arith, leb-true size 2147483647 (both_left (leb size 2147483647) _ (sym e ∙ h)))
@@ -153,30 +144,6 @@ module _ (neg : Bool) (size : ℕ) where
     whole_no h = rw (← e, h)
 
 module _ (neg : Bool) (m : ℕ) (eneg : Bool) (e : ℕ) where
-  pub nought_some : (m ≡ 0 → ⊥) → false ≡ is_nought neg m eneg e
-  nought_some h = simp (ne_eqb m 0 h)
-
-  pub nought-minus : m ≡ 0 → neg ≡ true → false ≡ is_nought neg m eneg e
-  nought-minus z h = simp (z, h)
-
-  pub nought-down : m ≡ 0 → neg ≡ false → eneg ≡ true → false ≡ is_nought neg m eneg e
-  nought-down z h k = simp (z, h, k)
-
-  pub nought_all : m ≡ 0 → neg ≡ false → eneg ≡ false → eqb e 0 ≡ is_nought neg m eneg e
-  nought_all z h k = simp (z, h, k)
-
-  pub normal_far : 400 < e → false ≡ is_normal neg m eneg e
-  normal_far h = simp (lt-leb e 400 h)
-
-  pub normal-nought : {b : Bool} → e ≤ 400 → m % 10 ≡ 0 → b ≡ is_nought neg m eneg e → b ≡ is_normal neg m eneg e
-  normal-nought h z q = simp (le-leb e 400 h, z) q
-
-  pub normal-down : e ≤ 400 → (m % 10 ≡ 0 → ⊥) → eneg ≡ true → ltb 0 e ≡ is_normal neg m eneg e
-  normal-down h z q = simp (le-leb e 400 h, ne_eqb (m % 10) 0 z, q)
-
-  pub normal-up : e ≤ 400 → (m % 10 ≡ 0 → ⊥) → eneg ≡ false → true ≡ is_normal neg m eneg e
-  normal-up h z q = simp (le-leb e 400 h, ne_eqb (m % 10) 0 z, q)
-
   module _ {b : Bool} (q : b ≡ is_normal neg m eneg e) where
     pub real_fits : b ≡ true → e < 2 ^ 32
     real_fits h = omega (arith, leb-true e 400 (both_left (leb e 400) _ (sym q ∙ h)))
@@ -189,19 +156,7 @@ module _ (neg : Bool) (m : ℕ) (eneg : Bool) (e : ℕ) where
     unfolding as_real
     real_no double h = rw (← q, h)
 
-pub spelt_double : (e : ℕ) (double : Bool) → double ≡ true → true ≡ (double || ltb 0 e)
-spelt_double e double h = rw h
-
-pub spelt_single : (e : ℕ) (double : Bool) → double ≡ false → ltb 0 e ≡ (double || ltb 0 e)
-spelt_single e double h = rw h
-
-pub letter_single : (c : ℕ) → c ≡ 69 → true ≡ (eqb c 69 || eqb c 68)
-letter_single c h = rw h
-
-pub letter-other : (c : ℕ) → (c ≡ 69 → ⊥) → eqb c 68 ≡ (eqb c 69 || eqb c 68)
-letter-other c h = simp (ne_eqb c 69 h)
-
-pub ruleset limits = (whole_beyond, whole_minus, whole_plus, whole_fits, whole_yes, whole_no, nought_some, nought-minus, nought-down, nought_all, normal_far, normal-nought, normal-down, normal-up, real_fits, real_yes, real_no, spelt_double, spelt_single, letter_single, letter-other)
+pub ruleset limits = (whole_fits, whole_yes, whole_no, real_fits, real_yes, real_no)
 
 -- ---- what stands behind the digits
 

@@ -102,10 +102,5 @@ pub struct Decimal {
 pub fn is_missing(v: Value) -> bool
     ensures { result ≡ is_missing v }
 {
-    match v {
-        Value::Default => true,
-        Value::Whole { .. } => false,
-        Value::Real { .. } => false,
-        Value::Text { .. } => false,
-    }
+    matches!(v, Value::Default)
 }

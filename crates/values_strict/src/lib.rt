@@ -11,7 +11,7 @@ ghost use Rattle.values.specs.Direct.{decimal, is_whole, is_nought, is_normal, a
 ghost use Rattle.values.specs.Direct.{behind_count};
 
 use columns::format::MOST_INTEGER_WIDE;
-use columns::{byte_u64, look};
+use columns::look;
 use values::{Decimal, Strict, Value};
 
 // Where digits are read to: a number has seventeen at most, and the text ends at n.
@@ -23,6 +23,7 @@ fn stop_of(n: usize, at: usize) -> usize
 }
 
 // The number that stands at `at`, of seventeen digits at most; it ends there if there is none.
+#[tactic(auto, using(values::proofs::Backs::decimals))]
 fn decimal_at(l: &[u8], at: usize) -> Decimal
     requires { at ≤ length l.now }
     ensures value { result ≡ decimal (drop at l.now) at }
@@ -35,13 +36,15 @@ fn decimal_at(l: &[u8], at: usize) -> Decimal
     if b'9' < c {
         return Decimal { value: 0, end: at };
     }
-    let mut v = byte_u64(c - b'0');
-    let mut k = at + 1;
+    let mut v = u64::from(c - b'0');
     if c == b'0' {
-        return Decimal { value: 0, end: k };
+        return Decimal {
+            value: 0,
+            end: at + 1,
+        };
     }
     let stop = stop_of(l.len(), at);
-    while k < stop {
+    for k in at + 1..stop {
         let d = l[k];
         if d < b'0' {
             return Decimal { value: v, end: k };
@@ -49,10 +52,12 @@ fn decimal_at(l: &[u8], at: usize) -> Decimal
         if b'9' < d {
             return Decimal { value: v, end: k };
         }
-        v = v * 10 + byte_u64(d - b'0');
-        k += 1;
+        v = v * 10 + u64::from(d - b'0');
     }
-    Decimal { value: v, end: k }
+    Decimal {
+        value: v,
+        end: stop,
+    }
 }
 
 // How many characters a minus takes.
@@ -66,16 +71,11 @@ fn minus_len(neg: bool) -> usize
 fn is_whole(neg: bool, size: u64) -> bool
     ensures { result ≡ is_whole neg size }
 {
-    if MOST_INTEGER_WIDE < size {
-        return false;
-    }
-    if neg {
-        return 0 < size;
-    }
-    true
+    size <= MOST_INTEGER_WIDE && (!neg || 0 < size)
 }
 
 // An integer that ends with the text.
+#[tactic(auto, using(values::proofs::Backs::limits))]
 fn as_whole(neg: bool, size: u64) -> Strict
     ensures { result ≡ as_whole neg size }
 {
@@ -92,16 +92,7 @@ fn as_whole(neg: bool, size: u64) -> Strict
 fn is_nought(neg: bool, m: u64, eneg: bool, e: u64) -> bool
     ensures { result ≡ is_nought neg m eneg e }
 {
-    if m != 0 {
-        return false;
-    }
-    if neg {
-        return false;
-    }
-    if eneg {
-        return false;
-    }
-    e == 0
+    m == 0 && !neg && !eneg && e == 0
 }
 
 // Whether a real is normal and keeps its limits.
@@ -114,13 +105,11 @@ fn is_normal(neg: bool, m: u64, eneg: bool, e: u64) -> bool
     if m % 10 == 0 {
         return is_nought(neg, m, eneg, e);
     }
-    if eneg {
-        return 0 < e;
-    }
-    true
+    !eneg || 0 < e
 }
 
 // A real that ends with the text.
+#[tactic(auto, using(values::proofs::Backs::limits))]
 fn as_real(neg: bool, m: u64, eneg: bool, e: u64, double: bool) -> Strict
     ensures { result ≡ as_real neg m eneg e double }
 {
@@ -140,10 +129,7 @@ fn as_real(neg: bool, m: u64, eneg: bool, e: u64, double: bool) -> Strict
 fn is_spelt(e: u64, double: bool) -> bool
     ensures { result ≡ (double || ltb 0 e) }
 {
-    if double {
-        return true;
-    }
-    0 < e
+    double || 0 < e
 }
 
 // A real, whose exponent stands at i.
@@ -170,10 +156,7 @@ fn behind_letter(l: &[u8], neg: bool, m: u64, double: bool, i: usize) -> Strict
 fn is_letter(c: u8) -> bool
     ensures { result ≡ (eqb c letter_e || eqb c letter_d) }
 {
-    if c == b'E' {
-        return true;
-    }
-    c == b'D'
+    c == b'E' || c == b'D'
 }
 
 // A real, whose point stands before i.
