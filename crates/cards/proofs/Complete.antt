@@ -9,21 +9,19 @@ use mathlib.Core.List.{List, [], ◌∷◌, ◌++◌}
 use lib.ListN.{length, length-append}
 use borrow.Author.Tests.{le-leb, eq-eqb}
 use Rattle.cards.specs.declared.Counts.{Counts}
-use Rattle.cards.specs.declared.Placed.TheVariants.{Here}
-use Rattle.cards.specs.declared.LineStep.TheVariants.{Next}
-use Rattle.cards.specs.declared.CardsRead.TheVariants.{Counted}
 use Rattle.columns.specs.Columns.{line_at}
 use Rattle.columns.specs.Format.{most_lines}
-use Rattle.cards.specs.Cards.{lines_from, lines_of, counts, place_of, numbered_of, step_of, pass, totals, closes, start, cards_of, total}
+use Rattle.std.specs.Prelude.{Some, Ok}
+use Rattle.cards.specs.Cards.{placed, lines_from, lines_of, counts, place_of, numbered_of, step_of, pass, totals, closes, start, cards_of, total}
 use Rattle.cards.specs.Rules.{Holds, LineIs, letter_at, number_at, Meets}
 use Rattle.cards.proofs.Growth.{at-s, at_g, at-d, at_p, at-t, sound}
 use Rattle.cards.proofs.Laws.{here-here, place-s, place-g, place-d, place-p, place-t, whole_lines, file_good}
 
-line_steps : {b n : ℕ} {l : List ℕ} → LineIs b n l → (c q : Counts) (left : ℕ) → place_of c left b ≡ Here q n → step_of c left l ≡ Next q
+line_steps : {b n : ℕ} {l : List ℕ} → LineIs b n l → (c q : Counts) (left : ℕ) → place_of c left b ≡ Some (placed q n) → step_of c left l ≡ Ok q
 unfolding step_of numbered_of
 line_steps h c q left e = rw (h.ok, h.letter, e, h.number)
 
-pass-one : (c q : Counts) (k : ℕ) (l : List ℕ) (ls : List (List ℕ)) → step_of c (length ls) l ≡ Next q → pass c k (l ∷ ls) ≡ pass q (k + 1) ls
+pass-one : (c q : Counts) (k : ℕ) (l : List ℕ) (ls : List (List ℕ)) → step_of c (length ls) l ≡ Ok q → pass c k (l ∷ ls) ≡ pass q (k + 1) ls
 unfolding pass
 pass-one c q k l ls e = simp (pass, e)
 
@@ -34,7 +32,7 @@ abbrev pub Run : List ℕ → ℕ → ℕ → ℕ → Type 0
 Run f b at m = (i : ℕ) → i < m → LineIs b (i + 1) (line_at f (at + i))
 
 -- where the counts after n lines of letter b are C n
-module _ (f : List ℕ) (b : ℕ) (C : ℕ → Counts) (ok : (n left : ℕ) → (left ≡ 0 → ⊥) → place_of (C n) left b ≡ Here (C (n + 1)) (n + 1)) where
+module _ (f : List ℕ) (b : ℕ) (C : ℕ → Counts) (ok : (n left : ℕ) → (left ≡ 0 → ⊥) → place_of (C n) left b ≡ Some (placed (C (n + 1)) (n + 1))) where
   pass-from : (m n at k : ℕ) (rest : List (List ℕ)) → ((i : ℕ) → i < m → LineIs b (n + i + 1) (line_at f (at + i))) → 0 < length rest
       → pass (C n) k (lines_from f at m ++ rest) ≡ pass (C (n + m)) (k + m) rest
   unfolding lines_from
@@ -55,19 +53,19 @@ module _ (f : List ℕ) (b : ℕ) (C : ℕ → Counts) (ok : (n left : ℕ) → 
   pass-run m at k rest h r = rw (zero-add m) at (pass-from m 0 at k rest (λ i l. rw (zero-add i) (h i l)) r)
 
 -- what each letter does where it stands
-ok_s : (n left : ℕ) → (left ≡ 0 → ⊥) → place_of (counts n 0 0 0 0) left 83 ≡ Here (counts (n + 1) 0 0 0 0) (n + 1)
+ok_s : (n left : ℕ) → (left ≡ 0 → ⊥) → place_of (counts n 0 0 0 0) left 83 ≡ Some (placed (counts (n + 1) 0 0 0 0) (n + 1))
 ok_s n left m = sym (place-s (counts n 0 0 0 0) left 83 (λ z. omega arith) m _ _ refl refl refl)
 
-ok_g : (s : ℕ) → 1 ≤ s → (n left : ℕ) → (left ≡ 0 → ⊥) → place_of (counts s n 0 0 0) left 71 ≡ Here (counts s (n + 1) 0 0 0) (n + 1)
+ok_g : (s : ℕ) → 1 ≤ s → (n left : ℕ) → (left ≡ 0 → ⊥) → place_of (counts s n 0 0 0) left 71 ≡ Some (placed (counts s (n + 1) 0 0 0) (n + 1))
 ok_g s h n left m = sym (place-g (counts s n 0 0 0) left 71 (λ z. omega arith) m (λ z. omega arith) _ _ refl refl (here-here s 0 (n + 1) (counts s (n + 1) 0 0 0) (λ z. omega arith) refl))
 
-ok_d : (s g : ℕ) → 1 ≤ g → (n left : ℕ) → (left ≡ 0 → ⊥) → place_of (counts s g n 0 0) left 68 ≡ Here (counts s g (n + 1) 0 0) (n + 1)
+ok_d : (s g : ℕ) → 1 ≤ g → (n left : ℕ) → (left ≡ 0 → ⊥) → place_of (counts s g n 0 0) left 68 ≡ Some (placed (counts s g (n + 1) 0 0) (n + 1))
 ok_d s g h n left m = sym (place-d (counts s g n 0 0) left 68 (λ z. omega arith) m (λ z. omega arith) (λ z. omega arith) _ _ refl refl (here-here g 0 (n + 1) (counts s g (n + 1) 0 0) (λ z. omega arith) refl))
 
-ok_p : (s g d : ℕ) → 1 ≤ g → (n left : ℕ) → (left ≡ 0 → ⊥) → place_of (counts s g d n 0) left 80 ≡ Here (counts s g d (n + 1) 0) (n + 1)
+ok_p : (s g d : ℕ) → 1 ≤ g → (n left : ℕ) → (left ≡ 0 → ⊥) → place_of (counts s g d n 0) left 80 ≡ Some (placed (counts s g d (n + 1) 0) (n + 1))
 ok_p s g d h n left m = sym (place-p (counts s g d n 0) left 80 (λ z. omega arith) m (λ z. omega arith) (λ z. omega arith) (λ z. omega arith) _ _ refl refl (here-here g 0 (n + 1) (counts s g d (n + 1) 0) (λ z. omega arith) refl))
 
-ok_t : (s g d p : ℕ) → 1 ≤ g → place_of (counts s g d p 0) 0 84 ≡ Here (counts s g d p 1) 1
+ok_t : (s g d p : ℕ) → 1 ≤ g → place_of (counts s g d p 0) 0 84 ≡ Some (placed (counts s g d p 1) 1)
 ok_t s g d p h = sym (place-t (counts s g d p 0) 0 84 _ _ refl refl (here-here g 0 1 (counts s g d p 1) (λ z. omega arith) refl))
 
 -- ---- the whole file
@@ -103,7 +101,7 @@ module _ (f : List ℕ) (s g d p : ℕ) (h : Sections f s g d p) where
       let e : length f / 81 ≡ s + (g + (d + (p + 1))) = omega (arith, h.size) in
       rw (e, lines_split f s (g + (d + (p + 1))) 0, zero-add s, lines_split f g (d + (p + 1)) s, lines_split f d (p + 1) (s + g), lines_split f p 1 (s + g + d))
 
-  pass-file : pass start 1 (lines_of f) ≡ Counted (counts s g d p 1)
+  pass-file : pass start 1 (lines_of f) ≡ Ok (counts s g d p 1)
   unfolding pass
   pass-file = rw all_lines
       (pass-run f 83 (λ n. counts n 0 0 0 0) ok_s s 0 1 _ h.s-lines (simp length-append (omega arith))
@@ -116,7 +114,7 @@ module _ (f : List ℕ) (s g d p : ℕ) (h : Sections f s g d p) where
   unfolding closes
   closing = rw (eq-eqb _ _ h.even) h.t-totals
 
-  pub accepted : cards_of f ≡ Counted (counts s g d p 1)
+  pub accepted : cards_of f ≡ Ok (counts s g d p 1)
   accepted =
       let size : length f ≡ 81 * (s + g + d + p + 1) = h.size in
       let most : s + g + d + p + 1 ≤ most_lines = h.most in
@@ -147,8 +145,8 @@ meets_sections f c m =
     line-at : {b : ℕ} (i n : ℕ) → i < total c → (letter_at c i ≡ b) × (number_at c i ≡ n) → LineIs b n (line_at f i)
     line-at i n h e = rw (e.0, e.1) at (m.line i h)
 
-pub complete : (f : List ℕ) (c : Counts) → Meets f c → cards_of f ≡ Counted c
-complete f c m = accepted f c.s c.g c.d c.p (meets_sections f c m) ∙ ap (λ (t : ℕ). Counted (counts c.s c.g c.d c.p t)) (sym m.holds.has_t)
+pub complete : (f : List ℕ) (c : Counts) → Meets f c → cards_of f ≡ Ok c
+complete f c m = accepted f c.s c.g c.d c.p (meets_sections f c m) ∙ ap (λ (t : ℕ). Ok (counts c.s c.g c.d c.p t)) (sym m.holds.has_t)
 
-pub rules : (f : List ℕ) (c : Counts) → (cards_of f ≡ Counted c) ↔ Meets f c
+pub rules : (f : List ℕ) (c : Counts) → (cards_of f ≡ Ok c) ↔ Meets f c
 rules f c = (λ e. sound f c (cards_of f) refl e, complete f c)

@@ -14,17 +14,15 @@ use Rattle.columns.proofs.Tests.{cond_cases, both}
 use Rattle.cards.specs.Shared.{file_line}
 use Rattle.cards.specs.declared.Counts.{Counts}
 use Rattle.cards.specs.declared.Placed.{Placed}
-use Rattle.cards.specs.declared.Placed.TheVariants.{Here, Nowhere}
-use Rattle.cards.specs.declared.LineStep.{LineStep}
-use Rattle.cards.specs.declared.LineStep.TheVariants.{Next, Wrong}
-use Rattle.cards.specs.declared.CardsRead.{CardsRead}
-use Rattle.cards.specs.declared.CardsRead.TheVariants.{Counted, Refused}
 use Rattle.columns.specs.declared.Fault.{Fault}
 use Rattle.columns.specs.declared.Fault.TheVariants.{ListOrLength, Byte, Sequence, Terminate}
 use Rattle.columns.specs.declared.FileLine.{FileLine}
 use Rattle.columns.specs.Format.{most_lines}
 use Rattle.cards.specs.Rules.{Holds, Known, LineIs, letter_at, number_at, Meets}
-use Rattle.cards.specs.Cards.{lines_from, lines_of, line_ok, seven, counts, here, place_of, numbered_of, step_of, pass, totals, closes, start, closed, length_ok, cards_of, total}
+use Rattle.std.specs.Prelude.{Option, Some, None, Result, Ok, Err}
+use Rattle.columns.specs.Refusal.{refusal_at}
+use Rattle.columns.specs.declared.Refusal.{Refusal}
+use Rattle.cards.specs.Cards.{CardsRead, placed, lines_from, lines_of, line_ok, seven, counts, here, place_of, numbered_of, step_of, pass, totals, closes, start, closed, length_ok, cards_of, total}
 
 -- ---- the five moves
 
@@ -36,16 +34,16 @@ pub data Moves (c : Counts) (left b : ℕ) : Counts → ℕ → Type 0 where
   to-p : b ≡ 80 → (left ≡ 0 → ⊥) → 0 < c.g → c.t ≡ 0 → Moves c left b (counts c.s c.g c.d (c.p + 1) c.t) (c.p + 1)
   to-t : b ≡ 84 → 0 < c.g → c.t ≡ 0 → Moves c left b (counts c.s c.g c.d c.p (c.t + 1)) (c.t + 1)
 
-data Places (c : Counts) (left b : ℕ) : Placed → Type 0 where
-  no_place : Places c left b Nowhere
-  place-of : {q : Counts} {n : ℕ} → Moves c left b q n → Places c left b (Here q n)
+data Places (c : Counts) (left b : ℕ) : Option Placed → Type 0 where
+  no_place : Places c left b None
+  place-of : {p : Placed} → Moves c left b p.counts p.number → Places c left b (Some p)
 
-pub data Steps (c : Counts) (left : ℕ) (l : List ℕ) : LineStep → Type 0 where
-  no_step : {w : Fault} → Steps c left l (Wrong w)
-  step-of : {q : Counts} {n : ℕ} → Moves c left (get_or l 72 0) q n → line_ok l ≡ true → seven l 73 n ≡ true → Steps c left l (Next q)
+pub data Steps (c : Counts) (left : ℕ) (l : List ℕ) : Result Counts Fault → Type 0 where
+  no_step : {w : Fault} → Steps c left l (Err w)
+  step-of : {q : Counts} {n : ℕ} → Moves c left (get_or l 72 0) q n → line_ok l ≡ true → seven l 73 n ≡ true → Steps c left l (Ok q)
 
 here_moves : {c : Counts} {left b : ℕ} (before later : ℕ) (q : Counts) (n : ℕ) → (0 < before → later ≡ 0 → Moves c left b q n) → Places c left b (here before later q n)
-here_moves {c} {left} {b} before later q n h = cond_cases (Places c left b) (ltb 0 before && eqb later 0) (Here q n) Nowhere
+here_moves {c} {left} {b} before later q n h = cond_cases (Places c left b) (ltb 0 before && eqb later 0) (Some (placed q n)) None
     (λ e. place-of (h (ltb-true _ _ (both (ltb 0 before) (eqb later 0) e).0) (eqb-true _ _ (both (ltb 0 before) (eqb later 0) e).1))) (λ e. no_place)
 
 place_moves : (c : Counts) (left b : ℕ) → Places c left b (place_of c left b)
@@ -59,14 +57,14 @@ place_moves c left b =
     cond_cases (Places c left b) (eqb b 68) _ _ (λ e. here_moves g (p + t) (counts s g (d + 1) p t) (d + 1) (λ h k. to-d (eqb-true _ _ e) (eqb-false _ _ l) h k)) (λ x.
     cond_cases (Places c left b) (eqb b 80) _ _ (λ e. here_moves g t (counts s g d (p + 1) t) (p + 1) (λ h k. to-p (eqb-true _ _ e) (eqb-false _ _ l) h k)) (λ x. no_place))))))
 
-numbered_moves : (c : Counts) (left : ℕ) (x : Placed) (l : List ℕ) → line_ok l ≡ true → Places c left (get_or l 72 0) x → Steps c left l (numbered_of x l)
+numbered_moves : (c : Counts) (left : ℕ) (x : Option Placed) (l : List ℕ) → line_ok l ≡ true → Places c left (get_or l 72 0) x → Steps c left l (numbered_of x l)
 unfolding numbered_of
-numbered_moves c left Nowhere l o h = no_step
-numbered_moves c left (Here q n) l o (place-of h) = cond_cases (Steps c left l) (seven l 73 n) (Next q) (Wrong Sequence) (λ e. step-of h o e) (λ e. no_step)
+numbered_moves c left None l o h = no_step
+numbered_moves c left (Some p) l o (place-of h) = cond_cases (Steps c left l) (seven l 73 p.number) (Ok p.counts) (Err Sequence) (λ e. step-of h o e) (λ e. no_step)
 
 pub step_moves : (c : Counts) (left : ℕ) (l : List ℕ) → Steps c left l (step_of c left l)
 unfolding step_of
-step_moves c left l = cond_cases (Steps c left l) (line_ok l) _ (Wrong Byte) (λ e. numbered_moves c left (place_of c left (get_or l 72 0)) l e (place_moves c left (get_or l 72 0))) (λ e. no_step)
+step_moves c left l = cond_cases (Steps c left l) (line_ok l) _ (Err Byte) (λ e. numbered_moves c left (place_of c left (get_or l 72 0)) l e (place_moves c left (get_or l 72 0))) (λ e. no_step)
 
 -- ---- what a move keeps
 
@@ -77,10 +75,10 @@ move_more (to-d e l h k) = omega arith
 move_more (to-p e l h k) = omega arith
 move_more (to-t e h k) = omega arith
 
-next_more : {c q : Counts} {left : ℕ} {l : List ℕ} → Steps c left l (Next q) → total q ≡ total c + 1
+next_more : {c q : Counts} {left : ℕ} {l : List ℕ} → Steps c left l (Ok q) → total q ≡ total c + 1
 next_more (step-of m o s) = move_more m
 
-pub one_more : (c q : Counts) (left k : ℕ) (l : List ℕ) (x : LineStep) → x ≡ step_of c left l → x ≡ Next q → total c ≡ k → total q ≡ k + 1
+pub one_more : (c q : Counts) (left k : ℕ) (l : List ℕ) (x : Result Counts Fault) → x ≡ step_of c left l → x ≡ Ok q → total c ≡ k → total q ≡ k + 1
 one_more c q left k l x ex e h = omega (arith, next_more (rw (← ex, e) at (step_moves c left l)))
 
 move_last : {c q : Counts} {b n : ℕ} (left : ℕ) → Moves c left b q n → left ≡ 0 → q.t ≡ 1
@@ -194,8 +192,8 @@ pub record Ended (c : Counts) (ls : List (List ℕ)) (q : Counts) : Type 0 where
   pub stand : (j : ℕ) → j < length ls → LineIs (letter_at q (total c + j)) (number_at q (total c + j)) (get_or ls j [])
 
 pub data Ends (c : Counts) (ls : List (List ℕ)) : CardsRead → Type 0 where
-  refused : {w : Fault} {k : FileLine} → Ends c ls (Refused w k)
-  counted : {q : Counts} → Ended c ls q → Ends c ls (Counted q)
+  refused : {w : Refusal FileLine} → Ends c ls (Err w)
+  counted : {q : Counts} → Ended c ls q → Ends c ls (Ok q)
 
 -- after T no line passes, so the last is T
 ended-more : {c q r : Counts} {n : ℕ} (l : List ℕ) (ls : List (List ℕ)) → Moves c (length ls) (get_or l 72 0) q n → line_ok l ≡ true → seven l 73 n ≡ true → Ended q ls r → Ended c (l ∷ ls) r
@@ -216,14 +214,14 @@ ended-more {c} {q} {r} l ls m o s e = record {
         let i : total c + suc j ≡ total q + j = omega (arith, move_more m) in
         rw i (e.stand j (omega arith))
 
-ends_step : (c : Counts) (k : ℕ) (l : List ℕ) (ls : List (List ℕ)) (x : LineStep) → Steps c (length ls) l x → ((q : Counts) → Ends q ls (pass q (k + 1) ls))
-    → Ends c (l ∷ ls) (elim x [ Wrong w ↦ Refused w (file_line k) | Next q ↦ pass q (k + 1) ls ])
-ends_step c k l ls (Wrong w) h rec = refused
-ends_step c k l ls (Next q) (step-of m o s) rec = then (pass q (k + 1) ls) (rec q)
+ends_step : (c : Counts) (k : ℕ) (l : List ℕ) (ls : List (List ℕ)) (x : Result Counts Fault) → Steps c (length ls) l x → ((q : Counts) → Ends q ls (pass q (k + 1) ls))
+    → Ends c (l ∷ ls) (elim x [ Err w ↦ Err (refusal_at w (file_line k)) | Ok q ↦ pass q (k + 1) ls ])
+ends_step c k l ls (Err w) h rec = refused
+ends_step c k l ls (Ok q) (step-of m o s) rec = then (pass q (k + 1) ls) (rec q)
   where
     then : (r : CardsRead) → Ends q ls r → Ends c (l ∷ ls) r
-    then (Refused w k) refused = refused
-    then (Counted r) (counted e) = counted (ended-more l ls m o s e)
+    then (Err w) refused = refused
+    then (Ok r) (counted e) = counted (ended-more l ls m o s e)
 
 pass_ends : (ls : List (List ℕ)) (c : Counts) (k : ℕ) → Ends c ls (pass c k ls)
 unfolding pass
@@ -233,8 +231,8 @@ pass_ends (l ∷ ls) c k = ends_step c k l ls (step_of c (length ls) l) (step_mo
 -- ---- the whole file
 
 data Fits (f : List ℕ) : CardsRead → Type 0 where
-  unfit : {w : Fault} {k : FileLine} → Fits f (Refused w k)
-  fit : {c : Counts} → Meets f c → Fits f (Counted c)
+  unfit : {w : Refusal FileLine} → Fits f (Err w)
+  fit : {c : Counts} → Meets f c → Fits f (Ok c)
 
 pub length_lines_from : (f : List ℕ) (n k : ℕ) → length (lines_from f k n) ≡ n
 unfolding lines_from
@@ -250,8 +248,8 @@ line-among f (suc n) k (suc i) h = line-among f n (k + 1) i (omega arith) ∙ ap
 
 closed-fits : (f : List ℕ) (n : ℕ) (r : CardsRead) → length f ≡ 81 * n → 1 ≤ n → n ≤ most_lines → Ends start (lines_from f 0 n) r → Fits f (closed f n r)
 unfolding closed closes
-closed-fits f n (Refused w k) e lo hi h = unfit
-closed-fits f n (Counted c) e lo hi (counted x) = cond_cases (Fits f) (eqb (c.d % 2) 0 && totals c (line_at f (n - 1))) (Counted c) (Refused Terminate (file_line n)) (λ b.
+closed-fits f n (Err w) e lo hi h = unfit
+closed-fits f n (Ok c) e lo hi (counted x) = cond_cases (Fits f) (eqb (c.d % 2) 0 && totals c (line_at f (n - 1))) (Ok c) (Err (refusal_at Terminate (file_line n))) (λ b.
     let m : total c ≡ 0 + length (lines_from f 0 n) = x.more in
     let l : length (lines_from f 0 n) ≡ n = length_lines_from f n 0 in
     let g : Good c = x.good (record { some_s = λ x. refl; some_g = λ x. refl }) in
@@ -273,26 +271,26 @@ closed-fits f n (Counted c) e lo hi (counted x) = cond_cases (Fits f) (eqb (c.d 
 
 file-fits : (f : List ℕ) → Fits f (cards_of f)
 unfolding cards_of length_ok lines_of
-file-fits f = cond_cases (Fits f) (eqb (length f % 81) 0 && (leb 1 (length f / 81) && leb (length f / 81) most_lines)) _ (Refused ListOrLength (file_line 0)) (λ b.
+file-fits f = cond_cases (Fits f) (eqb (length f % 81) 0 && (leb 1 (length f / 81) && leb (length f / 81) most_lines)) _ (Err (refusal_at ListOrLength (file_line 0))) (λ b.
     let p : (eqb (length f % 81) 0 ≡ true) × (leb 1 (length f / 81) && leb (length f / 81) most_lines ≡ true) = both (eqb (length f % 81) 0) (leb 1 (length f / 81) && leb (length f / 81) most_lines) b in
     let q : (leb 1 (length f / 81) ≡ true) × (leb (length f / 81) most_lines ≡ true) = both (leb 1 (length f / 81)) (leb (length f / 81) most_lines) p.1 in
     closed-fits f (length f / 81) (pass start 1 (lines_from f 0 (length f / 81))) (omega (arith, eqb-true (length f % 81) 0 p.0)) (leb-true _ _ q.0) (leb-true _ _ q.1)
     (pass_ends (lines_from f 0 (length f / 81)) start 1)) (λ b. unfit)
 
-fits_meets : {f : List ℕ} {c : Counts} → Fits f (Counted c) → Meets f c
+fits_meets : {f : List ℕ} {c : Counts} → Fits f (Ok c) → Meets f c
 fits_meets (fit h) = h
 
 -- what is accepted meets the rules
-pub sound : (f : List ℕ) (c : Counts) (r : CardsRead) → r ≡ cards_of f → r ≡ Counted c → Meets f c
+pub sound : (f : List ℕ) (c : Counts) (r : CardsRead) → r ≡ cards_of f → r ≡ Ok c → Meets f c
 sound f c r e h = fits_meets (rw (← e, h) at (file-fits f))
 
 -- so its counts hold
 pub known : (f : List ℕ) (r : CardsRead) → r ≡ cards_of f → Known f r
-known f (Refused w k) e = tt
-known f (Counted c) e = (sound f c (Counted c) e refl).holds
+known f (Err w) e = tt
+known f (Ok c) e = (sound f c (Ok c) e refl).holds
 
 pub answer-known : (f : List ℕ) (r : CardsRead) → r ≡ cards_of f → (r ≡ cards_of f) × Known f r
 answer-known f r e = (e, known f r e)
 
-pub holds_of : (f : List ℕ) (c : Counts) (r : CardsRead) → Known f r → r ≡ Counted c → Holds f c
+pub holds_of : (f : List ℕ) (c : Counts) (r : CardsRead) → Known f r → r ≡ Ok c → Holds f c
 holds_of f c r h e = rw e at h

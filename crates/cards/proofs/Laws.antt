@@ -15,16 +15,13 @@ use Rattle.columns.proofs.Tests.{both_left, both_right}
 use Rattle.cards.specs.Shared.{file_line}
 use Rattle.cards.specs.declared.Counts.{Counts}
 use Rattle.cards.specs.declared.Placed.{Placed}
-use Rattle.cards.specs.declared.Placed.TheVariants.{Here, Nowhere}
-use Rattle.cards.specs.declared.LineStep.{LineStep}
-use Rattle.cards.specs.declared.LineStep.TheVariants.{Next, Wrong}
-use Rattle.cards.specs.declared.CardsRead.{CardsRead}
-use Rattle.cards.specs.declared.CardsRead.TheVariants.{Counted, Refused}
 use Rattle.columns.specs.declared.Fault.{Fault}
 use Rattle.columns.specs.declared.Fault.TheVariants.{ListOrLength, Byte, Section, Sequence, Terminate}
 use Rattle.columns.specs.Format.{most_lines}
 use Rattle.cards.proofs.Growth.{one_more, length_lines_from}
-use Rattle.cards.specs.Cards.{lines_from, lines_of, line_ok, seven, counts, here, place_of, numbered_of, step_of, pass, tells, totals, closes, start, closed, length_ok, cards_of}
+use Rattle.std.specs.Prelude.{Option, Some, None, Result, Ok, Err}
+use Rattle.columns.specs.Refusal.{refusal_at}
+use Rattle.cards.specs.Cards.{CardsRead, placed, lines_from, lines_of, line_ok, seven, counts, here, place_of, numbered_of, step_of, pass, tells, totals, closes, start, closed, length_ok, cards_of}
 
 -- ---- a line's bytes and LF
 
@@ -40,46 +37,46 @@ pub ruleset lines = (line_no_end, line-end)
 
 -- ---- where a line stands
 
-pub here_first : (before later n : ℕ) (c : Counts) → before ≡ 0 → Nowhere ≡ here before later c n
+pub here_first : (before later n : ℕ) (c : Counts) → before ≡ 0 → None ≡ here before later c n
 here_first before later n c h = rw h
 
-pub here_later : (before later n : ℕ) (c : Counts) → (before ≡ 0 → ⊥) → (later ≡ 0 → ⊥) → Nowhere ≡ here before later c n
+pub here_later : (before later n : ℕ) (c : Counts) → (before ≡ 0 → ⊥) → (later ≡ 0 → ⊥) → None ≡ here before later c n
 here_later before later n c h k = rw (lt-ltb 0 before (omega arith), ne_eqb _ _ k)
 
-pub here-here : (before later n : ℕ) (c : Counts) → (before ≡ 0 → ⊥) → later ≡ 0 → Here c n ≡ here before later c n
+pub here-here : (before later n : ℕ) (c : Counts) → (before ≡ 0 → ⊥) → later ≡ 0 → Some (placed c n) ≡ here before later c n
 here-here before later n c h k = rw (lt-ltb 0 before (omega arith), eq-eqb _ _ k)
 
 module _ (c : Counts) (left b : ℕ) where
-  pub place-t : (r : Placed) (q : Counts) → b ≡ 84 → q ≡ counts c.s c.g c.d c.p (c.t + 1) → r ≡ here c.g c.t q (c.t + 1) → r ≡ place_of c left b
+  pub place-t : (r : Option Placed) (q : Counts) → b ≡ 84 → q ≡ counts c.s c.g c.d c.p (c.t + 1) → r ≡ here c.g c.t q (c.t + 1) → r ≡ place_of c left b
   unfolding place_of
   place-t r q h k e = rw (eq-eqb _ _ h, ← k) e
 
   module _ (n84 : b ≡ 84 → ⊥) where
-    pub place_last : left ≡ 0 → Nowhere ≡ place_of c left b
+    pub place_last : left ≡ 0 → None ≡ place_of c left b
     unfolding place_of
     place_last h = rw (ne_eqb _ _ n84, h)
 
     module _ (more : left ≡ 0 → ⊥) where
-      pub place-s : (r : Placed) (q : Counts) → b ≡ 83 → q ≡ counts (c.s + 1) c.g c.d c.p c.t → r ≡ here 1 (c.g + c.d + c.p + c.t) q (c.s + 1) → r ≡ place_of c left b
+      pub place-s : (r : Option Placed) (q : Counts) → b ≡ 83 → q ≡ counts (c.s + 1) c.g c.d c.p c.t → r ≡ here 1 (c.g + c.d + c.p + c.t) q (c.s + 1) → r ≡ place_of c left b
       unfolding place_of
       place-s r q h k e = rw (ne_eqb _ _ n84, ne_eqb _ _ more, eq-eqb _ _ h, ← k) e
 
       module _ (n83 : b ≡ 83 → ⊥) where
-        pub place-g : (r : Placed) (q : Counts) → b ≡ 71 → q ≡ counts c.s (c.g + 1) c.d c.p c.t → r ≡ here c.s (c.d + c.p + c.t) q (c.g + 1) → r ≡ place_of c left b
+        pub place-g : (r : Option Placed) (q : Counts) → b ≡ 71 → q ≡ counts c.s (c.g + 1) c.d c.p c.t → r ≡ here c.s (c.d + c.p + c.t) q (c.g + 1) → r ≡ place_of c left b
         unfolding place_of
         place-g r q h k e = rw (ne_eqb _ _ n84, ne_eqb _ _ more, ne_eqb _ _ n83, eq-eqb _ _ h, ← k) e
 
         module _ (n71 : b ≡ 71 → ⊥) where
-          pub place-d : (r : Placed) (q : Counts) → b ≡ 68 → q ≡ counts c.s c.g (c.d + 1) c.p c.t → r ≡ here c.g (c.p + c.t) q (c.d + 1) → r ≡ place_of c left b
+          pub place-d : (r : Option Placed) (q : Counts) → b ≡ 68 → q ≡ counts c.s c.g (c.d + 1) c.p c.t → r ≡ here c.g (c.p + c.t) q (c.d + 1) → r ≡ place_of c left b
           unfolding place_of
           place-d r q h k e = rw (ne_eqb _ _ n84, ne_eqb _ _ more, ne_eqb _ _ n83, ne_eqb _ _ n71, eq-eqb _ _ h, ← k) e
 
           module _ (n68 : b ≡ 68 → ⊥) where
-            pub place-p : (r : Placed) (q : Counts) → b ≡ 80 → q ≡ counts c.s c.g c.d (c.p + 1) c.t → r ≡ here c.g c.t q (c.p + 1) → r ≡ place_of c left b
+            pub place-p : (r : Option Placed) (q : Counts) → b ≡ 80 → q ≡ counts c.s c.g c.d (c.p + 1) c.t → r ≡ here c.g c.t q (c.p + 1) → r ≡ place_of c left b
             unfolding place_of
             place-p r q h k e = rw (ne_eqb _ _ n84, ne_eqb _ _ more, ne_eqb _ _ n83, ne_eqb _ _ n71, ne_eqb _ _ n68, eq-eqb _ _ h, ← k) e
 
-            pub place_none : (b ≡ 80 → ⊥) → Nowhere ≡ place_of c left b
+            pub place_none : (b ≡ 80 → ⊥) → None ≡ place_of c left b
             unfolding place_of
             place_none h = rw (ne_eqb _ _ n84, ne_eqb _ _ more, ne_eqb _ _ n83, ne_eqb _ _ n71, ne_eqb _ _ n68, ne_eqb _ _ h)
 
@@ -101,26 +98,26 @@ unfolding tells
 tells-line f at a b n h = rw (byte_of f at (at + 81) a (omega arith), seven-line f at (a + 1) n (omega arith), ← add_assoc)
 
 module _ (f : List ℕ) (k left : ℕ) (c : Counts) (ok : Bool) (eo : ok ≡ line_ok (columns f (81 * k) (81 * k + 81))) where
-  pub step-bytes : ok ≡ false → Wrong Byte ≡ step_of c left (line_at f k)
+  pub step-bytes : ok ≡ false → Err Byte ≡ step_of c left (line_at f k)
   unfolding step_of line_at
   step-bytes h = rw (← eo, h)
 
-  module _ (h : ok ≡ true) (x : Placed) (ex : x ≡ place_of c left (get_or f (81 * k + 72) 0)) where
+  module _ (h : ok ≡ true) (x : Option Placed) (ex : x ≡ place_of c left (get_or f (81 * k + 72) 0)) where
     place_at_lem : step_of c left (line_at f k) ≡ numbered_of x (columns f (81 * k) (81 * k + 81))
     unfolding step_of line_at
     place_at_lem = rw (← eo, h, byte_of f (81 * k) (81 * k + 81) 72 (omega arith), ← ex)
 
-    pub step_order : x ≡ Nowhere → Wrong Section ≡ step_of c left (line_at f k)
+    pub step_order : x ≡ None → Err Section ≡ step_of c left (line_at f k)
     unfolding numbered_of
     step_order e = rw (place_at_lem, e)
 
-    pub step-number : (q : Counts) (n : ℕ) (y : Bool) → x ≡ Here q n → y ≡ is_number (field_of (columns f (81 * k + 73) (81 * k + 80))) n → y ≡ false → Wrong Sequence ≡ step_of c left (line_at f k)
+    pub step-number : (p : Placed) (y : Bool) → x ≡ Some p → y ≡ is_number (field_of (columns f (81 * k + 73) (81 * k + 80))) p.number → y ≡ false → Err Sequence ≡ step_of c left (line_at f k)
     unfolding numbered_of
-    step-number q n y e ey z = rw (place_at_lem, e, number-line f (81 * k) n, ← ey, z)
+    step-number p y e ey z = rw (place_at_lem, e, number-line f (81 * k) p.number, ← ey, z)
 
-    pub step-next : (q : Counts) (n : ℕ) (y : Bool) → x ≡ Here q n → y ≡ is_number (field_of (columns f (81 * k + 73) (81 * k + 80))) n → y ≡ true → Next q ≡ step_of c left (line_at f k)
+    pub step-next : (p : Placed) (y : Bool) → x ≡ Some p → y ≡ is_number (field_of (columns f (81 * k + 73) (81 * k + 80))) p.number → y ≡ true → Ok p.counts ≡ step_of c left (line_at f k)
     unfolding numbered_of
-    step-next q n y e ey z = rw (place_at_lem, e, number-line f (81 * k) n, ← ey, z)
+    step-next p y e ey z = rw (place_at_lem, e, number-line f (81 * k) p.number, ← ey, z)
 
 pub ruleset steps = (not-true, not-false, step-bytes, step_order, step-number, step-next)
 
@@ -172,16 +169,16 @@ lines_more f k n h =
     rw e
 
 module _ (r : CardsRead) (f : List ℕ) (c : Counts) (k n : ℕ) (inv : pass c (k + 1) (lines_from f k (n - k)) ≡ r) where
-  module _ (lt : k < n) (x : LineStep) (ex : x ≡ step_of c (n - (k + 1)) (line_at f k)) where
-    pub pass-wrong : (w : Fault) → x ≡ Wrong w → Refused w (file_line (k + 1)) ≡ r
+  module _ (lt : k < n) (x : Result Counts Fault) (ex : x ≡ step_of c (n - (k + 1)) (line_at f k)) where
+    pub pass-wrong : (w : Fault) → x ≡ Err w → Err (refusal_at w (file_line (k + 1))) ≡ r
     unfolding pass
     pass-wrong w e = simp (pass, length_lines_from, ← ex, e) at (rw (lines_more f k n lt) at inv)
 
-    pub pass-next : (q : Counts) → x ≡ Next q → pass q (k + 1 + 1) (lines_from f (k + 1) (n - (k + 1))) ≡ r
+    pub pass-next : (q : Counts) → x ≡ Ok q → pass q (k + 1 + 1) (lines_from f (k + 1) (n - (k + 1))) ≡ r
     unfolding pass
     pass-next q e = simp (pass, length_lines_from, ← ex, e) at (rw (lines_more f k n lt) at inv)
 
-  pub pass-end : k ≤ n → n ≤ k → Counted c ≡ r
+  pub pass-end : k ≤ n → n ≤ k → Ok c ≡ r
   unfolding pass lines_from
   pass-end le ge =
       let e : k ≡ n = omega arith in
@@ -214,7 +211,7 @@ unfolding length_ok
 few_lines n x ex h = leb-true _ _ (both_right (leb 1 (n / 81)) (leb (n / 81) most_lines) (both_right (eqb (n % 81) 0) _ (sym ex ∙ h)))
 
 module _ (f : List ℕ) where
-  pub not_long : (x : Bool) → x ≡ length_ok (length f) → x ≡ false → Refused ListOrLength (file_line 0) ≡ cards_of f
+  pub not_long : (x : Bool) → x ≡ length_ok (length f) → x ≡ false → Err (refusal_at ListOrLength (file_line 0)) ≡ cards_of f
   unfolding cards_of
   not_long x ex h = rw (← ex, h)
 
@@ -223,15 +220,15 @@ module _ (f : List ℕ) where
     unfolding cards_of
     inside r e = rw (← ey, ok, ← e)
 
-    pub file-wrong : (w : Fault) (k : ℕ) → Refused w (file_line k) ≡ pass start 1 (lines_of f) → Refused w (file_line k) ≡ cards_of f
+    pub file-wrong : (w : Fault) (k : ℕ) → Err (refusal_at w (file_line k)) ≡ pass start 1 (lines_of f) → Err (refusal_at w (file_line k)) ≡ cards_of f
     unfolding closed
     file-wrong w k e = sym (inside _ e)
 
-    pub file_open : (c : Counts) (x : Bool) → Counted c ≡ pass start 1 (lines_of f) → x ≡ closes c (line_at f (length f / 81 - 1)) → x ≡ false → Refused Terminate (file_line (length f / 81)) ≡ cards_of f
+    pub file_open : (c : Counts) (x : Bool) → Ok c ≡ pass start 1 (lines_of f) → x ≡ closes c (line_at f (length f / 81 - 1)) → x ≡ false → Err (refusal_at Terminate (file_line (length f / 81))) ≡ cards_of f
     unfolding closed
     file_open c x e ex h = rw (inside _ e, ← ex, h)
 
-    pub file_good : (c : Counts) (x : Bool) → Counted c ≡ pass start 1 (lines_of f) → x ≡ closes c (line_at f (length f / 81 - 1)) → x ≡ true → Counted c ≡ cards_of f
+    pub file_good : (c : Counts) (x : Bool) → Ok c ≡ pass start 1 (lines_of f) → x ≡ closes c (line_at f (length f / 81 - 1)) → x ≡ true → Ok c ≡ cards_of f
     unfolding closed
     file_good c x e ex h = rw (inside _ e, ← ex, h)
 

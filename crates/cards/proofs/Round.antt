@@ -17,7 +17,7 @@ use Rattle.columns.proofs.Looks.{print_both, print_cons, print_replicate, blank-
 use Rattle.columns.proofs.Decimals.{length_dec_le, length_right, dec-digits, print_digits, print_right}
 use Rattle.columns.proofs.Round.{field_zero_filled}
 use Rattle.cards.specs.declared.Counts.{Counts}
-use Rattle.cards.specs.declared.CardsRead.TheVariants.{Counted}
+use Rattle.std.specs.Prelude.{Ok}
 use Rattle.cards.specs.Cards.{lines_from, lines_of, line_ok, seven, tells, totals, cards_of, total}
 use Rattle.cards.specs.Written.{Body, All, Bodies, none, one, zeros, line_of, section, totals_of, counts_of, file_lines, file_of}
 use Rattle.columns.specs.Columns.{joined}
@@ -274,7 +274,7 @@ module _ (S G D P : List (List ℕ)) (bs : Bodies S) (bg : Bodies G) (bd : Bodie
     pub p-columns : i < p → columns (line_at F (s + g + d + i)) a e ≡ columns (get_or P i []) a e
     p-columns h = rw (p-line i h) (line_body (get_or P i []) 80 (i + 1) (body_of bp i h) (omega arith) a e order inside)
 
-  pub round : 1 ≤ s → 1 ≤ g → d % 2 ≡ 0 → cards_of F ≡ Counted (counts_of S G D P)
+  pub round : 1 ≤ s → 1 ≤ g → d % 2 ≡ 0 → cards_of F ≡ Ok (counts_of S G D P)
   unfolding file_of
   round hs hg even = accepted F s g d p (record {
     size = length-joined whole_file ∙ ap (λ (n : ℕ). 81 * n) length-file;

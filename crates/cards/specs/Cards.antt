@@ -1,20 +1,18 @@
 -- "Lines" of the paper: bytes and LF, section letters and their order, sequence numbers, the T line; the refusals 1 to 5 in their order.
 -- What has gone before a line is told by the counts alone: the section reached is the last with a line in it, and a line's number follows.
 use Rattle.std.specs.Prelude.{ℕ, zero, suc, ◌+◌, ◌-◌, ◌*◌, ◌/◌, ◌%◌, Bool, cond, ◌&&◌, List, [], ◌∷◌}
-use Rattle.std.specs.Prelude.{length, get_or, leb, ltb, eqb}
+use Rattle.std.specs.Prelude.{length, get_or, leb, ltb, eqb, Option, Some, None, Result, Ok, Err}
 use Rattle.columns.specs.declared.Fault.TheVariants.{ListOrLength, Byte, Section, Sequence, Terminate}
-use Rattle.columns.specs.Refusal.{Outcome, accepted, refused}
+use Rattle.columns.specs.declared.Fault.{Fault}
+use Rattle.columns.specs.declared.FileLine.{FileLine}
+use Rattle.columns.specs.declared.Refusal.{Refusal}
+use Rattle.columns.specs.Refusal.{Outcome, accepted, refused, refusal_at}
 use Rattle.columns.specs.Columns.{columns, printable, blank, line_at}
 use Rattle.columns.specs.Fixed.{field_of, is_number}
 use Rattle.columns.specs.Format.{line_columns, line_bytes, text_columns, field_columns, most_lines}
 use Rattle.columns.specs.Letters.{newline, letter_d, letter_g, letter_p, letter_s, letter_t}
 use Rattle.cards.specs.declared.Counts.{Counts}
 use Rattle.cards.specs.declared.Placed.{Placed}
-use Rattle.cards.specs.declared.Placed.TheVariants.{Here, Nowhere}
-use Rattle.cards.specs.declared.LineStep.{LineStep}
-use Rattle.cards.specs.declared.LineStep.TheVariants.{Next, Wrong}
-use Rattle.cards.specs.declared.CardsRead.{CardsRead}
-use Rattle.cards.specs.declared.CardsRead.TheVariants.{Counted, Refused}
 use Rattle.cards.specs.Shared.{file_line}
 
 -- n lines of a file, from line k on
@@ -42,35 +40,43 @@ counts s g d p t = record { s = s; g = g; d = d; p = p; t = t }
 abbrev pub total : Counts → ℕ
 total c = c.s + c.g + c.d + c.p + c.t
 
+-- these counts, and this number in its section
+abbrev pub placed : Counts → ℕ → Placed
+placed c n = record { counts = c; number = n }
+
 -- a line stands here if what it needs before it is there, and nothing of a later section is
-abbrev pub here : ℕ → ℕ → Counts → ℕ → Placed
-here before later c n = cond (ltb 0 before && eqb later 0) (Here c n) Nowhere
+abbrev pub here : ℕ → ℕ → Counts → ℕ → Option Placed
+here before later c n = cond (ltb 0 before && eqb later 0) (Some (placed c n)) None
 
 -- the counts with a line of letter b, which left more lines follow, and its number in its section: T, S, G, D, P
-unfoldable pub place_of : Counts → ℕ → ℕ → Placed
+unfoldable pub place_of : Counts → ℕ → ℕ → Option Placed
 place_of c left b =
     let (s, g, d, p, t) : ℕ × ℕ × ℕ × ℕ × ℕ = (c.s, c.g, c.d, c.p, c.t) in
     cond (eqb b letter_t) (here g t (counts s g d p (t + 1)) (t + 1))
-    (cond (eqb left 0) Nowhere
+    (cond (eqb left 0) None
     (cond (eqb b letter_s) (here 1 (g + d + p + t) (counts (s + 1) g d p t) (s + 1))
     (cond (eqb b letter_g) (here s (d + p + t) (counts s (g + 1) d p t) (g + 1))
     (cond (eqb b letter_d) (here g (p + t) (counts s g (d + 1) p t) (d + 1))
     (cond (eqb b letter_p) (here g t (counts s g d (p + 1) t) (p + 1))
-    Nowhere)))))
+    None)))))
 
 -- its number in columns 74-80
-unfoldable pub numbered_of : Placed → List ℕ → LineStep
-numbered_of Nowhere l = Wrong Section
-numbered_of (Here c n) l = cond (seven l (text_columns + 1) n) (Next c) (Wrong Sequence)
+unfoldable pub numbered_of : Option Placed → List ℕ → Result Counts Fault
+numbered_of None l = Err Section
+numbered_of (Some p) l = cond (seven l (text_columns + 1) p.number) (Ok p.counts) (Err Sequence)
 
 -- one line: its bytes, then its place, then its number
-unfoldable pub step_of : Counts → ℕ → List ℕ → LineStep
-step_of c left l = cond (line_ok l) (numbered_of (place_of c left (get_or l text_columns 0)) l) (Wrong Byte)
+unfoldable pub step_of : Counts → ℕ → List ℕ → Result Counts Fault
+step_of c left l = cond (line_ok l) (numbered_of (place_of c left (get_or l text_columns 0)) l) (Err Byte)
+
+-- the counts of a file's sections, or its first refusal and that one's line
+abbrev pub CardsRead : Type 0
+CardsRead = Result Counts (Refusal FileLine)
 
 -- line by line, the first of them line k of the file
 unfoldable pub pass : Counts → ℕ → List (List ℕ) → CardsRead
-pass c k [] = Counted c
-pass c k (l ∷ ls) = elim (step_of c (length ls) l) [ Wrong w ↦ Refused w (file_line k) | Next q ↦ pass q (k + 1) ls ]
+pass c k [] = Ok c
+pass c k (l ∷ ls) = elim (step_of c (length ls) l) [ Err w ↦ Err (refusal_at w (file_line k)) | Ok q ↦ pass q (k + 1) ls ]
 
 -- a letter and a section's last sequence number
 unfoldable pub tells : List ℕ → ℕ → ℕ → ℕ → Bool
@@ -94,8 +100,8 @@ start = counts 0 0 0 0 0
 
 -- after all lines: the T line, which is line n
 unfoldable pub closed : List ℕ → ℕ → CardsRead → CardsRead
-closed f n (Refused w k) = Refused w k
-closed f n (Counted c) = cond (closes c (line_at f (n - 1))) (Counted c) (Refused Terminate (file_line n))
+closed f n (Err r) = Err r
+closed f n (Ok c) = cond (closes c (line_at f (n - 1))) (Ok c) (Err (refusal_at Terminate (file_line n)))
 
 -- a length of whole lines, from 1 to the most
 unfoldable pub length_ok : ℕ → Bool
@@ -103,12 +109,13 @@ length_ok n = eqb (n % line_bytes) 0 && (leb 1 (n / line_bytes) && leb (n / line
 
 -- the counts of a file's sections, or its first refusal of 1 to 5
 unfoldable pub cards_of : List ℕ → CardsRead
-cards_of f = cond (length_ok (length f)) (closed f (length f / line_bytes) (pass start 1 (lines_of f))) (Refused ListOrLength (file_line 0))
+cards_of f =
+    cond (length_ok (length f)) (closed f (length f / line_bytes) (pass start 1 (lines_of f))) (Err (refusal_at ListOrLength (file_line 0)))
 
 -- the same as an outcome
 abbrev pub outcome : CardsRead → Outcome Counts
-outcome (Counted c) = accepted c
-outcome (Refused w k) = refused w k.0
+outcome (Ok c) = accepted c
+outcome (Err r) = refused r.fault r.line.0
 
 -- where the sections start: the index of each one's first line, from 0; of G,
 abbrev pub first_g : Counts → ℕ

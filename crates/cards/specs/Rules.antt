@@ -1,12 +1,10 @@
 -- The rules of lines with no order in them: what every line of a file is, given the counts.
-use Rattle.std.specs.Prelude.{ℕ, ◌+◌, ◌-◌, ◌*◌, ◌%◌, ◌≤◌, ◌<◌, ◌≡◌, true, cond, List, length, get_or, ltb}
+use Rattle.std.specs.Prelude.{ℕ, ◌+◌, ◌-◌, ◌*◌, ◌%◌, ◌≤◌, ◌<◌, ◌≡◌, true, cond, List, length, get_or, ltb, Ok, Err}
 use Rattle.columns.specs.Columns.{line_at}
 use Rattle.columns.specs.Format.{line_bytes, text_columns, most_lines}
 use Rattle.columns.specs.Letters.{letter_d, letter_g, letter_p, letter_s, letter_t}
 use Rattle.cards.specs.declared.Counts.{Counts}
-use Rattle.cards.specs.declared.CardsRead.{CardsRead}
-use Rattle.cards.specs.declared.CardsRead.TheVariants.{Counted, Refused}
-use Rattle.cards.specs.Cards.{line_ok, seven, total, totals, first_g, first_d, first_p, first_t}
+use Rattle.cards.specs.Cards.{CardsRead, line_ok, seven, total, totals, first_g, first_d, first_p, first_t}
 
 -- counts that a file of this length may have
 pub record Holds (f : List ℕ) (c : Counts) : Type 0 where
@@ -19,8 +17,8 @@ pub record Holds (f : List ℕ) (c : Counts) : Type 0 where
 
 -- an answer's counts hold
 abbrev pub Known : List ℕ → CardsRead → Type 0
-Known f (Counted c) = Holds f c
-Known f (Refused w k) = Unit {0}
+Known f (Ok c) = Holds f c
+Known f (Err r) = Unit {0}
 
 -- a good line of letter b and sequence number n
 pub record LineIs (b n : ℕ) (l : List ℕ) : Type 0 where

@@ -6,7 +6,7 @@ ghost use Rattle.std.specs.Prelude.{◌≡◌, ◌+◌, ◌*◌, ◌^◌, ◌<�
 ghost use Rattle.cards.specs.Cards.{length_ok, entry_line, parameter_line};
 
 use columns::format::{LINE_BYTES, MOST_LINES};
-use columns::{DirectoryNumber, Fault, FileLine, ParameterLine, wide};
+use columns::{DirectoryNumber, ParameterLine, wide};
 
 // How many lines of each section there are.
 #[derive(Clone, Copy)]
@@ -20,23 +20,9 @@ pub struct Counts {
 
 // Where a line stands: the counts with it, and its number in its section.
 #[derive(Clone, Copy)]
-pub enum Placed {
-    Here { counts: Counts, number: u32 },
-    Nowhere,
-}
-
-// What a line does: the counts with it, or a refusal.
-#[derive(Clone, Copy)]
-pub enum LineStep {
-    Next(Counts),
-    Wrong(Fault),
-}
-
-// The counts of a file that is accepted, or the first refusal and its line.
-#[derive(Clone, Copy)]
-pub enum CardsRead {
-    Counted(Counts),
-    Refused { fault: Fault, line: FileLine },
+pub struct Placed {
+    pub counts: Counts,
+    pub number: u32,
 }
 
 // Whether a length is one of whole lines, from 1 to the most.

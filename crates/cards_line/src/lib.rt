@@ -6,7 +6,7 @@ ghost use Rattle.columns.specs.Columns.{columns, line_at};
 ghost use Rattle.columns.specs.Format.{line_bytes, most_lines};
 ghost use Rattle.cards.specs.Cards.{line_ok, counts, here, place_of, step_of, total};
 
-use cards::{Counts, LineStep, Placed};
+use cards::{Counts, Placed};
 use columns::Fault;
 use columns::format::{LINE_BYTES, LINE_COLUMNS, TEXT_COLUMNS};
 
@@ -23,16 +23,16 @@ fn line_ok(file: &[u8], at: usize) -> bool
 }
 
 // A line that needs the section before it, and nothing of a later section.
-fn here_if(before: u32, later: u32, counts: Counts, number: u32) -> Placed
+fn here_if(before: u32, later: u32, counts: Counts, number: u32) -> Option<Placed>
     ensures { result ≡ here before later counts number }
 {
     if before == 0 {
-        return Placed::Nowhere;
+        return None;
     }
     if later != 0 {
-        return Placed::Nowhere;
+        return None;
     }
-    Placed::Here { counts, number }
+    Some(Placed { counts, number })
 }
 
 fn counted(s: u32, g: u32, d: u32, p: u32, t: u32) -> Counts
@@ -42,7 +42,7 @@ fn counted(s: u32, g: u32, d: u32, p: u32, t: u32) -> Counts
 }
 
 // Where a line of this letter stands, of which `left` more lines follow.
-fn place(c: Counts, left: usize, letter: u8) -> Placed
+fn place(c: Counts, left: usize, letter: u8) -> Option<Placed>
     requires { total c < most_lines }
     ensures { result ≡ place_of c left letter }
 {
@@ -55,7 +55,7 @@ fn place(c: Counts, left: usize, letter: u8) -> Placed
         return here_if(g, t, counted(s, g, d, p, t + 1), t + 1);
     }
     if left == 0 {
-        return Placed::Nowhere;
+        return None;
     }
     if letter == b'S' {
         return here_if(1, g + d + p + t, counted(s + 1, g, d, p, t), s + 1);
@@ -69,24 +69,22 @@ fn place(c: Counts, left: usize, letter: u8) -> Placed
     if letter == b'P' {
         return here_if(g, t, counted(s, g, d, p + 1, t), p + 1);
     }
-    Placed::Nowhere
+    None
 }
 
 // What line k does, of which `left` more lines follow.
-pub fn step_line(file: &[u8], k: usize, left: usize, c: Counts) -> LineStep
+pub fn step_line(file: &[u8], k: usize, left: usize, c: Counts) -> Result<Counts, Fault>
     requires line_bytes_in_bounds { line_bytes * k + line_bytes ≤ length file.now }
     requires c_bound { total c < most_lines }
     ensures { result ≡ step_of c left (line_at file.now k) }
 {
     let at = LINE_BYTES * k;
     if !line_ok(file, at) {
-        return LineStep::Wrong(Fault::Byte);
+        return Err(Fault::Byte);
     }
-    let Placed::Here { counts, number } = place(c, left, file[at + TEXT_COLUMNS]) else {
-        return LineStep::Wrong(Fault::Section);
-    };
-    if columns_fixed::holds(file, at + NUMBER, at + LINE_COLUMNS, number) {
-        return LineStep::Next(counts);
+    let found = place(c, left, file[at + TEXT_COLUMNS]).ok_or(Fault::Section)?;
+    if columns_fixed::holds(file, at + NUMBER, at + LINE_COLUMNS, found.number) {
+        return Ok(found.counts);
     }
-    LineStep::Wrong(Fault::Sequence)
+    Err(Fault::Sequence)
 }

@@ -7,20 +7,20 @@ ghost use Rattle.std.specs.Prelude.{◌≡◌, ◌+◌, ◌<◌};
 ghost use Rattle.cards.specs.Cards.{cards_of};
 ghost use Rattle.cards.specs.Rules.{Known};
 
-use cards::{CardsRead, Counts, LineStep, length_ok};
+use cards::{Counts, length_ok};
 use columns::format::LINE_BYTES;
-use columns::{Fault, FileLine};
+use columns::{Fault, FileLine, Refusal};
 
 // The counts of a file's sections, or the first refusal of its lines.
-pub fn cards(file: &[u8]) -> CardsRead
+pub fn cards(file: &[u8]) -> Result<Counts, Refusal<FileLine>>
     ensures value { result ≡ cards_of file.now }
     ensures known { Known file.now result }
 {
     if !length_ok(file.len()) {
-        return CardsRead::Refused {
+        return Err(Refusal {
             fault: Fault::ListOrLength,
             line: FileLine(0),
-        };
+        });
     }
     let n = file.len() / LINE_BYTES;
     let mut c = Counts {
@@ -30,28 +30,16 @@ pub fn cards(file: &[u8]) -> CardsRead
         p: 0,
         t: 0,
     };
-    let mut k = 0;
-    while k < n {
+    for k in 0..n {
         let next = k + 1;
-        let done = cards_line::step_line(file, k, n - next, c);
-        match done {
-            LineStep::Wrong(fault) => {
-                return CardsRead::Refused {
-                    fault,
-                    line: FileLine(next),
-                };
-            }
-            LineStep::Next(counts) => {
-                c = counts;
-            }
-        }
-        k = next;
+        let line = FileLine(next);
+        c = cards_line::step_line(file, k, n - next, c).map_err(|fault| Refusal { fault, line })?;
     }
     if terminate::closes_at(file, n - 1, c) {
-        return CardsRead::Counted(c);
+        return Ok(c);
     }
-    CardsRead::Refused {
+    Err(Refusal {
         fault: Fault::Terminate,
         line: FileLine(n),
-    }
+    })
 }

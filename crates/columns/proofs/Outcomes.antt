@@ -3,6 +3,8 @@ use mathlib.Core.Path.{◌≡◌, refl}
 use mathlib.Core.Bool.{Bool, true, false}
 use Prim.Native.Nat.{ℕ}
 use native.Mathlib.Omega.{arith}
+use Rattle.std.specs.Prelude.{Result, Ok, Err}
+use Rattle.std.specs.Result.{MatchResult, is_ok}
 use Rattle.columns.specs.declared.Fault.{Fault}
 use Rattle.columns.specs.Refusal.{Outcome, accepted, refused, ◌then◌, demand}
 
@@ -22,3 +24,9 @@ demand_accepted false n p e = let z : ◌≡◌ {A = ℕ} 0 1 = cc in absurd (om
 
 pub demand_true : (t : Bool) (n : Fault) (p : ℕ) → t ≡ true → demand t n p ≡ accepted tt
 demand_true t n p e = rw e
+
+-- what `map_err` gives is good only where it was good before, by the same value
+pub mapped_ok : {A E F : Type 0} (Q : E → Type 0) (x : Result A E) (r : Result A F) (b : A)
+    → MatchResult x (λ a. r ≡ Ok a) Q → is_ok r ≡ is_ok x → r ≡ Ok b → x ≡ Ok b
+mapped_ok Q (Ok a) r b m v e = cc
+mapped_ok Q (Err d) r b m v e = let z : true ≡ false = rw e at v in cc

@@ -7,7 +7,4 @@ use Rattle.cards_pass.proofs.cards.Given as goal
 
 abbrev pub invariant-loop-k : goal.invariant-loop-k
 invariant-loop-k l =
-    (l.k ≤ l.n) × (1 ≤ l.n) × (l.n ≤ most_lines) × (total l.c ≡ l.k) × (pass l.c (l.k + 1) (lines_from l.file l.k (l.n - l.k)) ≡ pass start 1 (lines_of l.file))
-
-abbrev pub decreases-loop-k : goal.decreases-loop-k
-decreases-loop-k l = l.n - l.k
+    (1 ≤ l.n) × (l.n ≤ most_lines) × (total l.c ≡ l.k) × (pass l.c (l.k + 1) (lines_from l.file l.k (l.n - l.k)) ≡ pass start 1 (lines_of l.file))
