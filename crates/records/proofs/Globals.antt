@@ -6,6 +6,7 @@ use Prim.Native.Nat.{ℕ, ◌+◌, ◌≤◌, ◌<◌}
 use native.Mathlib.Omega.{arith}
 use lib.ListN.{get_or}
 use lib.Dec.{leb, ltb, eqb}
+use Rattle.std.specs.Prelude.{Option, Some, None}
 use borrow.Author.Tests.{eqb-false, leb-true, ltb-true, ltb-false, eq-eqb, ne_eqb, le-leb, lt-leb, not-true, not-false}
 use Rattle.columns.proofs.Tests.{both_left}
 use Rattle.values.specs.declared.Value.{Value}
@@ -13,10 +14,9 @@ use Rattle.values.specs.declared.Value.TheVariants.{Default, Whole, Real, Text}
 use Rattle.values.specs.Value.{item_of, seen}
 use Rattle.values.specs.Number.{is_digit, joins}
 use Rattle.records.specs.declared.Opening.{Opening}
-use Rattle.records.specs.declared.Opening.TheVariants.{Opened, Wrong}
 use Rattle.records.specs.declared.GlobalKind.{GlobalKind}
 use Rattle.records.specs.declared.GlobalKind.TheVariants.{String, Real as RealKind, Integer}
-use Rattle.records.specs.Global.{may_delimit, opened, one_h, record_delimiter, opening_of, within, kind_of, up_to, in_range, is_kind, global_fits}
+use Rattle.records.specs.Global.{may_delimit, opens, opened, one_h, record_delimiter, opening_of, within, kind_of, up_to, in_range, is_kind, global_fits}
 use Rattle.records.specs.Reading.{Delimits, sets_apart}
 
 -- ---- delimiters
@@ -53,79 +53,79 @@ may_above x e = omega (arith, leb-true 33 x (both_left (leb 33 x) (not (joins x)
 
 module _ (c d next : ℕ) (last : Bool) where
   module _ {a : Bool} (ea : a ≡ may_delimit c) where
-    pub opened-c : a ≡ false → Wrong ≡ opened c d next last
+    pub opened-c : a ≡ false → None ≡ opened c d next last
     unfolding opened
     opened-c e = simp (sym ea ∙ e)
 
     module _ (e : a ≡ true) {b : Bool} (eb : b ≡ may_delimit d) where
-      pub opened-d : b ≡ false → Wrong ≡ opened c d next last
+      pub opened-d : b ≡ false → None ≡ opened c d next last
       unfolding opened
       opened-d f = simp (sym ea ∙ e, sym eb ∙ f)
 
-      pub opened_same : b ≡ true → c ≡ d → Wrong ≡ opened c d next last
+      pub opened_same : b ≡ true → c ≡ d → None ≡ opened c d next last
       unfolding opened
       opened_same f g = simp (sym ea ∙ e, sym eb ∙ f, eq-eqb c d g)
 
-      pub opened_both : b ≡ true → (c ≡ d → ⊥) → Opened c d next last ≡ opened c d next last
+      pub opened_both : b ≡ true → (c ≡ d → ⊥) → opens c d next last ≡ opened c d next last
       unfolding opened
       opened_both f g = simp (sym ea ∙ e, sym eb ∙ f, ne_eqb c d g)
 
 pub ruleset marks = (apart_blank, apart_low, apart_high, may_others, opened-c, opened-d, opened_same, opened_both, not-true, not-false)
 
 module _ (c p : ℕ) (t : List ℕ) {x : ℕ} (ex : x ≡ get_or t p 0) where
-  pub record_part : {r : Opening} → x ≡ c → r ≡ opened c 59 (p + 1) false → r ≡ record_delimiter c t p
+  pub record_part : {r : Option Opening} → x ≡ c → r ≡ opened c 59 (p + 1) false → r ≡ record_delimiter c t p
   unfolding record_delimiter
   record_part e er = rw (er, ← ex) (simp (eq-eqb x c e))
 
   module _ (n : x ≡ c → ⊥) where
-    pub record_end : {r : Opening} → x ≡ 59 → r ≡ opened c 59 (p + 1) true → r ≡ record_delimiter c t p
+    pub record_end : {r : Option Opening} → x ≡ 59 → r ≡ opened c 59 (p + 1) true → r ≡ record_delimiter c t p
     unfolding record_delimiter
     record_end e er = rw (er, ← ex) (simp (ne_eqb x c n, eq-eqb x 59 e))
 
     module _ (m : x ≡ 59 → ⊥) where
-      pub record_one : (x ≡ 49 → ⊥) → Wrong ≡ record_delimiter c t p
+      pub record_one : (x ≡ 49 → ⊥) → None ≡ record_delimiter c t p
       unfolding record_delimiter
       record_one k = rw (← ex) (simp (ne_eqb x c n, ne_eqb x 59 m, ne_eqb x 49 k))
 
       module _ (k : x ≡ 49) {h : ℕ} (eh : h ≡ get_or t (p + 1) 0) where
-        pub record_h : (h ≡ 72 → ⊥) → Wrong ≡ record_delimiter c t p
+        pub record_h : (h ≡ 72 → ⊥) → None ≡ record_delimiter c t p
         unfolding record_delimiter
         record_h l = rw (← ex, ← eh) (simp (ne_eqb x c n, ne_eqb x 59 m, eq-eqb x 49 k, ne_eqb h 72 l))
 
         module _ (l : h ≡ 72) {d y : ℕ} (ed : d ≡ get_or t (p + 2) 0) (ey : y ≡ get_or t (p + 3) 0) where
-          pub named-part : {r : Opening} → y ≡ c → r ≡ opened c d (p + 4) false → r ≡ record_delimiter c t p
+          pub named-part : {r : Option Opening} → y ≡ c → r ≡ opened c d (p + 4) false → r ≡ record_delimiter c t p
           unfolding record_delimiter
           named-part e er = rw (er, ← ex, ← eh, ← ed, ← ey) (simp (ne_eqb x c n, ne_eqb x 59 m, eq-eqb x 49 k, eq-eqb h 72 l, eq-eqb y c e))
 
-          pub named_end : {r : Opening} → (y ≡ c → ⊥) → y ≡ d → r ≡ opened c d (p + 4) true → r ≡ record_delimiter c t p
+          pub named_end : {r : Option Opening} → (y ≡ c → ⊥) → y ≡ d → r ≡ opened c d (p + 4) true → r ≡ record_delimiter c t p
           unfolding record_delimiter
           named_end o e er = rw (er, ← ex, ← eh, ← ed, ← ey) (simp (ne_eqb x c n, ne_eqb x 59 m, eq-eqb x 49 k, eq-eqb h 72 l, ne_eqb y c o, eq-eqb y d e))
 
-          pub named-wrong : (y ≡ c → ⊥) → (y ≡ d → ⊥) → Wrong ≡ record_delimiter c t p
+          pub named-wrong : (y ≡ c → ⊥) → (y ≡ d → ⊥) → None ≡ record_delimiter c t p
           unfolding record_delimiter
           named-wrong o e = rw (← ex, ← eh, ← ed, ← ey) (simp (ne_eqb x c n, ne_eqb x 59 m, eq-eqb x 49 k, eq-eqb h 72 l, ne_eqb y c o, ne_eqb y d e))
 
 module _ (t : List ℕ) {x : ℕ} (ex : x ≡ get_or t 0 0) where
-  pub opening-comma : {r : Opening} → x ≡ 44 → r ≡ record_delimiter 44 t 1 → r ≡ opening_of t
+  pub opening-comma : {r : Option Opening} → x ≡ 44 → r ≡ record_delimiter 44 t 1 → r ≡ opening_of t
   unfolding opening_of
   opening-comma e er = rw (er, ← ex) (simp (eq-eqb x 44 e))
 
   module _ (n : x ≡ 44 → ⊥) where
-    pub opening-one : (x ≡ 49 → ⊥) → Wrong ≡ opening_of t
+    pub opening-one : (x ≡ 49 → ⊥) → None ≡ opening_of t
     unfolding opening_of
     opening-one k = rw (← ex) (simp (ne_eqb x 44 n, ne_eqb x 49 k))
 
     module _ (k : x ≡ 49) {h : ℕ} (eh : h ≡ get_or t 1 0) where
-      pub opening_h : (h ≡ 72 → ⊥) → Wrong ≡ opening_of t
+      pub opening_h : (h ≡ 72 → ⊥) → None ≡ opening_of t
       unfolding opening_of
       opening_h l = rw (← ex, ← eh) (simp (ne_eqb x 44 n, eq-eqb x 49 k, ne_eqb h 72 l))
 
       module _ (l : h ≡ 72) {c y : ℕ} (ec : c ≡ get_or t 2 0) (ey : y ≡ get_or t 3 0) where
-        pub opening_twice : (y ≡ c → ⊥) → Wrong ≡ opening_of t
+        pub opening_twice : (y ≡ c → ⊥) → None ≡ opening_of t
         unfolding opening_of
         opening_twice o = rw (← ex, ← eh, ← ec, ← ey) (simp (ne_eqb x 44 n, eq-eqb x 49 k, eq-eqb h 72 l, ne_eqb y c o))
 
-        pub opening-named : {r : Opening} → y ≡ c → r ≡ record_delimiter c t 4 → r ≡ opening_of t
+        pub opening-named : {r : Option Opening} → y ≡ c → r ≡ record_delimiter c t 4 → r ≡ opening_of t
         unfolding opening_of
         opening-named o er = rw (er, ← ex, ← eh, ← ec, ← ey) (simp (ne_eqb x 44 n, eq-eqb x 49 k, eq-eqb h 72 l, eq-eqb y c o))
 
@@ -135,7 +135,7 @@ opened_delimits : (m c d next : ℕ) (last : Bool) → next ≤ m → Delimits m
 unfolding opened
 opened_delimits m c d next last h = pick (may_delimit c) (may_delimit d) (eqb c d) refl refl refl
   where
-    pick : (a b e : Bool) → may_delimit c ≡ a → may_delimit d ≡ b → eqb c d ≡ e → Delimits m (cond (a && (b && not e)) (Opened c d next last) Wrong)
+    pick : (a b e : Bool) → may_delimit c ≡ a → may_delimit d ≡ b → eqb c d ≡ e → Delimits m (cond (a && (b && not e)) (opens c d next last) None)
     pick true true true f g k = tt
     pick true true false f g k = (may_above c f, may_above d g, eqb-false c d k, h)
     pick true false e f g k = tt
@@ -148,7 +148,7 @@ record_delimits c p t h = pick (eqb (get_or t p 0) c) (eqb (get_or t p 0) 59) (o
     d : ℕ
     d = get_or t (p + 2) 0
 
-    pick : (a b o e f : Bool) → Delimits 8 (cond a (opened c 59 (p + 1) false) (cond b (opened c 59 (p + 1) true) (cond o (cond e (opened c d (p + 4) false) (cond f (opened c d (p + 4) true) Wrong)) Wrong)))
+    pick : (a b o e f : Bool) → Delimits 8 (cond a (opened c 59 (p + 1) false) (cond b (opened c 59 (p + 1) true) (cond o (cond e (opened c d (p + 4) false) (cond f (opened c d (p + 4) true) None)) None)))
     pick true b o e f = opened_delimits 8 c 59 (p + 1) false (omega arith)
     pick false true o e f = opened_delimits 8 c 59 (p + 1) true (omega arith)
     pick false false true true f = opened_delimits 8 c d (p + 4) false (omega arith)
@@ -160,32 +160,32 @@ pub delimits : (t : List ℕ) → Delimits 8 (opening_of t)
 unfolding opening_of
 delimits t = pick (eqb (get_or t 0 0) 44) (one_h t 0 && eqb (get_or t 3 0) (get_or t 2 0))
   where
-    pick : (a b : Bool) → Delimits 8 (cond a (record_delimiter 44 t 1) (cond b (record_delimiter (get_or t 2 0) t 4) Wrong))
+    pick : (a b : Bool) → Delimits 8 (cond a (record_delimiter 44 t 1) (cond b (record_delimiter (get_or t 2 0) t 4) None))
     pick true b = record_delimits 44 1 t (omega arith)
     pick false true = record_delimits (get_or t 2 0) 4 t (omega arith)
     pick false false = tt
 
-pub delimits_by : (c p : ℕ) (t : List ℕ) {r : Opening} → r ≡ record_delimiter c t p → p ≤ 4 → Delimits 8 r
+pub delimits_by : (c p : ℕ) (t : List ℕ) {r : Option Opening} → r ≡ record_delimiter c t p → p ≤ 4 → Delimits 8 r
 delimits_by c p t e h = rw e (record_delimits c p t h)
 
 pub ruleset openings = (record_part, record_end, record_one, record_h, named-part, named_end, named-wrong, opening-comma, opening-one, opening_h, opening_twice, opening-named, delimits_by)
 
 -- ---- what a caller has in hand of an opening
 
-module _ (m : ℕ) {o : Opening} {c d next : ℕ} {last : Bool} (e : o ≡ Opened c d next last) (h : Delimits m o) where
-  parts : (32 < c) × (32 < d) × (c ≡ d → ⊥) × (next ≤ m)
+module _ (m : ℕ) {r : Option Opening} {o : Opening} (e : r ≡ Some o) (h : Delimits m r) where
+  parts : (32 < o.parameter) × (32 < o.closing) × (o.parameter ≡ o.closing → ⊥) × (o.next ≤ m)
   parts = rw e at h
 
-  pub parameter_above : 32 < c
+  pub parameter_above : 32 < o.parameter
   parameter_above = parts.0
 
-  pub record_above : 32 < d
+  pub record_above : 32 < o.closing
   record_above = parts.1
 
-  pub they_differ : c ≡ d → ⊥
+  pub they_differ : o.parameter ≡ o.closing → ⊥
   they_differ = parts.2
 
-  pub opening_in : next ≤ m
+  pub opening_in : o.next ≤ m
   opening_in = parts.3
 
 -- ---- fields
