@@ -1,6 +1,6 @@
 -- What reading accepted, taken apart: each of its steps was accepted. Assumes nothing.
 use mathlib.Core.Path.{◌≡◌, refl, ◌∙◌}
-use mathlib.Core.Bool.{true, false}
+use mathlib.Core.Bool.{Bool, true, false}
 use mathlib.Core.List.{List, []}
 use Prim.Native.Nat.{ℕ, ◌≤◌}
 use native.Mathlib.Omega.{arith}
@@ -15,9 +15,9 @@ use Rattle.columns.specs.Format.{most_list}
 use Rattle.columns.proofs.Outcomes.{then_accepted, demand_accepted}
 use Rattle.values.specs.Value.{Item, default}
 use Rattle.records.specs.declared.Opening.{Opening}
-use Rattle.records.specs.declared.Opening.TheVariants.{Opened, Wrong as WrongOpening}
+use Rattle.std.specs.Prelude.{Option, Some, None}
 use Rattle.records.specs.Record.{Values, values, wrong, values_at, start_at, trimmed}
-use Rattle.records.specs.Global.{first_field, opening_of}
+use Rattle.records.specs.Global.{opens, first_field, opening_of}
 use Rattle.cards.specs.declared.Counts.{Counts}
 use Rattle.cards.specs.Cards.{cards_of, outcome}
 use Rattle.directory.specs.declared.Fields.{Fields}
@@ -34,11 +34,11 @@ use Rattle.model.specs.Read.{GlobalRead, global_read, Listed, Before, global_tex
 
 -- its opening alone, or its values, which fit their fields; and nothing behind them
 pub data GlobalApart (c : Counts) (t : List ℕ) (g : GlobalRead) : Type 0 where
-  alone : (p d next : ℕ) → opening_of t ≡ Opened p d next true → no_stray c t next ≡ accepted tt → g ≡ global_read p d [] → GlobalApart c t g
-  more : (p d next : ℕ) (vs : List Item) (end : ℕ) → opening_of t ≡ Opened p d next false → values_at 72 p d t next ≡ values vs end → no_stray c t end ≡ accepted tt
+  alone : (p d next : ℕ) → opening_of t ≡ opens p d next true → no_stray c t next ≡ accepted tt → g ≡ global_read p d [] → GlobalApart c t g
+  more : (p d next : ℕ) (vs : List Item) (end : ℕ) → opening_of t ≡ opens p d next false → values_at 72 p d t next ≡ values vs end → no_stray c t end ≡ accepted tt
       → first_not (field_fits vs) 0 (length vs) ≡ length vs → g ≡ global_read p d (given first_field vs) → GlobalApart c t g
 
-values_apart : (c : Counts) (t : List ℕ) (p d next : ℕ) (g : GlobalRead) (r : Values) → opening_of t ≡ Opened p d next false → values_at 72 p d t next ≡ r
+values_apart : (c : Counts) (t : List ℕ) (p d next : ℕ) (g : GlobalRead) (r : Values) → opening_of t ≡ opens p d next false → values_at 72 p d t next ≡ r
     → by_values c t p d next r ≡ accepted g → GlobalApart c t g
 values_apart c t p d next g (wrong n s at) eo ev h = let z : ◌≡◌ {A = ℕ} 0 1 = cc in absurd (omega arith)
 values_apart c t p d next g (values vs end) eo ev h =
@@ -56,13 +56,16 @@ pub global_apart : (f : List ℕ) (c : Counts) (g : GlobalRead) → global_in f 
 unfolding global_in
 global_apart f c g h = by (opening_of (global_text f c)) refl h
   where
-    by : (o : Opening) → opening_of (global_text f c) ≡ o → by_opening c (global_text f c) o ≡ accepted g → GlobalApart c (global_text f c) g
-    by WrongOpening e h = let z : ◌≡◌ {A = ℕ} 0 1 = cc in absurd (omega arith)
-    by (Opened p d next true) e h =
-        let b = then_accepted (no_stray c (global_text f c) next) (λ _. accepted (global_read p d [])) g h in
-        let s = b.second in
-        alone p d next e b.first (cc)
-    by (Opened p d next false) e h = values_apart c (global_text f c) p d next g (values_at 72 p d (global_text f c) next) e refl h
+    by : (o : Option Opening) → opening_of (global_text f c) ≡ o → by_opening c (global_text f c) o ≡ accepted g → GlobalApart c (global_text f c) g
+    by None e h = let z : ◌≡◌ {A = ℕ} 0 1 = cc in absurd (omega arith)
+    by (Some o) e h = opened o.parameter o.closing o.next o.last e h
+      where
+        opened : (p d next : ℕ) (last : Bool) → opening_of (global_text f c) ≡ opens p d next last → by_opening c (global_text f c) (opens p d next last) ≡ accepted g → GlobalApart c (global_text f c) g
+        opened p d next true e h =
+            let b = then_accepted (no_stray c (global_text f c) next) (λ _. accepted (global_read p d [])) g h in
+            let s = b.second in
+            alone p d next e b.first (cc)
+        opened p d next false e h = values_apart c (global_text f c) p d next g (values_at 72 p d (global_text f c) next) e refl h
 
 -- ---- an entry
 

@@ -1,7 +1,7 @@
 -- Reading a file: its refusals in the paper's order, its model, its sheet.
-use Rattle.std.specs.Prelude.{Bool, true, false, cond, not, ◌&&◌, List, [], ◌∷◌, map, ℕ, suc, ◌+◌, ◌-◌, ◌*◌}
+use Rattle.std.specs.Prelude.{Bool, true, false, cond, not, ◌&&◌, List, [], ◌∷◌, map, ℕ, suc, ◌+◌, ◌*◌}
 use Rattle.std.specs.Prelude.{◌/◌, length, get_or}
-use Rattle.std.specs.Prelude.{drop, leb, eqb}
+use Rattle.std.specs.Prelude.{drop, leb, eqb, Option, Some, None}
 use Rattle.columns.specs.declared.Fault.TheVariants.{ListOrLength, Spelling, Global, Directory, FirstValue}
 use Rattle.columns.specs.Refusal.{Outcome, accepted, refused, demand, each_at, ◌then◌}
 use Rattle.columns.specs.First.{first_not, up_from}
@@ -11,7 +11,6 @@ use Rattle.columns.specs.Format.{line_bytes, text_columns, parameter_columns, mo
 use Rattle.columns.specs.Letters.{space}
 use Rattle.values.specs.Value.{Item, default, whole, real, text, seen, is_default}
 use Rattle.records.specs.declared.Opening.{Opening}
-use Rattle.records.specs.declared.Opening.TheVariants.{Opened, Wrong}
 use Rattle.records.specs.Record.{Values, values, wrong, blanks, values_at, start_at, trimmed}
 use Rattle.records.specs.Global.{opening_of, first_field, global_fits}
 use Rattle.cards.specs.declared.Counts.{Counts}
@@ -87,10 +86,13 @@ by_values c t p d from (values vs end) =
     then λ _. accepted (global_read p d (given first_field vs))
 
 -- a wrong opening has the first G line; an opening that ends the record leaves no fields
-abbrev pub by_opening : Counts → List ℕ → Opening → Outcome GlobalRead
-by_opening c t Wrong = refused Spelling (first_g c + 1)
-by_opening c t (Opened p d next true) = no_stray c t next then λ _. accepted (global_read p d [])
-by_opening c t (Opened p d next false) = by_values c t p d next (values_at text_columns p d t next)
+abbrev pub by_opening : Counts → List ℕ → Option Opening → Outcome GlobalRead
+by_opening c t None = refused Spelling (first_g c + 1)
+by_opening c t (Some o) =
+    elim o.last [
+        true ↦ no_stray c t o.next then λ _. accepted (global_read o.parameter o.closing [])
+        | false ↦ by_values c t o.parameter o.closing o.next (values_at text_columns o.parameter o.closing t o.next)
+    ]
 
 -- what G says, or its first refusal
 unfoldable pub global_in : List ℕ → Counts → Outcome GlobalRead

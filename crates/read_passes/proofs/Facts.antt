@@ -13,8 +13,7 @@ use Rattle.cards.specs.declared.CardsRead.TheVariants.{Counted, Refused as Cards
 use Rattle.cards.specs.Cards.{cards_of, outcome, entries, entry_line, parameter_line}
 use Rattle.cards.specs.Rules.{Holds}
 use Rattle.cards.proofs.Growth.{known, holds_of}
-use Rattle.records.specs.declared.Opening.TheVariants.{Opened}
-use Rattle.records.specs.Global.{opening_of}
+use Rattle.records.specs.Global.{opens, opening_of}
 use Rattle.records.specs.Reading.{Stands}
 use Rattle.records.proofs.Globals.{delimits, parameter_above, record_above, they_differ}
 use Rattle.directory.specs.declared.Fields.{Fields}
@@ -40,7 +39,7 @@ pub record Delimiters (p d : ℕ) : Type 0 where
   pub closing : 32 < d
   pub differ : p ≡ d → ⊥
 
-opened_delimiters : (t : List ℕ) (p d next : ℕ) (last : Bool) → opening_of t ≡ Opened p d next last → Delimiters p d
+opened_delimiters : (t : List ℕ) (p d next : ℕ) (last : Bool) → opening_of t ≡ opens p d next last → Delimiters p d
 opened_delimiters t p d next last e =
     let h = delimits t in
     record { parameter = parameter_above 8 e h; closing = record_above 8 e h; differ = they_differ 8 e h }

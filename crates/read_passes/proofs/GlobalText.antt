@@ -8,7 +8,6 @@ use native.Mathlib.Numerals.{add-one}
 use native.Mathlib.Omega.{arith}
 use lib.ListN.{length, drop}
 use borrow.Author.Tests.{eq-eqb, ne_eqb, not-true, not-false}
-use Rattle.columns.specs.declared.Fault.{Fault}
 use Rattle.columns.specs.declared.Fault.TheVariants.{Spelling, Global}
 use Rattle.columns.specs.declared.FileLine.{FileLine}
 use Rattle.columns.specs.Columns.{text_of}
@@ -20,9 +19,10 @@ use Rattle.cards.specs.Shared.{file_line}
 use Rattle.values.specs.declared.Value.{Value}
 use Rattle.values.specs.declared.Value.TheVariants.{Default}
 use Rattle.values.specs.Value.{seen}
-use Rattle.records.specs.declared.Got.{Got}
-use Rattle.records.specs.declared.Got.TheVariants.{Found, Refused as GotRefused}
-use Rattle.records.specs.Record.{blanks, value_at, start_of, behind, position_of, start_at}
+use Rattle.std.specs.Prelude.{Ok, Err}
+use Rattle.records.specs.declared.Found.{Found}
+use Rattle.records.specs.declared.Misspelt.{Misspelt}
+use Rattle.records.specs.Record.{Got, blanks, value_at, start_of, behind, position_of, start_at}
 use Rattle.records.specs.Global.{global_fits}
 use Rattle.records.specs.Items.{got_item}
 use Rattle.records.specs.Reading.{Stands, Sane}
@@ -36,42 +36,42 @@ use Rattle.read_passes.specs.Walks.{got_value, value_fits, fields_fit}
 -- ---- what was read
 
 module _ (g : Got) where
-  module _ (v : Value) (s next : ℕ) (last : Bool) (e : g ≡ Found v s next last) where
-    pub value_found : v ≡ got_value g
+  module _ (x : Found) (e : g ≡ Ok x) where
+    pub value_found : x.value ≡ got_value g
     value_found = rw e
 
-    pub start-found : s ≡ start_of g
+    pub start-found : x.start ≡ start_of g
     start-found = rw e
 
-    pub behind-found : next ≡ behind g
+    pub behind-found : x.next ≡ behind g
     behind-found = rw e
 
-  module _ (n : Fault) (s at : ℕ) (e : g ≡ GotRefused n s at) where
+  module _ (x : Misspelt) (e : g ≡ Err x) where
     pub value_refused : Default ≡ got_value g
     value_refused = rw e
 
-    pub start_refused : s ≡ start_of g
+    pub start_refused : x.start ≡ start_of g
     start_refused = rw e
 
-    pub behind_refused : at ≡ behind g
+    pub behind_refused : x.at ≡ behind g
     behind_refused = rw e
 
 pub ruleset gots = (value_found, start-found, behind-found, value_refused, start_refused, behind_refused)
 
 -- it stands in its text
 pub start_in : (p m : ℕ) (g : Got) → Sane p m g → start_of g ≤ m
-start_in p m (Found v s next last) h = omega arith
-start_in p m (GotRefused n s at) h = omega arith
+start_in p m (Ok x) h = omega arith
+start_in p m (Err x) h = omega arith
 
 pub behind_in : (p m : ℕ) (g : Got) → Sane p m g → behind g ≤ m
-behind_in p m (Found v s next last) h = omega arith
-behind_in p m (GotRefused n s at) h = omega arith
+behind_in p m (Ok x) h = omega arith
+behind_in p m (Err x) h = omega arith
 
 -- a field asks nothing of a string but that it is one
 fits_got : (t : List ℕ) (n : ℕ) (g : Got) → global_fits n (got_value g) ≡ global_fits n (seen (got_item t g))
 unfolding global_fits
-fits_got t n (Found v s next last) = fits-seen t n v
-fits_got t n (GotRefused m s at) = refl
+fits_got t n (Ok x) = fits-seen t n x.value
+fits_got t n (Err x) = refl
 
 -- the position of one more value is behind the one before it
 position_more : (w c d : ℕ) (t : List ℕ) (k p : ℕ) → position_of w c d t p (suc k) ≡ behind (value_at w c d t (position_of w c d t p k))

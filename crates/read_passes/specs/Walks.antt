@@ -1,5 +1,5 @@
 -- The code's form: the passes as the code walks them: the first refusal of a row of checks, and Global's fields by their positions.
-use Rattle.std.specs.Prelude.{Bool, List, ℕ, zero, suc, ◌+◌, ◌*◌, eqb}
+use Rattle.std.specs.Prelude.{Bool, List, ℕ, zero, suc, ◌+◌, ◌*◌, eqb, Ok, Err}
 use Rattle.columns.specs.declared.Fault.TheVariants.{Global}
 use Rattle.columns.specs.First.{first_not}
 use Rattle.columns.specs.Refusal.{Outcome, accepted, demand, ◌then◌}
@@ -11,9 +11,7 @@ use Rattle.directory.specs.Naming.{types_at}
 use Rattle.values.specs.declared.Value.{Value}
 use Rattle.values.specs.declared.Value.TheVariants.{Default}
 use Rattle.values.specs.Value.{seen}
-use Rattle.records.specs.declared.Got.{Got}
-use Rattle.records.specs.declared.Got.TheVariants.{Found, Refused as GotRefused}
-use Rattle.records.specs.Record.{value_at, values_at, position_of, start_at}
+use Rattle.records.specs.Record.{Got, value_at, values_at, position_of, start_at}
 use Rattle.records.specs.Items.{got_item}
 use Rattle.records.specs.Global.{first_field, global_fits}
 use Rattle.owners.specs.InFile.{owners_in, outcome as ownership_outcome}
@@ -50,8 +48,8 @@ turn_of (Refused n l) kept = RefusedTurn n l
 
 -- the value that was read; a refused one stands for nothing
 abbrev pub got_value : Got → Value
-got_value (Found v s next last) = v
-got_value (GotRefused n s at) = Default
+got_value (Ok r) = r.value
+got_value (Err r) = Default
 
 -- whether value k of Global's text, read from a position on, may stand in its field
 unfoldable pub value_fits : ℕ → ℕ → List ℕ → ℕ → ℕ → Bool

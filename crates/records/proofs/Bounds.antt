@@ -8,7 +8,7 @@ use native.Mathlib.Omega.{arith}
 use lib.ListN.{length, get_or, drop, take, length-drop, length-take}
 use lib.Dec.{leb, eqb}
 use borrow.Author.Tests.{eqb-true, leb-true}
-use Rattle.columns.specs.declared.Fault.{Fault}
+use Rattle.std.specs.Prelude.{Result, Ok, Err}
 use Rattle.columns.specs.declared.Fault.TheVariants.{Spelling}
 use Rattle.values.specs.declared.Number.{Number}
 use Rattle.values.specs.declared.Number.TheVariants.{Whole as WholeOf, Real as RealOf, Beyond, Bad}
@@ -27,11 +27,10 @@ use Rattle.values.proofs.Sizes.{sizes}
 use Rattle.values.proofs.Heads.{within_more}
 use Rattle.records.specs.declared.Next.{Next}
 use Rattle.records.specs.declared.Next.TheVariants.{Delimiter, Other}
-use Rattle.records.specs.declared.Got.{Got}
-use Rattle.records.specs.declared.Got.TheVariants.{Found, Refused}
+use Rattle.records.specs.declared.Found.{Found}
+use Rattle.records.specs.declared.Misspelt.{Misspelt}
 use Rattle.records.specs.declared.Check.{Check}
-use Rattle.records.specs.declared.Check.TheVariants.{Done, Wrong}
-use Rattle.records.specs.Record.{blanks, next_at, found, plain, headed, by_next, value_at}
+use Rattle.records.specs.Record.{Got, refused_at, blanks, next_at, found, plain, headed, by_next, value_at}
 use Rattle.records.specs.Reading.{Writable, Sane, SaneCheck}
 
 -- ---- heads
@@ -101,7 +100,7 @@ module _ (w c d : ℕ) (t : List ℕ) (pc : 0 < c) (pd : 0 < d) where
   headed_sane p s (Count count len) l i f k' = pick (leb (s + len + count) (length t)) refl
     where
       pick : (b : Bool) → leb (s + len + count) (length t) ≡ b
-          → Sane p (length t) (cond b (found (Text (s + len) count) s (next_at c d t (s + len + count))) (Refused Spelling s (length t)))
+          → Sane p (length t) (cond b (found (Text (s + len) count) s (next_at c d t (s + len + count))) (refused_at Spelling s (length t)))
       pick true e =
           let k : s + len + count ≤ length t = leb-true (s + len + count) (length t) e in
           found_sane p (s + len + count) (length t) (Text (s + len) count) s (next_at c d t (s + len + count)) l (omega arith) (k, f.0, f.1) (stop (s + len + count) k)
@@ -120,33 +119,33 @@ module _ (w c d : ℕ) (t : List ℕ) (pc : 0 < c) (pd : 0 < d) where
 -- ---- what a caller has in hand of a value
 
 module _ (p m : ℕ) {g : Got} where
-  module _ {v : Value} {s next : ℕ} {last : Bool} (e : g ≡ Found v s next last) (h : Sane p m g) where
-    parts : (p ≤ s) × (s < next) × (next ≤ m) × Writable m v
+  module _ {x : Found} (e : g ≡ Ok x) (h : Sane p m g) where
+    parts : (p ≤ x.start) × (x.start < x.next) × (x.next ≤ m) × Writable m x.value
     parts = rw e at h
 
-    pub next_more : p < next
+    pub next_more : p < x.next
     next_more = omega (arith, parts)
 
-    pub next_less : m - next < m - p
+    pub next_less : m - x.next < m - p
     next_less = omega (arith, parts)
 
-    pub next_in : next ≤ m
+    pub next_in : x.next ≤ m
     next_in = omega (arith, parts)
 
-    pub can_write : Writable m v
+    pub can_write : Writable m x.value
     can_write = parts.3
 
-  module _ {fault : Fault} {s at : ℕ} (e : g ≡ Refused fault s at) (h : Sane p m g) where
-    wrongs : (p ≤ s) × (s ≤ at) × (at ≤ m)
+  module _ {x : Misspelt} (e : g ≡ Err x) (h : Sane p m g) where
+    wrongs : (p ≤ x.start) × (x.start ≤ x.at) × (x.at ≤ m)
     wrongs = rw e at h
 
-    pub wrong-from : p ≤ s
+    pub wrong-from : p ≤ x.start
     wrong-from = wrongs.0
 
-    pub wrong-at : at ≤ m
+    pub wrong-at : x.at ≤ m
     wrong-at = wrongs.2
 
-    pub wrong-behind : s ≤ at
+    pub wrong-behind : x.start ≤ x.at
     wrong-behind = wrongs.1
 
 -- ---- of a value that can be written
@@ -160,20 +159,20 @@ module _ (m : ℕ) {v : Value} where
 
 -- ---- and of a whole record
 
-module _ (p m : ℕ) {r : Check} where
-  module _ {count kept end : ℕ} (e : r ≡ Done count kept end) (h : SaneCheck p m r) where
-    done : (1 ≤ count) × (kept ≤ count) × (p + count ≤ end) × (end ≤ m)
+module _ (p m : ℕ) {r : Result Check Misspelt} where
+  module _ {x : Check} (e : r ≡ Ok x) (h : SaneCheck p m r) where
+    done : (1 ≤ x.count) × (x.kept ≤ x.count) × (p + x.count ≤ x.end) × (x.end ≤ m)
     done = rw e at h
 
-    pub done_count : p + count ≤ end
+    pub done_count : p + x.count ≤ x.end
     done_count = done.2
 
-    pub done_end : end ≤ m
+    pub done_end : x.end ≤ m
     done_end = done.3
 
-  module _ {fault : Fault} {s at : ℕ} (e : r ≡ Wrong fault s at) (h : SaneCheck p m r) where
-    failed : (p ≤ s) × (s ≤ at) × (at ≤ m)
+  module _ {x : Misspelt} (e : r ≡ Err x) (h : SaneCheck p m r) where
+    failed : (p ≤ x.start) × (x.start ≤ x.at) × (x.at ≤ m)
     failed = rw e at h
 
-    pub failed_start : s ≤ m
+    pub failed_start : x.start ≤ m
     failed_start = omega (arith, failed)

@@ -7,6 +7,7 @@ use native.Mathlib.Omega.{arith}
 use lib.ListN.{length, drop, take, length-take, length-drop}
 use lib.Dec.{leb}
 use borrow.Author.Tests.{leb-true}
+use Rattle.std.specs.Prelude.{Ok, Err}
 use Rattle.columns.specs.Columns.{printable}
 use Rattle.columns.proofs.Looks.{print_take, print_drop}
 use Rattle.columns.specs.declared.Fault.TheVariants.{Spelling}
@@ -27,16 +28,14 @@ use Rattle.values.proofs.Backs.{strict_inside}
 use Rattle.values.proofs.Canon.{Canon, FineHead, head_fine}
 use Rattle.records.specs.declared.Next.{Next}
 use Rattle.records.specs.declared.Next.TheVariants.{Delimiter, Other}
-use Rattle.records.specs.declared.Got.{Got}
-use Rattle.records.specs.declared.Got.TheVariants.{Found, Refused}
-use Rattle.records.specs.Record.{next_at, found, plain, headed, by_next, value_at, Values, values, wrong, more, after, values_from, values_at, trim, trimmed}
+use Rattle.records.specs.Record.{Got, found_at, refused_at, next_at, found, plain, headed, by_next, value_at, Values, values, wrong, more, after, values_from, values_at, trim, trimmed}
 use Rattle.records.specs.Reading.{Writable}
 use Rattle.records.specs.Flow.{flow, Fines, fine_one, fine_more, Prints}
 use Rattle.records.proofs.Round.{round_behind}
 
 abbrev pub FineGot : List ℕ → Got → Type 0
-FineGot t (Found v s next last) = Fine (item_of t v)
-FineGot t (Refused n s at) = Unit {0}
+FineGot t (Ok r) = Fine (item_of t r.value)
+FineGot t (Err r) = Unit {0}
 
 abbrev FineValues : Values → Type 0
 FineValues (values vs end) = Fines vs
@@ -58,7 +57,7 @@ module _ (w c d : ℕ) (t : List ℕ) where
   fine_headed s (Plain k) f = fine_plain s (s + k.len) (next_at c d t (s + k.len)) k.number f
   fine_headed s (Count count len) f = pick (leb (s + len + count) (length t)) refl
     where
-      pick : (b : Bool) → leb (s + len + count) (length t) ≡ b → FineGot t (cond b (found (Text (s + len) count) s (next_at c d t (s + len + count))) (Refused Spelling s (length t)))
+      pick : (b : Bool) → leb (s + len + count) (length t) ≡ b → FineGot t (cond b (found (Text (s + len) count) s (next_at c d t (s + len + count))) (refused_at Spelling s (length t)))
       pick true e =
           let l : length (take count (drop (s + len) t)) ≡ count = simp (length-take, length-drop) (omega (arith, leb-true (s + len + count) (length t) e)) in
           fine_found (Text (s + len) count) s (next_at c d t (s + len + count)) (fine_text (take count (drop (s + len) t)) (rw l f.0) (rw l f.1))
@@ -82,9 +81,12 @@ module _ (w c d : ℕ) (t : List ℕ) where
   fine_add v (wrong n s at) f g = tt
 
   fine_after : (rest : ℕ → Values) (g : Got) → ((next : ℕ) → FineValues (rest next)) → FineGot t g → FineValues (after t rest g)
-  fine_after rest (Found v s next true) r f = fine_one f
-  fine_after rest (Found v s next false) r f = fine_add (item_of t v) (rest next) f (r next)
-  fine_after rest (Refused n s at) r f = tt
+  fine_after rest (Ok x) r f = by x.last
+    where
+      by : (last : Bool) → FineValues (after t rest (found_at x.value x.start x.next last))
+      by true = fine_one f
+      by false = fine_add (item_of t x.value) (rest x.next) f (r x.next)
+  fine_after rest (Err x) r f = tt
 
   fine_from : (k p : ℕ) → FineValues (values_from k w c d t p)
   unfolding values_from
@@ -134,9 +136,12 @@ module _ (w c d : ℕ) (t : List ℕ) (h : printable t ≡ true) where
   printed-add v (wrong n s at) f g = tt
 
   printed-after : (rest : ℕ → Values) (g : Got) → ((next : ℕ) → PrintedValues (rest next)) → PrintedValues (after t rest g)
-  printed-after rest (Found v s next true) r = (printed_item t v h, tt)
-  printed-after rest (Found v s next false) r = printed-add (item_of t v) (rest next) (printed_item t v h) (r next)
-  printed-after rest (Refused n s at) r = tt
+  printed-after rest (Ok x) r = by x.last
+    where
+      by : (last : Bool) → PrintedValues (after t rest (found_at x.value x.start x.next last))
+      by true = (printed_item t x.value h, tt)
+      by false = printed-add (item_of t x.value) (rest x.next) (printed_item t x.value h) (r x.next)
+  printed-after rest (Err x) r = tt
 
   printed-from : (k p : ℕ) → PrintedValues (values_from k w c d t p)
   unfolding values_from

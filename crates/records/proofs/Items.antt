@@ -1,30 +1,32 @@
 -- The values of a record are met one after the other. Assumes nothing.
 use mathlib.Core.Path.{◌≡◌, refl, ap}
-use mathlib.Core.Bool.{true, false}
+use mathlib.Core.Bool.{Bool, true, false}
 use mathlib.Core.List.{List, [], ◌∷◌}
 use Prim.Native.Nat.{ℕ, zero, suc, ◌≤◌}
 use native.Mathlib.Omega.{arith}
 use lib.ListN.{length, take}
+use Rattle.std.specs.Prelude.{Ok, Err}
 use Rattle.values.specs.declared.Value.{Value}
 use Rattle.values.specs.Value.{Item, item_of, is_default}
-use Rattle.records.specs.declared.Got.{Got}
-use Rattle.records.specs.declared.Got.TheVariants.{Found, Refused}
-use Rattle.records.specs.Record.{Values, values, wrong, more, after, value_at, values_from, values_at, behind, trim, trimmed}
+use Rattle.records.specs.Record.{Got, found_at, Values, values, wrong, more, after, value_at, values_from, values_at, behind, trim, trimmed}
 use Rattle.records.specs.Items.{got_item, items_from}
 
 -- what is read of a record that is accepted
 data Ended (t : List ℕ) (rest : ℕ → Values) (vs : List Item) (end : ℕ) : Got → Type 0 where
-  at_last : (v : Value) (s : ℕ) → vs ≡ item_of t v ∷ [] → Ended t rest vs end (Found v s end true)
-  going_on : (v : Value) (s next : ℕ) (us : List Item) → rest next ≡ values us end → vs ≡ item_of t v ∷ us → Ended t rest vs end (Found v s next false)
+  at_last : (v : Value) (s : ℕ) → vs ≡ item_of t v ∷ [] → Ended t rest vs end (found_at v s end true)
+  going_on : (v : Value) (s next : ℕ) (us : List Item) → rest next ≡ values us end → vs ≡ item_of t v ∷ us → Ended t rest vs end (found_at v s next false)
 
 ended : (t : List ℕ) (rest : ℕ → Values) (vs : List Item) (end : ℕ) (g : Got) → after t rest g ≡ values vs end → Ended t rest vs end g
-ended t rest vs end (Found v s next true) h = let e : next ≡ end = cc in rw (← e) (at_last v s (cc))
-ended t rest vs end (Found v s next false) h = by (rest next) refl h
+ended t rest vs end (Ok x) h = read x.value x.start x.next x.last h
   where
-    by : (r : Values) → rest next ≡ r → more (item_of t v) r ≡ values vs end → Ended t rest vs end (Found v s next false)
-    by (values us to) e k = going_on v s next us (cc) (cc)
-    by (wrong n a b) e k = let z : ◌≡◌ {A = ℕ} 0 1 = cc in absurd (omega arith)
-ended t rest vs end (Refused n s at) h = let z : ◌≡◌ {A = ℕ} 0 1 = cc in absurd (omega arith)
+    read : (v : Value) (s next : ℕ) (last : Bool) → after t rest (found_at v s next last) ≡ values vs end → Ended t rest vs end (found_at v s next last)
+    read v s next true h = let e : next ≡ end = cc in rw (← e) (at_last v s (cc))
+    read v s next false h = by (rest next) refl h
+      where
+        by : (r : Values) → rest next ≡ r → more (item_of t v) r ≡ values vs end → Ended t rest vs end (found_at v s next false)
+        by (values us to) e k = going_on v s next us (cc) (cc)
+        by (wrong n a b) e k = let z : ◌≡◌ {A = ℕ} 0 1 = cc in absurd (omega arith)
+ended t rest vs end (Err x) h = let z : ◌≡◌ {A = ℕ} 0 1 = cc in absurd (omega arith)
 
 module _ (w c d : ℕ) (t : List ℕ) where
   -- a value and what comes after it

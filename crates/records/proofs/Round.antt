@@ -23,10 +23,8 @@ use Rattle.values.proofs.Canon.{is_whole, is_real}
 use Rattle.values.proofs.Round.{round_head, head-joins, Spells, round as round_number}
 use Rattle.values.proofs.Sizes.{number_short, head_short, print_spelled}
 use Rattle.records.specs.declared.Next.TheVariants.{Delimiter, Other}
-use Rattle.records.specs.declared.Got.TheVariants.{Found}
-use Rattle.records.specs.Record.{blanks, mark, next_at, plain, value_at, values, more, values_from, values_at}
-use Rattle.records.specs.declared.Opening.TheVariants.{Opened}
-use Rattle.records.specs.Global.{may_delimit, opened, record_delimiter, opening_of, canonical_opening}
+use Rattle.records.specs.Record.{found_at, blanks, mark, next_at, plain, value_at, values, more, values_from, values_at}
+use Rattle.records.specs.Global.{may_delimit, opens, opened, record_delimiter, opening_of, canonical_opening}
 use Rattle.records.specs.Flow.{firm, gap, delimiter, piece, none, flow, Fines, fine_one, fine_more, Prints}
 
 -- ---- lists
@@ -109,7 +107,7 @@ module _ (w : ℕ) (t : List ℕ) where
 
     text_at : (bs : List ℕ) → 1 ≤ length bs → length bs ≤ 999 → drop s t ≡ head (length bs) ++ (bs ++ (delimiter last ∷ r))
         → s % w + (length (head (length bs)) + 1) ≤ w
-        → value_at w 44 59 t p ≡ Found (Text (s + length (head (length bs))) (length bs)) s (s + length (head (length bs)) + length bs + 1) last
+        → value_at w 44 59 t p ≡ found_at (Text (s + length (head (length bs))) (length bs)) s (s + length (head (length bs)) + length bs + 1) last
     unfolding value_at
     text_at bs lo hi e f =
         let m = w - s % w in
@@ -134,7 +132,7 @@ value_of (text bs) s = Text (s + length (head (length bs))) (length bs)
 
 module _ (w : ℕ) (big : 25 ≤ w) (t : List ℕ) (p : ℕ) (last : Bool) (r : List ℕ) where
   One : Item → Type 0
-  One v = (value_at w 44 59 t p ≡ Found (value_of v (p + gap w p (firm v))) (p + gap w p (firm v)) (p + length (piece w p v last)) last) × (item_of t (value_of v (p + gap w p (firm v))) ≡ v)
+  One v = (value_at w 44 59 t p ≡ found_at (value_of v (p + gap w p (firm v))) (p + gap w p (firm v)) (p + length (piece w p v last)) last) × (item_of t (value_of v (p + gap w p (firm v))) ≡ v)
 
   module _ (g : ℕ) (x : List ℕ) (e : drop p t ≡ (replicate g 32 ++ (x ++ (delimiter last ∷ []))) ++ r) where
     parted : drop p t ≡ replicate g 32 ++ (x ++ (delimiter last ∷ r))
@@ -161,15 +159,15 @@ module _ (w : ℕ) (big : 25 ≤ w) (t : List ℕ) (p : ℕ) (last : Bool) (r : 
       let g = gap w p 1 in
       let n : next_at 44 59 t p ≡ Delimiter (p + g) last = next-at w t p g (delimiter last ∷ r) (parted g [] e) (delimiter-mark last 0).1 ∙ (delimiter-mark last (p + g)).0 in
       let k : p + g + 1 ≡ p + g + 0 + 1 = omega arith in
-      (rw n (ap (λ (k : ℕ). Found Default (p + g) k last) (k ∙ to_end g [] e)), refl)
+      (rw n (ap (λ (k : ℕ). found_at Default (p + g) k last) (k ∙ to_end g [] e)), refl)
   one_value (fine_whole neg size h z) e =
       let x = spelled (whole neg size) in
       let g = gap w p (length x + 1) in
-      (number-piece (round_number is_whole (fine_whole neg size h z)) (number_short is_whole (fine_whole neg size h z)) e ∙ ap (λ (k : ℕ). Found (Whole neg size) (p + g) k last) (to_end g x e), refl)
+      (number-piece (round_number is_whole (fine_whole neg size h z)) (number_short is_whole (fine_whole neg size h z)) e ∙ ap (λ (k : ℕ). found_at (Whole neg size) (p + g) k last) (to_end g x e), refl)
   one_value (fine_real {neg} {m} {eneg} {e} ok double) h =
       let x = spelled (real neg m eneg e double) in
       let g = gap w p (length x + 1) in
-      (number-piece (round_number is_real (fine_real ok double)) (number_short is_real (fine_real ok double)) h ∙ ap (λ (k : ℕ). Found (Real neg m eneg e double) (p + g) k last) (to_end g x h), refl)
+      (number-piece (round_number is_real (fine_real ok double)) (number_short is_real (fine_real ok double)) h ∙ ap (λ (k : ℕ). found_at (Real neg m eneg e double) (p + g) k last) (to_end g x h), refl)
   one_value (fine_text bs lo hi) e =
       let hd = head (length bs) in
       let g = gap w p (length hd + 1) in
@@ -177,18 +175,18 @@ module _ (w : ℕ) (big : 25 ≤ w) (t : List ℕ) (p : ℕ) (last : Bool) (r : 
       let f : drop (p + g) t ≡ hd ++ (bs ++ (delimiter last ∷ r)) = from-gap g x e ∙ append_assoc hd bs (delimiter last ∷ r) in
       let n : next_at 44 59 t p ≡ Other (p + g) = other g x e (rw (append_assoc hd bs (delimiter last ∷ r)) (starts _ (head-joins (length bs) _))) in
       let k : p + g + length hd + length bs + 1 ≡ p + g + length x + 1 = simp length-append (omega arith) in (
-        text_at w t p (p + g) last r n bs lo hi f (gap-fits w p (length hd + 1) (omega (arith, head_short (length bs) hi)) (omega arith)) ∙ ap (λ (k : ℕ). Found (Text (p + g + length hd) (length bs)) (p + g) k last) (k ∙ to_end g x e),
+        text_at w t p (p + g) last r n bs lo hi f (gap-fits w p (length hd + 1) (omega (arith, head_short (length bs) hi)) (omega arith)) ∙ ap (λ (k : ℕ). found_at (Text (p + g + length hd) (length bs)) (p + g) k last) (k ∙ to_end g x e),
         ap text (ap (λ (y : List ℕ). take (length bs) y) (next t (p + g) hd _ f) ∙ take-append_seam bs (delimiter last ∷ r)),
       )
 
 -- ---- the record
 
 module _ (w : ℕ) (big : 25 ≤ w) (t : List ℕ) where
-  last_value : (k p : ℕ) {v : Value} {s n : ℕ} → value_at w 44 59 t p ≡ Found v s n true → values_from (suc k) w 44 59 t p ≡ values (item_of t v ∷ []) n
+  last_value : (k p : ℕ) {v : Value} {s n : ℕ} → value_at w 44 59 t p ≡ found_at v s n true → values_from (suc k) w 44 59 t p ≡ values (item_of t v ∷ []) n
   unfolding values_from
   last_value k p e = rw (values_from, e)
 
-  more-value : (k p : ℕ) {v : Value} {s n : ℕ} → value_at w 44 59 t p ≡ Found v s n false → values_from (suc k) w 44 59 t p ≡ more (item_of t v) (values_from k w 44 59 t n)
+  more-value : (k p : ℕ) {v : Value} {s n : ℕ} → value_at w 44 59 t p ≡ found_at v s n false → values_from (suc k) w 44 59 t p ≡ more (item_of t v) (values_from k w 44 59 t n)
   unfolding values_from
   more-value k p e = rw (values_from, e)
 
@@ -260,7 +258,7 @@ round w big {vs} f r = round_at w big (flow w 0 vs ++ r) 0 f r refl ∙ ap (valu
 
 -- ---- the opening
 
-pub opening_round : (last : Bool) (r : List ℕ) → opening_of (canonical_opening last ++ r) ≡ Opened 44 59 8 last
+pub opening_round : (last : Bool) (r : List ℕ) → opening_of (canonical_opening last ++ r) ≡ opens 44 59 8 last
 unfolding opening_of canonical_opening record_delimiter opened may_delimit
 opening_round true r = refl
 opening_round false r = refl

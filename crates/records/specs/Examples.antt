@@ -1,6 +1,6 @@
 -- Worked examples: texts in lines of w columns, with ',' and ';', and the values that they hold or their refusal; openings; values of
 -- Global fields; a record as it is written.
-use Rattle.std.specs.Prelude.{◌≡◌, refl, Bool, true, false, List, [], ◌∷◌, map, ℕ}
+use Rattle.std.specs.Prelude.{◌≡◌, refl, Bool, true, false, List, [], ◌∷◌, map, ℕ, Option, None}
 use Prim.Native.String.{String}
 use Rattle.columns.specs.declared.Fault.TheVariants.{Spelling, Limit}
 use Rattle.columns.specs.Decimal.{dec, last_digits, to_left}
@@ -9,10 +9,9 @@ use Rattle.values.specs.Head.{head_of}
 use Rattle.values.specs.Value.{Item, default, whole, real, text, seen, spelled}
 use Rattle.columns.specs.Quoted.{codes}
 use Rattle.records.specs.declared.Opening.{Opening}
-use Rattle.records.specs.declared.Opening.TheVariants.{Opened, Wrong}
 use Rattle.records.specs.Record.{next_at, value_at, Values, values, wrong, values_from, values_at, trimmed}
 use Rattle.records.specs.Flow.{firm, gap, piece, flow, line_count, cut, in_lines}
-use Rattle.records.specs.Global.{may_delimit, opened, record_delimiter, opening_of, kind_of, in_range, global_fits}
+use Rattle.records.specs.Global.{may_delimit, opens, opened, record_delimiter, opening_of, kind_of, in_range, global_fits}
 
 -- the columns of a line, the text, and its values with the position behind them, or the refusal, where its value starts and where it shows
 abbrev records : List (ℕ × String × Values)
@@ -46,22 +45,22 @@ records =
     ∷ []
 
 -- a text and its opening: the delimiters, the position behind it, and whether the record ends there
-abbrev openings : List (String × Opening)
+abbrev openings : List (String × Option Opening)
 openings =
-    ("1H,,1H;,5HCHAIR;", Opened 44 59 8 false)
-    ∷ ("1H,,1H;;", Opened 44 59 8 true)
-    ∷ (",,", Opened 44 59 2 false)
-    ∷ ("1H;;1H,;", Opened 59 44 8 false)
-    ∷ (",;", Opened 44 59 2 true)
-    ∷ ("1H//;", Opened 47 59 5 true)
-    ∷ ("1H//1H??", Opened 47 63 8 true)
-    ∷ ("1H;;;", Wrong)
-    ∷ ("1H//1H//", Wrong)
-    ∷ ("1H++;", Wrong)
-    ∷ ("1H  ;", Wrong)
-    ∷ ("1H,, 1H;,", Wrong)
-    ∷ (" ,,", Wrong)
-    ∷ ("        ", Wrong)
+    ("1H,,1H;,5HCHAIR;", opens 44 59 8 false)
+    ∷ ("1H,,1H;;", opens 44 59 8 true)
+    ∷ (",,", opens 44 59 2 false)
+    ∷ ("1H;;1H,;", opens 59 44 8 false)
+    ∷ (",;", opens 44 59 2 true)
+    ∷ ("1H//;", opens 47 59 5 true)
+    ∷ ("1H//1H??", opens 47 63 8 true)
+    ∷ ("1H;;;", None)
+    ∷ ("1H//1H//", None)
+    ∷ ("1H++;", None)
+    ∷ ("1H  ;", None)
+    ∷ ("1H,, 1H;,", None)
+    ∷ (" ,,", None)
+    ∷ ("        ", None)
     ∷ []
 
 -- a Global field's number, a value, and whether the field may hold it
@@ -87,7 +86,7 @@ globals =
 pub record Examples : Type 0 where
   pub read : map (λ (e : ℕ × String × Values). values_at e.0 44 59 (codes e.1) 0) records
       ≡ map (λ (e : ℕ × String × Values). e.2) records
-  pub opened : map (λ (e : String × Opening). opening_of (codes e.0)) openings ≡ map (λ (e : String × Opening). e.1) openings
+  pub opened : map (λ (e : String × Option Opening). opening_of (codes e.0)) openings ≡ map (λ (e : String × Option Opening). e.1) openings
   pub fit : map (λ (e : ℕ × Item × Bool). global_fits e.0 (seen e.1)) globals ≡ map (λ (e : ℕ × Item × Bool). e.2) globals
   -- a value that has no room goes to the next line, and so does a count with its H and first character; a string's text flows on
   pub written : in_lines 8

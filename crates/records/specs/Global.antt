@@ -1,6 +1,6 @@
 -- The Global section: its opening, and the kinds and ranges of its fields.
 use Rattle.std.specs.Prelude.{Bool, true, false, cond, not, ◌&&◌, ◌||◌, List, [], ◌∷◌, ◌++◌, ℕ, ◌+◌, get_or, leb}
-use Rattle.std.specs.Prelude.{eqb}
+use Rattle.std.specs.Prelude.{eqb, Option, Some, None}
 use Rattle.values.specs.declared.Value.{Value}
 use Rattle.values.specs.declared.Value.TheVariants.{Default, Whole, Real, Text}
 use Rattle.values.specs.Number.{joins}
@@ -8,7 +8,6 @@ use Rattle.columns.specs.Quoted.{codes}
 use Rattle.columns.specs.Letters.{comma, semicolon, digit1, letter_h}
 use Rattle.records.specs.Flow.{delimiter}
 use Rattle.records.specs.declared.Opening.{Opening}
-use Rattle.records.specs.declared.Opening.TheVariants.{Opened, Wrong}
 use Rattle.records.specs.declared.GlobalKind.{GlobalKind}
 use Rattle.records.specs.declared.GlobalKind.TheVariants.{String, Real as RealKind, Integer}
 
@@ -18,30 +17,34 @@ use Rattle.records.specs.declared.GlobalKind.TheVariants.{String, Real as RealKi
 unfoldable pub may_delimit : ℕ → Bool
 may_delimit x = leb 33 x && not (joins x)
 
+-- the delimiters, the position behind the opening, and whether the record ends there
+abbrev pub opens : ℕ → ℕ → ℕ → Bool → Option Opening
+opens c d next last = Some (record { parameter = c; closing = d; next = next; last = last })
+
 -- both may, and they differ
-unfoldable pub opened : ℕ → ℕ → ℕ → Bool → Opening
-opened c d next last = cond (may_delimit c && (may_delimit d && not (eqb c d))) (Opened c d next last) Wrong
+unfoldable pub opened : ℕ → ℕ → ℕ → Bool → Option Opening
+opened c d next last = cond (may_delimit c && (may_delimit d && not (eqb c d))) (opens c d next last) None
 
 -- `1H` stands at p
 abbrev pub one_h : List ℕ → ℕ → Bool
 one_h t p = eqb (get_or t p 0) digit1 && eqb (get_or t (p + 1) 0) letter_h
 
 -- from p on: c or ; (record delimiter semicolon), or 1H, d, and c or d
-unfoldable pub record_delimiter : ℕ → List ℕ → ℕ → Opening
+unfoldable pub record_delimiter : ℕ → List ℕ → ℕ → Option Opening
 record_delimiter c t p =
     let x = get_or t p 0 in
     let d = get_or t (p + 2) 0 in
     let y = get_or t (p + 3) 0 in
     cond (eqb x c) (opened c semicolon (p + 1) false)
     (cond (eqb x semicolon) (opened c semicolon (p + 1) true)
-    (cond (one_h t p) (cond (eqb y c) (opened c d (p + 4) false) (cond (eqb y d) (opened c d (p + 4) true) Wrong)) Wrong))
+    (cond (one_h t p) (cond (eqb y c) (opened c d (p + 4) false) (cond (eqb y d) (opened c d (p + 4) true) None)) None))
 
 -- `,` (delimiter comma) or `1H`, c, c; then the record delimiter
-unfoldable pub opening_of : List ℕ → Opening
+unfoldable pub opening_of : List ℕ → Option Opening
 opening_of t =
     let c = get_or t 2 0 in
     cond (eqb (get_or t 0 0) comma) (record_delimiter comma t 1)
-    (cond (one_h t 0 && eqb (get_or t 3 0) c) (record_delimiter c t 4) Wrong)
+    (cond (one_h t 0 && eqb (get_or t 3 0) c) (record_delimiter c t 4) None)
 
 -- the opening as it is written: `1H,,1H;,`, or `1H,,1H;;` if all else is default
 unfoldable pub canonical_opening : Bool → List ℕ

@@ -1,7 +1,7 @@
 -- The code's form: what the code knows besides: where a record stands in its file, the bounds of what is read, and a record's check as the
 -- code counts it.
 use Rattle.std.specs.Prelude.{◌≡◌, Bool, not, ◌&&◌, List, [], ◌∷◌, ℕ, ◌+◌, ◌*◌, ◌^◌, ◌≤◌, ◌<◌}
-use Rattle.std.specs.Prelude.{length, leb}
+use Rattle.std.specs.Prelude.{length, leb, Option, Some, None, Result, Ok, Err}
 use Rattle.columns.specs.Format.{line_columns, line_bytes, most_bytes, most_integer}
 use Rattle.columns.specs.Letters.{space}
 use Rattle.values.specs.declared.Value.{Value}
@@ -10,13 +10,10 @@ use Rattle.values.specs.Number.{is_digit}
 use Rattle.values.specs.Value.{Item}
 use Rattle.records.specs.declared.Next.{Next}
 use Rattle.records.specs.declared.Next.TheVariants.{Delimiter, Other}
-use Rattle.records.specs.declared.Got.{Got}
-use Rattle.records.specs.declared.Got.TheVariants.{Found, Refused}
+use Rattle.records.specs.declared.Misspelt.{Misspelt}
 use Rattle.records.specs.declared.Check.{Check}
-use Rattle.records.specs.declared.Check.TheVariants.{Done, Wrong}
 use Rattle.records.specs.declared.Opening.{Opening}
-use Rattle.records.specs.declared.Opening.TheVariants.{Opened, Wrong as WrongOpening}
-use Rattle.records.specs.Record.{Values, values, wrong, trimmed, kept}
+use Rattle.records.specs.Record.{Got, miss, Values, values, wrong, trimmed, kept}
 
 -- the first w columns of so many lines stand in the file from base on
 pub record Stands (file : List ℕ) (base w lines : ℕ) : Type 0 where
@@ -41,18 +38,18 @@ Writable m (Text start count) = (start + count ≤ m) × (1 ≤ count) × (count
 
 -- what is read from p on stands behind p in a text of m characters, and the rest is shorter
 abbrev pub Sane : ℕ → ℕ → Got → Type 0
-Sane p m (Found v s next last) = (p ≤ s) × (s < next) × (next ≤ m) × Writable m v
-Sane p m (Refused fault s at) = (p ≤ s) × (s ≤ at) × (at ≤ m)
+Sane p m (Ok r) = (p ≤ r.start) × (r.start < r.next) × (r.next ≤ m) × Writable m r.value
+Sane p m (Err r) = (p ≤ r.start) × (r.start ≤ r.at) × (r.at ≤ m)
 
 -- the same of a whole record
-abbrev pub SaneCheck : ℕ → ℕ → Check → Type 0
-SaneCheck p m (Done count kept end) = (1 ≤ count) × (kept ≤ count) × (p + count ≤ end) × (end ≤ m)
-SaneCheck p m (Wrong fault s at) = (p ≤ s) × (s ≤ at) × (at ≤ m)
+abbrev pub SaneCheck : ℕ → ℕ → Result Check Misspelt → Type 0
+SaneCheck p m (Ok r) = (1 ≤ r.count) × (r.kept ≤ r.count) × (p + r.count ≤ r.end) × (r.end ≤ m)
+SaneCheck p m (Err r) = (p ≤ r.start) × (r.start ≤ r.at) × (r.at ≤ m)
 
 -- the delimiters that an opening names are no blanks and differ; it is m characters long at most
-abbrev pub Delimits : ℕ → Opening → Type 0
-Delimits m (Opened c d next last) = (space < c) × (space < d) × (c ≡ d → ⊥) × (next ≤ m)
-Delimits m WrongOpening = Unit {0}
+abbrev pub Delimits : ℕ → Option Opening → Type 0
+Delimits m (Some o) = (space < o.parameter) × (space < o.closing) × (o.parameter ≡ o.closing → ⊥) × (o.next ≤ m)
+Delimits m None = Unit {0}
 
 -- no blank (a line's bytes are 32 to 126) and no digit
 abbrev pub sets_apart : ℕ → Bool
@@ -60,10 +57,14 @@ sets_apart x = leb 33 x && not (is_digit x)
 
 -- ---- a record's check
 
--- how many values there are and how many of them are kept, and where the record ends
-abbrev pub checked : Values → Check
-checked (values vs end) = Done (length vs) (kept vs) end
-checked (wrong fault s at) = Wrong fault s at
+-- how many values there are, how many of them are kept, and where the record ends
+abbrev pub done_at : ℕ → ℕ → ℕ → Result Check Misspelt
+done_at n k end = Ok (record { count = n; kept = k; end = end })
+
+-- the same of what is read
+abbrev pub checked : Values → Result Check Misspelt
+checked (values vs end) = done_at (length vs) (kept vs) end
+checked (wrong fault s at) = Err (miss fault s at)
 
 -- value n comes behind k kept ones
 abbrev pub kept_after : Value → ℕ → ℕ → ℕ
@@ -78,6 +79,6 @@ kept_from n k [] = k
 kept_from n k (v ∷ vs) = n + length (v ∷ vs)
 
 -- the same behind n values, k of them kept
-abbrev pub check_from : ℕ → ℕ → Values → Check
-check_from n k (values vs end) = Done (n + length vs) (kept_from n k (trimmed vs)) end
-check_from n k (wrong fault s at) = Wrong fault s at
+abbrev pub check_from : ℕ → ℕ → Values → Result Check Misspelt
+check_from n k (values vs end) = done_at (n + length vs) (kept_from n k (trimmed vs)) end
+check_from n k (wrong fault s at) = Err (miss fault s at)

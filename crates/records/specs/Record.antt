@@ -1,7 +1,7 @@
 -- The values of a record. Its text t is columns 1 to w of its lines, joined: position p stands on line p / w, so what "stands on one line"
 -- is read in the rest of the line of its first character. c parts the values, d ends the record.
-use Rattle.std.specs.Prelude.{true, false, cond, List, [], ◌∷◌, ℕ, zero, suc, ◌+◌, ◌-◌, ◌%◌, length, get_or, take}
-use Rattle.std.specs.Prelude.{drop, leb, eqb}
+use Rattle.std.specs.Prelude.{Bool, true, false, cond, List, [], ◌∷◌, ℕ, zero, suc, ◌+◌, ◌-◌, ◌%◌, length, get_or, take}
+use Rattle.std.specs.Prelude.{drop, leb, eqb, Result, Ok, Err}
 use Rattle.columns.specs.declared.Fault.{Fault}
 use Rattle.columns.specs.declared.Fault.TheVariants.{Spelling, Limit}
 use Rattle.columns.specs.Trim.{trim_onto, trim_end}
@@ -16,10 +16,25 @@ use Rattle.values.specs.Head.{head_of}
 use Rattle.values.specs.Value.{Item, item_of, is_default}
 use Rattle.records.specs.declared.Next.{Next}
 use Rattle.records.specs.declared.Next.TheVariants.{Delimiter, Other}
-use Rattle.records.specs.declared.Got.{Got}
-use Rattle.records.specs.declared.Got.TheVariants.{Found, Refused}
+use Rattle.records.specs.declared.Found.{Found}
+use Rattle.records.specs.declared.Misspelt.{Misspelt}
 
 -- ---- one value
+
+-- what is read of a value
+abbrev pub Got : Type 0
+Got = Result Found Misspelt
+
+-- a value, where it starts, the position behind its delimiter, and whether that ends the record
+abbrev pub found_at : Value → ℕ → ℕ → Bool → Got
+found_at v s next last = Ok (record { value = v; start = s; next = next; last = last })
+
+-- a refusal, where the value starts, and the first position that cannot continue it
+abbrev pub miss : Fault → ℕ → ℕ → Misspelt
+miss n s at = record { fault = n; start = s; at = at }
+
+abbrev pub refused_at : Fault → ℕ → ℕ → Got
+refused_at n s at = Err (miss n s at)
 
 -- how many blanks a text begins with
 abbrev pub blanks : List ℕ → ℕ
@@ -36,31 +51,31 @@ next_at c d t p = let q = p + blanks (drop p t) in mark c d (get_or t q 0) q
 
 -- a value that starts at s, and what stands behind it
 abbrev pub found : Value → ℕ → Next → Got
-found v s (Delimiter at last) = Found v s (at + 1) last
-found v s (Other at) = Refused Spelling s at
+found v s (Delimiter at last) = found_at v s (at + 1) last
+found v s (Other at) = refused_at Spelling s at
 
 -- a number well spelt up to its delimiter but beyond its limits
 abbrev pub beyond : ℕ → Next → Got
-beyond s (Delimiter at last) = Refused Limit s at
-beyond s (Other at) = Refused Spelling s at
+beyond s (Delimiter at last) = refused_at Limit s at
+beyond s (Other at) = refused_at Spelling s at
 
 -- a number that starts at s and ends at end, and what stands behind it
 abbrev pub plain : ℕ → ℕ → Next → Number → Got
 plain s end n (WholeNumber neg size) = found (Whole neg size) s n
 plain s end n (RealNumber neg m eneg e double) = found (Real neg m eneg e double) s n
 plain s end n Beyond = beyond s n
-plain s end n Bad = Refused Spelling s end
+plain s end n Bad = refused_at Spelling s end
 
 -- a string's text may cross lines and holds delimiters and blanks
 abbrev pub headed : ℕ → ℕ → List ℕ → ℕ → Head → Got
 headed c d t s (Count count len) =
     let at = s + len in
-    cond (leb (at + count) (length t)) (found (Text at count) s (next_at c d t (at + count))) (Refused Spelling s (length t))
+    cond (leb (at + count) (length t)) (found (Text at count) s (next_at c d t (at + count))) (refused_at Spelling s (length t))
 headed c d t s (Plain k) = let end = s + k.len in plain s end (next_at c d t end) k.number
 
 -- nothing before a delimiter is a default; a value's head is read in the rest of its line
 abbrev pub by_next : ℕ → ℕ → ℕ → List ℕ → Next → Got
-by_next w c d t (Delimiter at last) = Found Default at (at + 1) last
+by_next w c d t (Delimiter at last) = found_at Default at (at + 1) last
 by_next w c d t (Other s) = headed c d t s (head_of (take (w - s % w) (drop s t)))
 
 -- the value from position p on
@@ -82,9 +97,8 @@ more v (wrong n s at) = wrong n s at
 
 -- a value, and the rest of them
 abbrev pub after : List ℕ → (ℕ → Values) → Got → Values
-after t rest (Found v s next true) = values (item_of t v ∷ []) next
-after t rest (Found v s next false) = more (item_of t v) (rest next)
-after t rest (Refused n s at) = wrong n s at
+after t rest (Ok r) = elim r.last [ true ↦ values (item_of t r.value ∷ []) r.next | false ↦ more (item_of t r.value) (rest r.next) ]
+after t rest (Err r) = wrong r.fault r.start r.at
 
 -- at most `fuel` values
 unfoldable pub values_from : ℕ → ℕ → ℕ → ℕ → List ℕ → ℕ → Values
@@ -111,13 +125,13 @@ kept vs = length (trimmed vs)
 
 -- where a value starts: a default where its delimiter stands
 abbrev pub start_of : Got → ℕ
-start_of (Found v s next last) = s
-start_of (Refused n s at) = s
+start_of (Ok r) = r.start
+start_of (Err r) = r.start
 
 -- the position behind its delimiter
 abbrev pub behind : Got → ℕ
-behind (Found v s next last) = next
-behind (Refused n s at) = at
+behind (Ok r) = r.next
+behind (Err r) = r.at
 
 -- the position from which value k, counted from 0, is read
 unfoldable pub position_of : ℕ → ℕ → ℕ → List ℕ → ℕ → ℕ → ℕ

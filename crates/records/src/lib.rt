@@ -8,55 +8,49 @@ pub mod position;
 use columns::Fault;
 use values::Value;
 
-// What stands behind the blanks: a delimiter, and whether it ends the record, or something else.
+// What stands behind the blanks: a delimiter, and whether it ends the record, or something else. Both say where they stand, so neither
+// is missing or an error.
 #[derive(Clone, Copy)]
 pub enum Next {
     Delimiter { at: usize, last: bool },
     Other { at: usize },
 }
 
-// A value, where it starts, the position behind its delimiter, and whether that ends the record; or a refusal, where the value
-// starts, and the first position that cannot continue it (the text's length: the text ends early).
+// A value, where it starts, the position behind its delimiter, and whether that ends the record.
 #[derive(Clone, Copy)]
-pub enum Got {
-    Found {
-        value: Value,
-        start: usize,
-        next: usize,
-        last: bool,
-    },
-    Refused {
-        fault: Fault,
-        start: usize,
-        at: usize,
-    },
+pub struct Found {
+    pub value: Value,
+    pub start: usize,
+    pub next: usize,
+    pub last: bool,
 }
 
-// A record: how many values it has, how many up to the last that is no default, and the position behind it; or its first refusal.
+// A refusal, where the value starts, and the first position that cannot continue it (the text's length: the text ends early).
 #[derive(Clone, Copy)]
-pub enum Check {
-    Done {
-        count: usize,
-        kept: usize,
-        end: usize,
-    },
-    Wrong {
-        fault: Fault,
-        start: usize,
-        at: usize,
-    },
+pub struct Misspelt {
+    pub fault: Fault,
+    pub start: usize,
+    pub at: usize,
 }
 
-// The Global opening: the delimiters, the position behind it, and whether the record ends there; or a wrong opening.
+// What is read of a value.
+pub type Got = Result<Found, Misspelt>;
+
+// A record: how many values it has, how many up to the last that is no default, and the position behind it.
 #[derive(Clone, Copy)]
-pub enum Opening {
-    Opened {
-        parameter: u8,
-        record: u8,
-        next: usize,
-        last: bool,
-    },
-    Wrong,
+pub struct Check {
+    pub count: usize,
+    pub kept: usize,
+    pub end: usize,
+}
+
+// The Global opening: the delimiters, the position behind it, and whether the record ends there.
+#[derive(Clone, Copy)]
+pub struct Opening {
+    pub parameter: u8,
+    pub closing: u8,
+    pub next: usize,
+    pub last: bool,
 }
 
 // What a Global field holds.

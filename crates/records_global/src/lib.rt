@@ -16,51 +16,37 @@ use values::Value;
 fn sets_apart(x: u8) -> bool
     ensures { result ≡ sets_apart x }
 {
-    if x < 33 {
-        return false;
-    }
-    if x < b'0' {
-        return true;
-    }
-    b'9' < x
+    33 <= x && (x < b'0' || b'9' < x)
 }
 
+#[tactic(auto, unfolding(records::specs::Global::may_delimit))]
 fn may_delimit(x: u8) -> bool
     ensures { result ≡ may_delimit x }
 {
     match x {
-        b'+' => false,
-        b'-' => false,
-        b'.' => false,
-        b'D' => false,
-        b'E' => false,
-        b'H' => false,
+        b'+' | b'-' | b'.' | b'D' | b'E' | b'H' => false,
         _ => sets_apart(x),
     }
 }
 
-fn opened_of(c: u8, d: u8, next: usize, last: bool) -> Opening
+#[tactic(auto, unfolding(records::specs::Global::opened))]
+fn opened_of(c: u8, d: u8, next: usize, last: bool) -> Option<Opening>
     ensures { result ≡ opened c d next last }
 {
-    if !may_delimit(c) {
-        return Opening::Wrong;
+    if !may_delimit(c) || !may_delimit(d) || c == d {
+        return None;
     }
-    if !may_delimit(d) {
-        return Opening::Wrong;
-    }
-    if c == d {
-        return Opening::Wrong;
-    }
-    Opening::Opened {
+    Some(Opening {
         parameter: c,
-        record: d,
+        closing: d,
         next,
         last,
-    }
+    })
 }
 
 // The record delimiter and what stands behind it, from position p on.
-fn record_delimiter(file: &[u8], base: usize, lines: usize, c: u8, p: usize) -> Opening
+#[tactic(auto, unfolding(records::specs::Global::record_delimiter))]
+fn record_delimiter(file: &[u8], base: usize, lines: usize, c: u8, p: usize) -> Option<Opening>
     requires stands { Stands file.now base text_columns lines }
     requires p_bound { p ≤ 4 }
     ensures { result ≡ record_delimiter c (text_of file.now base text_columns lines) p }
@@ -73,11 +59,8 @@ fn record_delimiter(file: &[u8], base: usize, lines: usize, c: u8, p: usize) -> 
         return opened_of(c, b';', p + 1, true);
     }
     let h = records_read::char_at(file, base, TEXT_COLUMNS, lines, p + 1);
-    if x != b'1' {
-        return Opening::Wrong;
-    }
-    if h != b'H' {
-        return Opening::Wrong;
+    if x != b'1' || h != b'H' {
+        return None;
     }
     let d = records_read::char_at(file, base, TEXT_COLUMNS, lines, p + 2);
     let y = records_read::char_at(file, base, TEXT_COLUMNS, lines, p + 3);
@@ -87,11 +70,12 @@ fn record_delimiter(file: &[u8], base: usize, lines: usize, c: u8, p: usize) -> 
     if y == d {
         return opened_of(c, d, p + 4, true);
     }
-    Opening::Wrong
+    None
 }
 
 // The opening of the Global text, which stands from base on.
-pub fn opening_of(file: &[u8], base: usize, lines: usize) -> Opening
+#[tactic(auto, using(records::proofs::Globals::delimits_by), unfolding(records::specs::Global::opening_of))]
+pub fn opening_of(file: &[u8], base: usize, lines: usize) -> Option<Opening>
     requires { Stands file.now base text_columns lines }
     ensures value { result ≡ opening_of (text_of file.now base text_columns lines) }
     ensures delimits { Delimits 8 result }
@@ -103,14 +87,8 @@ pub fn opening_of(file: &[u8], base: usize, lines: usize) -> Opening
     let h = records_read::char_at(file, base, TEXT_COLUMNS, lines, 1);
     let c = records_read::char_at(file, base, TEXT_COLUMNS, lines, 2);
     let y = records_read::char_at(file, base, TEXT_COLUMNS, lines, 3);
-    if x != b'1' {
-        return Opening::Wrong;
-    }
-    if h != b'H' {
-        return Opening::Wrong;
-    }
-    if y != c {
-        return Opening::Wrong;
+    if x != b'1' || h != b'H' || y != c {
+        return None;
     }
     record_delimiter(file, base, lines, c, 4)
 }
@@ -126,23 +104,13 @@ pub fn stray(file: &[u8], base: usize, w: usize, lines: usize, p: usize) -> usiz
 }
 
 // What field n holds.
+#[tactic(auto, unfolding(records::specs::Global::kind_of))]
 fn kind_of(n: u32) -> GlobalKind
     ensures { result ≡ kind_of n }
 {
     match n {
-        3 => GlobalKind::String,
-        4 => GlobalKind::String,
-        5 => GlobalKind::String,
-        6 => GlobalKind::String,
-        12 => GlobalKind::String,
-        13 => GlobalKind::Real,
-        15 => GlobalKind::String,
-        17 => GlobalKind::Real,
-        18 => GlobalKind::String,
-        19 => GlobalKind::Real,
-        20 => GlobalKind::Real,
-        21 => GlobalKind::String,
-        22 => GlobalKind::String,
+        3..=6 | 12 | 15 | 18 | 21 | 22 => GlobalKind::String,
+        13 | 17 | 19 | 20 => GlobalKind::Real,
         _ => GlobalKind::Integer,
     }
 }
@@ -150,15 +118,10 @@ fn kind_of(n: u32) -> GlobalKind
 fn up_to(high: u32, neg: bool, size: u32) -> bool
     ensures { result ≡ up_to high neg size }
 {
-    if neg {
-        return false;
-    }
-    if size < 1 {
-        return false;
-    }
-    size <= high
+    !neg && 1 <= size && size <= high
 }
 
+#[tactic(auto, unfolding(records::specs::Global::in_range))]
 fn in_range(n: u32, neg: bool, size: u32) -> bool
     ensures { result ≡ in_range n neg size }
 {
@@ -172,27 +135,19 @@ fn in_range(n: u32, neg: bool, size: u32) -> bool
 fn is_kind(k: GlobalKind, n: u32, v: Value) -> bool
     ensures { result ≡ is_kind k n v }
 {
-    match v {
-        Value::Default => true,
-        Value::Whole { neg, size } => match k {
-            GlobalKind::String => false,
-            GlobalKind::Real => true,
-            GlobalKind::Integer => in_range(n, neg, size),
-        },
-        Value::Real { .. } => match k {
-            GlobalKind::String => false,
-            GlobalKind::Real => true,
-            GlobalKind::Integer => false,
-        },
-        Value::Text { .. } => match k {
-            GlobalKind::String => true,
-            GlobalKind::Real => false,
-            GlobalKind::Integer => false,
+    match k {
+        GlobalKind::String => matches!(v, Value::Default | Value::Text { .. }),
+        GlobalKind::Real => !matches!(v, Value::Text { .. }),
+        GlobalKind::Integer => match v {
+            Value::Default => true,
+            Value::Whole { neg, size } => in_range(n, neg, size),
+            _ => false,
         },
     }
 }
 
 // Whether Global field n may hold this value.
+#[tactic(auto, unfolding(records::specs::Global::global_fits))]
 pub fn global_fits(n: u32, v: Value) -> bool
     ensures { result ≡ global_fits n v }
 {

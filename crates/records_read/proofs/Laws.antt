@@ -22,13 +22,11 @@ use Rattle.values.specs.declared.Value.{Value}
 use Rattle.values.specs.declared.Value.TheVariants.{Default, Whole, Real, Text}
 use Rattle.values.specs.declared.Head.{Head}
 use Rattle.values.specs.declared.Head.TheVariants.{Count, Plain}
-use Rattle.records.specs.declared.Got.{Got}
-use Rattle.records.specs.declared.Got.TheVariants.{Found, Refused}
 use Rattle.records.specs.declared.Next.{Next}
 use Rattle.records.specs.declared.Next.TheVariants.{Delimiter, Other}
 use Rattle.columns.specs.Columns.{text_of}
 use Rattle.records.specs.Reading.{Stands, place, Sane}
-use Rattle.records.specs.Record.{blanks, mark, next_at, found, beyond, plain, headed, by_next, value_at}
+use Rattle.records.specs.Record.{Got, found_at, refused_at, blanks, mark, next_at, found, beyond, plain, headed, by_next, value_at}
 use Rattle.records.proofs.Bounds.{within, sane}
 use Rattle.records.proofs.Texts.{length-text, small, column, index, char_of, char_end, rest_of, rest_in}
 
@@ -87,6 +85,9 @@ module _ {file : List ℕ} {base w lines : ℕ} (st : Stands file base w lines) 
         let k : length t ≤ q = omega (arith, length-text file base w lines st) in
         let z : blanks (drop q t) ≡ 0 = rw (drop_of_length-le t k) in
         omega arith
+
+    pub skip_all : lines * w ≤ q → q ≤ lines * w → lines * w ≡ r
+    skip_all h k = omega (arith, skip_end h)
 
   -- what stands at p is no blank, or it is one and p stands in the text
   module _ {x : ℕ} (p : ℕ) (g : x ≡ get_or (text_of file base w lines) p 0) where
@@ -151,17 +152,17 @@ next_place c d x q en h = rw (en, place-mark c d x q) h
 -- ---- what is found
 
 module _ (v : Value) (s : ℕ) (n : Next) where
-  pub found_some : {at : ℕ} {last : Bool} → n ≡ Delimiter at last → Found v s (at + 1) last ≡ found v s n
+  pub found_some : {at : ℕ} {last : Bool} → n ≡ Delimiter at last → found_at v s (at + 1) last ≡ found v s n
   found_some e = rw e
 
-  pub found_none : {at : ℕ} → n ≡ Other at → Refused Spelling s at ≡ found v s n
+  pub found_none : {at : ℕ} → n ≡ Other at → refused_at Spelling s at ≡ found v s n
   found_none e = rw e
 
 module _ (s : ℕ) (n : Next) where
-  pub beyond_some : {at : ℕ} {last : Bool} → n ≡ Delimiter at last → Refused Limit s at ≡ beyond s n
+  pub beyond_some : {at : ℕ} {last : Bool} → n ≡ Delimiter at last → refused_at Limit s at ≡ beyond s n
   beyond_some e = rw e
 
-  pub beyond-none : {at : ℕ} → n ≡ Other at → Refused Spelling s at ≡ beyond s n
+  pub beyond-none : {at : ℕ} → n ≡ Other at → refused_at Spelling s at ≡ beyond s n
   beyond-none e = rw e
 
 pub place-fits : {n : Next} {at : ℕ} {last : Bool} → n ≡ Delimiter at last → place n ≤ 16000000 → at + 1 < 2 ^ 64
@@ -177,7 +178,7 @@ module _ (s end : ℕ) (n : Next) {k : Number} {r : Got} where
   pub plain-beyond : k ≡ Beyond → r ≡ beyond s n → r ≡ plain s end n k
   plain-beyond e q = q ∙ rw e
 
-pub plain_bad : (s end : ℕ) (n : Next) {k : Number} → k ≡ Bad → Refused Spelling s end ≡ plain s end n k
+pub plain_bad : (s end : ℕ) (n : Next) {k : Number} → k ≡ Bad → refused_at Spelling s end ≡ plain s end n k
 plain_bad s end n e = rw e
 
 -- ---- heads
@@ -216,12 +217,12 @@ no_head : head_of [] ≡ Plain (record { number = Bad; len = 0 })
 unfolding head_of number_of
 no_head = refl
 
-pub given-none : {file : List ℕ} {base w lines : ℕ} → Stands file base w lines → (c d s : ℕ) → lines * w ≤ s → Refused Spelling s s ≡ by_next w c d (text_of file base w lines) (Other s)
+pub given-none : {file : List ℕ} {base w lines : ℕ} → Stands file base w lines → (c d s : ℕ) → lines * w ≤ s → refused_at Spelling s s ≡ by_next w c d (text_of file base w lines) (Other s)
 given-none {file} {base} {w} {lines} st c d s l =
     let t = text_of file base w lines in
     let k : length t ≤ s = omega (arith, length-text file base w lines st) in
     let e : head_of (take (w - s % w) (drop s t)) ≡ Plain (record { number = Bad; len = 0 }) = ap (λ (y : List ℕ). head_of (take (w - s % w) y)) (drop_of_length-le t k) ∙ ap head_of (take-nil (w - s % w)) ∙ no_head in
-    ap (Refused Spelling s) (sym (add-zero s)) ∙ ap (headed c d t s) (sym e)
+    ap (refused_at Spelling s) (sym (add-zero s)) ∙ ap (headed c d t s) (sym e)
 
 -- ---- put together
 
@@ -239,7 +240,7 @@ module _ {file : List ℕ} {base w lines : ℕ} (st : Stands file base w lines) 
   end_of_count s a n h k l = omega (arith, small file base w lines st)
 
   module _ (c d s : ℕ) where
-    pub count_short : (count len : ℕ) → lines * w < s + len + count → Refused Spelling s (lines * w) ≡ headed c d (text_of file base w lines) s (Count count len)
+    pub count_short : (count len : ℕ) → lines * w < s + len + count → refused_at Spelling s (lines * w) ≡ headed c d (text_of file base w lines) s (Count count len)
     count_short count len h = rw (length-text file base w lines st) (simp (lt-leb (s + len + count) (lines * w) h))
 
     pub count_long : (count len : ℕ) {n : Next} {r : Got} → s + len + count ≤ lines * w → n ≡ next_at c d (text_of file base w lines) (s + len + count) → r ≡ found (Text (s + len) count) s n
@@ -256,7 +257,7 @@ pub other_in : (m : ℕ) {n : Next} {at : ℕ} → n ≡ Other at → place n �
 other_in m e h = rw e at h
 
 module _ (w c d p : ℕ) (t : List ℕ) {n : Next} (en : n ≡ next_at c d t p) where
-  pub value_default : {at : ℕ} {last : Bool} → n ≡ Delimiter at last → Found Default at (at + 1) last ≡ value_at w c d t p
+  pub value_default : {at : ℕ} {last : Bool} → n ≡ Delimiter at last → found_at Default at (at + 1) last ≡ value_at w c d t p
   unfolding value_at
   value_default e = ap (by_next w c d t) (sym e ∙ en)
 
@@ -273,7 +274,7 @@ module _ {file : List ℕ} {base w lines : ℕ} (st : Stands file base w lines) 
       rw (e, ← (length-text file base w lines st)) (sane w c d t pc pd p k)
 
   module _ {n : Next} (en : n ≡ next_at c d (text_of file base w lines) p) where
-    pub sane_default : {at : ℕ} {last : Bool} → n ≡ Delimiter at last → Sane p (lines * w) (Found Default at (at + 1) last)
+    pub sane_default : {at : ℕ} {last : Bool} → n ≡ Delimiter at last → Sane p (lines * w) (found_at Default at (at + 1) last)
     sane_default e = value_sane (value_default w c d p (text_of file base w lines) en e)
 
     pub sane_given : {at : ℕ} {r : Got} → n ≡ Other at → r ≡ by_next w c d (text_of file base w lines) (Other at) → Sane p (lines * w) r
@@ -281,4 +282,4 @@ module _ {file : List ℕ} {base w lines : ℕ} (st : Stands file base w lines) 
 
 pub ruleset ends_laws = (product_fits, place_small, place_in, sum_fits, end_of_count, count_short, count_long, sum_in, plain-parts, given-none, given-count, given-plain, count-within, plain-within, index_fits, column_in, end_fits, end_in, count_few, count_in_lem, plain_in, other_in, value_default, value-given, sane_default, sane_given)
 
-pub ruleset laws = (product_fits, turn_fits, index_fits, index_in, char_in, char_out, skip_ink, skip_blank, skip_end, blank-fits, blank_turn, mark-part, mark-end, mark-other, next_here, next-on, next_place, found_some, found_none, beyond_some, beyond-none, place-fits, plain_whole, plain_real, plain-beyond, plain_bad)
+pub ruleset laws = (product_fits, turn_fits, index_fits, index_in, char_in, char_out, skip_ink, skip_blank, skip_all, blank-fits, blank_turn, mark-part, mark-end, mark-other, next_here, next-on, next_place, found_some, found_none, beyond_some, beyond-none, place-fits, plain_whole, plain_real, plain-beyond, plain_bad)

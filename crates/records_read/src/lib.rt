@@ -9,8 +9,8 @@ ghost use Rattle.records.specs.Reading.{Stands, place, Sane, kept_after, checked
 
 use columns::Fault;
 use records::position::{column_of, index_of};
-use records::{Check, Got, Next};
-use values::{Head, Number, Token, Value};
+use records::{Check, Found, Got, Misspelt, Next};
+use values::{Head, Number, Token, Value, is_missing};
 
 // The character at position p of the text; 0 past its end.
 pub fn char_at(file: &[u8], base: usize, w: usize, lines: usize, p: usize) -> u8
@@ -32,15 +32,12 @@ pub fn behind_blanks(file: &[u8], base: usize, w: usize, lines: usize, p: usize)
     ensures value { result ≡ p + blanks (drop p (text_of file.now base w lines)) }
     ensures lower_bound { (p ≤ result) × (result ≤ lines * w) }
 {
-    let mut q = p;
-    while q < lines * w {
-        let x = char_at(file, base, w, lines, q);
-        if x != b' ' {
+    for q in p..lines * w {
+        if char_at(file, base, w, lines, q) != b' ' {
             return q;
         }
-        q += 1;
     }
-    q
+    lines * w
 }
 
 fn mark_of(c: u8, d: u8, x: u8, q: usize) -> Next
@@ -75,17 +72,17 @@ fn found_of(v: Value, s: usize, n: Next) -> Got
     ensures { result ≡ found v s n }
 {
     match n {
-        Next::Delimiter { at, last } => Got::Found {
+        Next::Delimiter { at, last } => Ok(Found {
             value: v,
             start: s,
             next: at + 1,
             last,
-        },
-        Next::Other { at } => Got::Refused {
+        }),
+        Next::Other { at } => Err(Misspelt {
             fault: Fault::Spelling,
             start: s,
             at,
-        },
+        }),
     }
 }
 
@@ -93,16 +90,16 @@ fn beyond_of(s: usize, n: Next) -> Got
     ensures { result ≡ beyond s n }
 {
     match n {
-        Next::Delimiter { at, .. } => Got::Refused {
+        Next::Delimiter { at, .. } => Err(Misspelt {
             fault: Fault::Limit,
             start: s,
             at,
-        },
-        Next::Other { at } => Got::Refused {
+        }),
+        Next::Other { at } => Err(Misspelt {
             fault: Fault::Spelling,
             start: s,
             at,
-        },
+        }),
     }
 }
 
@@ -130,11 +127,11 @@ fn plain_of(s: usize, end: usize, n: Next, k: Number) -> Got
             n,
         ),
         Number::Beyond => beyond_of(s, n),
-        Number::Bad => Got::Refused {
+        Number::Bad => Err(Misspelt {
             fault: Fault::Spelling,
             start: s,
             at: end,
-        },
+        }),
     }
 }
 
@@ -180,11 +177,11 @@ fn count_at(
     let at = s + len;
     let end = at + count;
     if lines * w < end {
-        return Got::Refused {
+        return Err(Misspelt {
             fault: Fault::Spelling,
             start: s,
             at: lines * w,
-        };
+        });
     }
     let behind = next_at(file, base, w, lines, c, d, end);
     found_of(Value::Text { start: at, count }, s, behind)
@@ -197,11 +194,11 @@ fn given_at(file: &[u8], base: usize, w: usize, lines: usize, c: u8, d: u8, s: u
     ensures { result ≡ by_next w c d (text_of file.now base w lines) (Next.Other s) }
 {
     if lines * w <= s {
-        return Got::Refused {
+        return Err(Misspelt {
             fault: Fault::Spelling,
             start: s,
             at: s,
-        };
+        });
     }
     let a = index_of(base, w, s);
     let e = a + (w - column_of(w, s));
@@ -223,12 +220,12 @@ pub fn value_at(file: &[u8], base: usize, w: usize, lines: usize, c: u8, d: u8, 
 {
     let n = next_at(file, base, w, lines, c, d, p);
     match n {
-        Next::Delimiter { at, last } => Got::Found {
+        Next::Delimiter { at, last } => Ok(Found {
             value: Value::Default,
             start: at,
             next: at + 1,
             last,
-        },
+        }),
         Next::Other { at } => given_at(file, base, w, lines, c, d, at),
     }
 }
@@ -238,16 +235,19 @@ fn kept_after(v: Value, k: usize, n: usize) -> usize
     requires { k ≤ n }
     ensures { (result ≡ kept_after v k n) × (result ≤ n) }
 {
-    match v {
-        Value::Default => k,
-        Value::Whole { .. } => n,
-        Value::Real { .. } => n,
-        Value::Text { .. } => n,
-    }
+    if is_missing(v) { k } else { n }
 }
 
 // All values from position p of a record's text on.
-pub fn check_from(file: &[u8], base: usize, w: usize, lines: usize, c: u8, d: u8, p: usize) -> Check
+pub fn check_from(
+    file: &[u8],
+    base: usize,
+    w: usize,
+    lines: usize,
+    c: u8,
+    d: u8,
+    p: usize,
+) -> Result<Check, Misspelt>
     requires stands { Stands file.now base w lines }
     requires p_bound { p ≤ lines * w }
     requires c_nonzero { 0 < c }
@@ -259,28 +259,21 @@ pub fn check_from(file: &[u8], base: usize, w: usize, lines: usize, c: u8, d: u8
     let mut n: usize = 0;
     let mut kept: usize = 0;
     loop {
-        let g = value_at(file, base, w, lines, c, d, q);
-        match g {
-            Got::Refused { fault, start, at } => {
-                return Check::Wrong { fault, start, at };
-            }
-            Got::Found {
-                value,
-                next,
-                last,
-                ..
-            } => {
-                n += 1;
-                kept = kept_after(value, kept, n);
-                if last {
-                    return Check::Done {
-                        count: n,
-                        kept,
-                        end: next,
-                    };
-                }
-                q = next;
-            }
+        let Found {
+            value,
+            next,
+            last,
+            ..
+        } = value_at(file, base, w, lines, c, d, q)?;
+        n += 1;
+        kept = kept_after(value, kept, n);
+        if last {
+            return Ok(Check {
+                count: n,
+                kept,
+                end: next,
+            });
         }
+        q = next;
     }
 }
