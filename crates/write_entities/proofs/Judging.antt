@@ -12,8 +12,7 @@ use Rattle.columns.specs.Columns.{columns}
 use Rattle.columns.specs.Refusal.{Outcome, accepted, refused, demand, ◌then◌}
 use Rattle.columns.proofs.Tests.{and_assoc}
 use Rattle.values.specs.declared.Value.{Value}
-use Rattle.values.specs.declared.Strict.{Strict}
-use Rattle.values.specs.declared.Strict.TheVariants.{Not}
+use Rattle.std.specs.Prelude.{Option, None}
 use Rattle.values.specs.Value.{Item, item_of}
 use Rattle.values.specs.Strict.{strict_of}
 use Rattle.directory.specs.declared.Fields.{Fields}
@@ -89,7 +88,7 @@ module _ (types t : List ℕ) (at size : ℕ) (g : Stepped) (right : Bool) (f : 
       pub judge_other : b ≡ false → judged_so g right ≡ f
       judge_other e = other (says_of (columns t at stop)) refl (no_value t at stop b eb e)
 
-      pub judge_not : b ≡ true → (y : Strict) → y ≡ strict_of (columns t (at + 2) stop) → y ≡ Not → judged_so g right ≡ f
+      pub judge_not : b ≡ true → (y : Option Value) → y ≡ strict_of (columns t (at + 2) stop) → y ≡ None → judged_so g right ≡ f
       judge_not e y ey q = other (Nothing true) (value_not t at stop b eb (value_long t at stop b eb lo hi e) e y ey q) tt
 
 -- a value line, and those behind it

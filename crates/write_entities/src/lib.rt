@@ -21,7 +21,7 @@ use layouts_lists::known;
 use read_entities::marks::{mark_of, marks_begun};
 use sheets::Said;
 use sheets_read::{end_of, is_value, strict_at};
-use values::{Strict, Value};
+use values::Value;
 use write_lines::SheetPass;
 use write_lines::heads::head_at;
 use write_lines::refer::{reference_of, references};
@@ -120,14 +120,14 @@ fn judge(classes: &[u8], n: usize, t: &[u8], from: usize, begun: Stepped) -> Val
             return values_of(state, right, next, lines);
         }
         match strict_at(t, next + 2, end) {
-            Strict::Is(value) => {
+            Some(value) => {
                 let reference = t[next] == b'R';
                 right = right_too(right, reference, state);
                 state = step_at(classes, n, t, state, value);
                 next = end + 1;
                 lines += 1;
             }
-            Strict::Not => {
+            None => {
                 return values_of(state, right, next, lines);
             }
         }
