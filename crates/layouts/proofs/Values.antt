@@ -13,8 +13,7 @@ use Rattle.values.specs.declared.Value.TheVariants.{Default, Whole, Real, Text}
 use Rattle.layouts.specs.declared.Times.{Times}
 use Rattle.layouts.specs.declared.Times.TheVariants.{Knots1, Knots2, C, ThreeC}
 use Rattle.layouts.specs.declared.LayoutState.{LayoutState}
-use Rattle.layouts.specs.declared.Stepped.{Stepped}
-use Rattle.layouts.specs.declared.Stepped.TheVariants.{Go, Bad}
+use Rattle.std.specs.Prelude.{Option, Some, None}
 use Rattle.references.specs.References.{fits}
 use Rattle.layouts.specs.Machine.{above, within, size, refer, need, times, with_bad}
 
@@ -45,7 +44,7 @@ within_low given low high v neg n p q h = rw (p, q) (simp (lt-leb low n h))
 
 pub ruleset values = (above-neg, above_pos, above-minus, above_whole, within_none, within_high, within_low)
 
-pub need_go : (b : Bool) (s : LayoutState) → b ≡ true → Go s ≡ need b s
+pub need_go : (b : Bool) (s : LayoutState) → b ≡ true → Some s ≡ need b s
 need_go b s e = rw e
 
 -- a number that fits where the test holds fits where it held
@@ -55,20 +54,20 @@ kept-fits b n h e = let k = h e in record { fits = omega arith }
 pub zero_free : (free : Bool) (n : ℕ) → free ≡ true → eqb n 0 ≡ (free && eqb n 0)
 zero_free free n e = rw e
 
-pub noted-is : (s : LayoutState) (bad r : Bool) → r ≡ (s.bad || bad) → Go (with_bad s r) ≡ Go (with_bad s (s.bad || bad))
+pub noted-is : (s : LayoutState) (bad r : Bool) → r ≡ (s.bad || bad) → Some (with_bad s r) ≡ Some (with_bad s (s.bad || bad))
 noted-is s bad r e = rw e
 
-pub refer-none : (free : Bool) (want : ℕ) (s : LayoutState) (v : Value) (class : ℕ) (r : Stepped) → v ≡ Default → r ≡ Go (with_bad s (s.bad || not free)) → r ≡ refer free want s v class
+pub refer-none : (free : Bool) (want : ℕ) (s : LayoutState) (v : Value) (class : ℕ) (r : Option LayoutState) → v ≡ Default → r ≡ Some (with_bad s (s.bad || not free)) → r ≡ refer free want s v class
 refer-none free want s v class r p q = rw p q
 
-pub refer_whole : (free : Bool) (want : ℕ) (s : LayoutState) (v : Value) (class : ℕ) (r : Stepped) (neg : Bool) (n : ℕ) (z f o : Bool) → v ≡ Whole neg n
-    → z ≡ (free && eqb n 0) → f ≡ fits want class → o ≡ (z || f) → r ≡ Go (with_bad s (s.bad || not o)) → r ≡ refer free want s v class
+pub refer_whole : (free : Bool) (want : ℕ) (s : LayoutState) (v : Value) (class : ℕ) (r : Option LayoutState) (neg : Bool) (n : ℕ) (z f o : Bool) → v ≡ Whole neg n
+    → z ≡ (free && eqb n 0) → f ≡ fits want class → o ≡ (z || f) → r ≡ Some (with_bad s (s.bad || not o)) → r ≡ refer free want s v class
 refer_whole free want s v class r neg n z f o p ez ef eo q = rw (p, ← ef, ← ez, ← eo) q
 
-pub refer_real : (free : Bool) (want : ℕ) (s : LayoutState) (v : Value) (class : ℕ) (neg : Bool) (m : ℕ) (eneg : Bool) (e : ℕ) (double : Bool) → v ≡ Real neg m eneg e double → Bad ≡ refer free want s v class
+pub refer_real : (free : Bool) (want : ℕ) (s : LayoutState) (v : Value) (class : ℕ) (neg : Bool) (m : ℕ) (eneg : Bool) (e : ℕ) (double : Bool) → v ≡ Real neg m eneg e double → None ≡ refer free want s v class
 refer_real free want s v class neg m eneg e double p = rw p
 
-pub refer-text : (free : Bool) (want : ℕ) (s : LayoutState) (v : Value) (class a b : ℕ) → v ≡ Text a b → Bad ≡ refer free want s v class
+pub refer-text : (free : Bool) (want : ℕ) (s : LayoutState) (v : Value) (class a b : ℕ) → v ≡ Text a b → None ≡ refer free want s v class
 refer-text free want s v class a b p = rw p
 
 pub times_knots1 : (t : Times) (s : LayoutState) → t ≡ Knots1 → s.k1 + s.m1 + 2 ≡ times t s

@@ -10,12 +10,12 @@ use Rattle.layouts.specs.declared.Kind.TheVariants.{R, Given, Weight, S, I, Flag
 use Rattle.values.specs.declared.Value.{Value}
 use Rattle.values.specs.Value.{is_missing}
 use Rattle.layouts.specs.declared.LayoutState.{LayoutState}
-use Rattle.layouts.specs.declared.Stepped.{Stepped}
+use Rattle.std.specs.Prelude.{Option}
 use Rattle.layouts.specs.Layout.{most_upper}
 use Rattle.layouts.specs.Machine.{numeric, above, text, within, size, need, refer, takes, with_k1, with_k2, with_m1, with_m2}
 use Rattle.layouts.proofs.Values.{within-size}
 
-module _ (k : Kind) (s : LayoutState) (v : Value) (class : ℕ) (r : Stepped) where
+module _ (k : Kind) (s : LayoutState) (v : Value) (class : ℕ) (r : Option LayoutState) where
   pub takes-r : (x y b : Bool) → k ≡ R → x ≡ numeric v → y ≡ is_missing v → b ≡ (x || y) → r ≡ need b s → r ≡ takes k s v class
   unfolding takes
   takes-r x y b e ex ey eb q = rw (e, ← ex, ← ey, ← eb) q
