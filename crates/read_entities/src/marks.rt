@@ -12,6 +12,7 @@ use layouts_machine::{is_reference, start, step};
 use values::Value;
 
 // Before the first value.
+#[tactic(auto, using(crate::proofs::Marking::marking))]
 pub fn marks_begun(list: u64, typ: u32, form: u32) -> Option<LayoutState>
     ensures { result ≡ marks_begun list typ form }
 {
@@ -19,16 +20,15 @@ pub fn marks_begun(list: u64, typ: u32, form: u32) -> Option<LayoutState>
 }
 
 // The mark of the next value: whether it is R.
+#[tactic(auto, using(crate::proofs::Marking::marking))]
 pub fn mark_of(g: Option<LayoutState>) -> bool
     ensures { result ≡ mark g }
 {
-    match g {
-        Some(s) => is_reference(s),
-        None => false,
-    }
+    g.is_some_and(is_reference)
 }
 
 // Behind this value.
+#[tactic(auto, using(crate::proofs::Marking::marking))]
 pub fn mark_step(file: &[u8], first: usize, n: usize, g: Option<LayoutState>, v: Value) -> Option<LayoutState>
     requires { line_bytes * (first + 2 * n) ≤ length file.now }
     ensures { result ≡ stepped (types_at file.now first n) g v }

@@ -51,6 +51,7 @@ pub struct Asked {
 }
 
 // The layout behind this value.
+#[tactic(auto, using(crate::proofs::Judging::values))]
 fn step_at(classes: &[u8], n: usize, t: &[u8], g: Option<LayoutState>, v: Value) -> Option<LayoutState>
     requires { Tabled classes.now n t.now }
     ensures { result ≡ stepped (sheet_types t.now) g v }
