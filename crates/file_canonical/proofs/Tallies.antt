@@ -10,7 +10,7 @@ use Rattle.columns.specs.declared.Signed.{Signed}
 use Rattle.columns.specs.Format.{text_columns, parameter_columns, most_lines}
 use Rattle.values.specs.declared.Value.{Value}
 use Rattle.values.specs.declared.Value.TheVariants.{Whole}
-use Rattle.values.specs.declared.Strict.TheVariants.{Is}
+use Rattle.std.specs.Prelude.{Some}
 use Rattle.values.specs.Value.{Item, whole, item_of}
 use Rattle.values.specs.Strict.{strict_of}
 use Rattle.values.specs.Writing.{front}
@@ -134,7 +134,7 @@ pub short_value : {y : Said} {reference : Bool} {v : Value} → y ≡ Given refe
 short_value e h = rw e at h
 
 -- ---- a value line: what it says is its canonical spelling
-module _ (l : List ℕ) {v : Value} (s : strict_of l ≡ Is v) where
+module _ (l : List ℕ) {v : Value} (s : strict_of l ≡ Some v) where
   pub strict_length : length l ≡ length (front v) + copied v
   strict_length = sym (ap length (sound l s).text) ∙ spelled-length l v (rw s at (strict_inside l))
 

@@ -5,7 +5,7 @@ use mathlib.Core.List.{List, [], ◌∷◌}
 use Prim.Native.Nat.{ℕ, ◌+◌, ◌^◌, ◌≤◌, ◌<◌}
 use native.Mathlib.Omega.{arith}
 use lib.ListN.{length, replicate}
-use Rattle.values.specs.declared.Strict.TheVariants.{Is}
+use Rattle.std.specs.Prelude.{Some}
 use Rattle.values.specs.Value.{item_of}
 use Rattle.values.specs.Strict.{strict_of, meant}
 use Rattle.values.specs.Writing.{front}
@@ -15,7 +15,7 @@ use Rattle.records.specs.Flow.{firm, gap, piece}
 use Rattle.records.specs.Written.{Put}
 use Rattle.records.proofs.Puts.{firm-front, then, put-length}
 
-module _ (l : List ℕ) (s : strict_of l ≡ Is (meant l)) where
+module _ (l : List ℕ) (s : strict_of l ≡ Some (meant l)) where
   module _ {n : ℕ} (h : n ≤ length l) where
     pub front-sum : n + 1 < 2 ^ 64
     front-sum = omega (arith, strict_short l s)

@@ -12,8 +12,8 @@ use borrow.Author.Tests.{not-true, not-false}
 use Rattle.columns.specs.Columns.{columns}
 use Rattle.columns.proofs.Columns.{byte_of}
 use Rattle.columns.proofs.Tests.{both_right}
-use Rattle.values.specs.declared.Strict.{Strict}
-use Rattle.values.specs.declared.Strict.TheVariants.{Is, Not}
+use Rattle.std.specs.Prelude.{Option, Some, None}
+use Rattle.values.specs.declared.Value.{Value}
 use Rattle.values.specs.Value.{item_of}
 use Rattle.values.specs.Strict.{strict_of, meant}
 use Rattle.values.proofs.Fronts.{meant_is}
@@ -97,19 +97,19 @@ module _ (t : List ℕ) (at end : ℕ) (run_is : end ≡ at + run 10 (drop at t)
     unfolding columns
     part-is = refl
 
-    pub value_strict : strict_of part ≡ Is (meant part)
+    pub value_strict : strict_of part ≡ Some (meant part)
     unfolding behind_values
     value_strict = pick (strict_of part) refl
       where
-        pick : (x : Strict) → strict_of part ≡ x → strict_of part ≡ Is (meant part)
-        pick (Is v) e = e ∙ ap Is (sym (meant_is part e))
-        pick Not e =
-            let says : Nothing true ≡ says_of (columns t at end) = sym (value_not t at end b eb value_long yes-is Not (sym e ∙ ap strict_of (sym part-is)) refl) in
+        pick : (x : Option Value) → strict_of part ≡ x → strict_of part ≡ Some (meant part)
+        pick (Some v) e = e ∙ ap Some (sym (meant_is part e))
+        pick None e =
+            let says : Nothing true ≡ says_of (columns t at end) = sym (value_not t at end b eb value_long yes-is None (sym e ∙ ap strict_of (sym part-is)) refl) in
             absurd (never (ap (λ (ls : List Line). first_begins (behind_values ls)) (lines_are value_high (Nothing true) says)) ok)
 
     line-is : lines_in (drop at t) ≡ value (eqb (get_or t at 0) 82) (item_of part (meant part)) ∷ lines_in (drop (end + 1) t)
     line-is =
-        lines_are value_high (Given (eqb (get_or t at 0) 82) (meant part)) (sym (value-given t at end b eb value_long yes-is (Is (meant part)) (sym value_strict ∙ ap strict_of (sym part-is)) (meant part) refl))
+        lines_are value_high (Given (eqb (get_or t at 0) 82) (meant part)) (sym (value-given t at end b eb value_long yes-is (Some (meant part)) (sym value_strict ∙ ap strict_of (sym part-is)) (meant part) refl))
         ∙ ap (λ (l : List ℕ). value (eqb (get_or t at 0) 82) (item_of l (meant part)) ∷ lines_in (drop (end + 1) t)) (line-part t at 2 end)
 
     behind-is : behind_values (lines_in (drop (end + 1) t)) ≡ behind_values (lines_in (drop at t))

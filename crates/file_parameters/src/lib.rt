@@ -1,12 +1,11 @@
 // The P lines of an entity, from the value lines of a sheet.
 #![tactic(auto)]
 
-ghost use Rattle.std.specs.Prelude.{◌≡◌, false, ◌++◌, ◌+◌, ◌^◌, ◌≤◌, ◌<◌, length};
+ghost use Rattle.std.specs.Prelude.{◌≡◌, false, ◌++◌, ◌+◌, ◌^◌, ◌≤◌, ◌<◌, length, Some};
 ghost use Rattle.columns.specs.Columns.{joined};
 ghost use Rattle.columns.specs.Laid.{laid, Wrote};
 ghost use Rattle.columns.specs.Format.{parameter_columns};
 ghost use Rattle.columns.specs.Letters.{letter_p};
-ghost use Rattle.values.specs.declared.Strict.TheVariants.{Is};
 ghost use Rattle.values.specs.Value.{item_of};
 ghost use Rattle.values.specs.Strict.{strict_of, meant};
 ghost use Rattle.records.specs.Flow.{piece, line_count};
@@ -27,7 +26,7 @@ const COMMA: u8 = b',';
 fn put_spelled(out: &mut [u8], base: usize, p: usize, l: &[u8]) -> usize
     requires base_bound { base ≤ 2 ^ 40 }
     requires p_bound { p ≤ 2 ^ 40 }
-    requires l_value { strict_of l.now ≡ Is (meant l.now) }
+    requires l_value { strict_of l.now ≡ Some (meant l.now) }
     ensures { Put base parameter_columns out.old p
         (piece parameter_columns p (item_of l.now (meant l.now)) false) out.new result }
 {

@@ -1,10 +1,9 @@
 // How many lines the canonical file of a sheet has, line by line, for a walk over the sheet. Nothing is counted further than a file goes.
 #![tactic(auto)]
 
-ghost use Rattle.std.specs.Prelude.{◌≡◌, false, ◌+◌, ◌-◌, ◌^◌, ◌≤◌, ◌<◌};
+ghost use Rattle.std.specs.Prelude.{◌≡◌, false, ◌+◌, ◌-◌, ◌^◌, ◌≤◌, ◌<◌, Some};
 ghost use Rattle.columns.specs.Format.{text_columns, parameter_columns};
 ghost use Rattle.values.specs.declared.Value.TheVariants.{Whole};
-ghost use Rattle.values.specs.declared.Strict.TheVariants.{Is};
 ghost use Rattle.values.specs.Value.{item_of};
 ghost use Rattle.values.specs.Strict.{strict_of};
 ghost use Rattle.records.specs.Flow.{line_count};
@@ -130,7 +129,7 @@ pub fn tally_said(x: Tally, y: Said) -> Tally
 // The position behind the value of a value line, which stands at p: what the line says is its canonical spelling, so its length tells it.
 pub fn behind_value(p: usize, l: &[u8], v: Value) -> usize
     requires p_bound { p ≤ 2 ^ 38 }
-    requires l_value { strict_of l.now ≡ Is v }
+    requires l_value { strict_of l.now ≡ Some v }
     ensures value { result ≡ behind_value p (item_of l.now v) }
     ensures upper_bound { result ≤ 2 ^ 38 }
 {

@@ -11,8 +11,7 @@ use Rattle.layouts.specs.declared.Kind.TheVariants.{R, Given, Weight, S, I, Flag
 use Rattle.layouts.specs.declared.Times.TheVariants.{Fixed}
 use Rattle.layouts.specs.declared.LayoutPlace.{LayoutPlace}
 use Rattle.layouts.specs.declared.LayoutState.{LayoutState}
-use Rattle.layouts.specs.declared.Stepped.{Stepped}
-use Rattle.layouts.specs.declared.Stepped.TheVariants.{Go, Bad}
+use Rattle.std.specs.Prelude.{Option, Some, None}
 use Rattle.layouts.specs.declared.LayoutVerdict.{LayoutVerdict}
 use Rattle.layouts.specs.declared.LayoutVerdict.TheVariants.{Layout}
 use Rattle.values.specs.declared.Value.{Value}
@@ -77,7 +76,7 @@ module _ (types : List ℕ) where
         ≡ need (integer v || is_missing v) (standing i n c (b || not ((free && nought v) || fits want (named types v))))
     unfolding named
     refer-is true want Default = refl
-    refer-is false want Default = ap (λ (x : Bool). Go (standing i n c (b || not x))) (sym (no_class want))
+    refer-is false want Default = ap (λ (x : Bool). Some (standing i n c (b || not x))) (sym (no_class want))
     refer-is free want (Whole neg m) = refl
     refer-is free want (Real neg m eneg e double) = refl
     refer-is free want (Text start count) = refl
@@ -114,23 +113,23 @@ module _ (types : List ℕ) where
   -- ---- the verdict
 
   -- one value more, or a default where none is left
-  unroll : (s : LayoutState) (vs : List Item) → verdict_from types (Go s) vs ≡ verdict_from types (step s (value_at vs 0) (named types (value_at vs 0))) (drop 1 vs)
+  unroll : (s : LayoutState) (vs : List Item) → verdict_from types (Some s) vs ≡ verdict_from types (step s (value_at vs 0) (named types (value_at vs 0))) (drop 1 vs)
   unfolding verdict_from run named
   unroll s [] = sym (trailing s)
   unroll s (v ∷ vs) = refl
 
-  lost : (vs : List Item) → verdict_from types Bad vs ≡ Layout
+  lost : (vs : List Item) → verdict_from types None vs ≡ Layout
   unfolding verdict_from run
   lost [] = refl
   lost (v ∷ vs) = lost vs
 
-  rests-on : (s : LayoutState) → place_at s.at ≡ Fixed 1 of Rest → (vs : List Item) → verdict_from types (Go s) vs ≡ said s.bad [] vs
+  rests-on : (s : LayoutState) → place_at s.at ≡ Fixed 1 of Rest → (vs : List Item) → verdict_from types (Some s) vs ≡ said s.bad [] vs
   unfolding verdict_from run end finish takes everywhere
   rests-on s h [] =
       ap (λ (q : LayoutPlace). after (rests q.kind) (takes q.kind s Default 0) (λ (t : LayoutState). finish 15 (settle (beyond t)))) h ∙ ap closed (sym (or-false s.bad))
-  rests-on s h (v ∷ vs) = ap (λ (g : Stepped). verdict_from types g vs) (step-rests s (seen v) h) ∙ go (is_missing (seen v)) (rests-on s h vs)
+  rests-on s h (v ∷ vs) = ap (λ (g : Option LayoutState). verdict_from types g vs) (step-rests s (seen v) h) ∙ go (is_missing (seen v)) (rests-on s h vs)
     where
-      go : (t : Bool) → verdict_from types (Go s) vs ≡ said s.bad [] vs
+      go : (t : Bool) → verdict_from types (Some s) vs ≡ said s.bad [] vs
           → verdict_from types (moved true (need t s)) vs ≡ cond (t && everywhere suits [] vs) (closed (s.bad || not (everywhere (refers_well types) [] vs))) Layout
       go true ih = ih
       go false ih = lost vs
@@ -142,17 +141,17 @@ module _ (types : List ℕ) where
   said-next b a ps [] = both b (suits a Default) (refers_well types a Default) (everywhere suits ps []) (everywhere (refers_well types) ps [])
   said-next b a ps (v ∷ vs) = both b (suits a (seen v)) (refers_well types a (seen v)) (everywhere suits ps vs) (everywhere (refers_well types) ps vs)
 
-  pub goes_verdict : (ps : List Ask) (s : LayoutState) (vs : List Item) → Goes types s vs ps → verdict_from types (Go s) vs ≡ said s.bad ps vs
+  pub goes_verdict : (ps : List Ask) (s : LayoutState) (vs : List Item) → Goes types s vs ps → verdict_from types (Some s) vs ≡ said s.bad ps vs
   goes_verdict [] s vs h = rests-on s h vs
   goes_verdict (a ∷ ps) s vs h =
       let v = value_at vs 0 in
       let t = taken types s v in
-      unroll s vs ∙ ap (λ (g : Stepped). verdict_from types g (drop 1 vs)) (step-takes s v h.1.0)
+      unroll s vs ∙ ap (λ (g : Option LayoutState). verdict_from types g (drop 1 vs)) (step-takes s v h.1.0)
       ∙ go (suits (ask (kind_at s) (counts_of s)) v) t (goes_verdict ps (onward t) (drop 1 vs) h.1.1 ∙ ap (λ (b : Bool). said b ps (drop 1 vs)) (onward_bad t))
       ∙ ap (λ (x : Ask). cond (suits x v) (said (s.bad || not (refers_well types x v)) ps (drop 1 vs)) Layout) h.0
       ∙ said-next s.bad a ps vs
     where
-      go : (b : Bool) (t : LayoutState) → verdict_from types (Go (onward t)) (drop 1 vs) ≡ said t.bad ps (drop 1 vs)
+      go : (b : Bool) (t : LayoutState) → verdict_from types (Some (onward t)) (drop 1 vs) ≡ said t.bad ps (drop 1 vs)
           → verdict_from types (moved false (need b t)) (drop 1 vs) ≡ cond b (said t.bad ps (drop 1 vs)) Layout
       go true t ih = ih
       go false t ih = lost (drop 1 vs)
@@ -177,14 +176,14 @@ module _ (types : List ℕ) where
   refers-is (Bound want) c = refl
   refers-is Rest c = refl
 
-  pub goes_marks : (ps : List Ask) (s : LayoutState) (vs : List Item) → Goes types s vs ps → ((i : ℕ) → suits (ask_at ps i) (value_at vs i) ≡ true) → marks_from types (Go s) vs ≡ reference_places ps vs
+  pub goes_marks : (ps : List Ask) (s : LayoutState) (vs : List Item) → Goes types s vs ps → ((i : ℕ) → suits (ask_at ps i) (value_at vs i) ≡ true) → marks_from types (Some s) vs ≡ reference_places ps vs
   unfolding marks_from reference_places
   goes_marks ps s [] h f = refl
   goes_marks [] s (v ∷ vs) h f =
       ap₂ (λ (b : Bool) (l : List Bool). b ∷ l) (ap (λ (q : LayoutPlace). refers q.kind) h)
-      (ap (λ (g : Stepped). marks_from types g vs) (step-rests s (seen v) h ∙ ap (λ (b : Bool). moved true (need b s)) (f 0)) ∙ goes_marks [] s vs h (λ i. f (suc i)))
+      (ap (λ (g : Option LayoutState). marks_from types g vs) (step-rests s (seen v) h ∙ ap (λ (b : Bool). moved true (need b s)) (f 0)) ∙ goes_marks [] s vs h (λ i. f (suc i)))
   goes_marks (a ∷ ps) s (v ∷ vs) h f =
       ap₂ (λ (b : Bool) (l : List Bool). b ∷ l) (refers-is (kind_at s) (counts_of s) ∙ ap is_reference h.0)
-      (ap (λ (g : Stepped). marks_from types g vs)
+      (ap (λ (g : Option LayoutState). marks_from types g vs)
       (step-takes s (seen v) h.1.0 ∙ ap (λ (b : Bool). moved false (need b (taken types s (seen v)))) (ap (λ (x : Ask). suits x (seen v)) h.0 ∙ f 0))
       ∙ goes_marks ps (onward (taken types s (seen v))) vs h.1.1 (λ i. f (suc i)))

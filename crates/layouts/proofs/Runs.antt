@@ -10,8 +10,7 @@ use Rattle.values.specs.Value.{Item, seen, item_of}
 use Rattle.layouts.specs.declared.Kind.{Kind}
 use Rattle.layouts.specs.declared.Kind.TheVariants.{R, Given, Weight, S, I, Flag, Count, Outer, Upper1, Upper2, Degree1, Degree2, P, Q, Bound, Rest}
 use Rattle.layouts.specs.declared.LayoutState.{LayoutState}
-use Rattle.layouts.specs.declared.Stepped.{Stepped}
-use Rattle.layouts.specs.declared.Stepped.TheVariants.{Go, Bad}
+use Rattle.std.specs.Prelude.{Option, Some, None}
 use Rattle.layouts.specs.Named.{named}
 use Rattle.layouts.specs.Machine.{takes, moved, rests, kind_at, step}
 use Rattle.layouts.specs.Walk.{stepped, feed, run, marks_from}
@@ -56,25 +55,25 @@ named-seen types t (Whole false n) = refl
 named-seen types t (Real neg m eneg e double) = refl
 named-seen types t (Text start count) = refl
 
-pub feed-stepped : (types t : List ℕ) (g : Stepped) (v : Value) → feed types g (item_of t v) ≡ stepped types g v
-feed-stepped types t Bad v = refl
-feed-stepped types t (Go s) v = ap (step s (seen (item_of t v))) (named-seen types t v) ∙ step-seen t s v (named types v)
+pub feed-stepped : (types t : List ℕ) (g : Option LayoutState) (v : Value) → feed types g (item_of t v) ≡ stepped types g v
+feed-stepped types t None v = refl
+feed-stepped types t (Some s) v = ap (step s (seen (item_of t v))) (named-seen types t v) ∙ step-seen t s v (named types v)
 
 -- ---- an entity's values
 
 module _ (types : List ℕ) where
-  pub run_bad : (vs : List Item) → run types Bad vs ≡ Bad
+  pub run_bad : (vs : List Item) → run types None vs ≡ None
   unfolding run
   run_bad [] = refl
   run_bad (v ∷ vs) = run_bad vs
 
-  pub run-append : (g : Stepped) (vs ws : List Item) → run types g (vs ++ ws) ≡ run types (run types g vs) ws
+  pub run-append : (g : Option LayoutState) (vs ws : List Item) → run types g (vs ++ ws) ≡ run types (run types g vs) ws
   unfolding run
   run-append g [] ws = refl
   run-append g (v ∷ vs) ws = run-append (feed types g v) vs ws
 
   -- a mark for each value
-  pub marks-from : (g : Stepped) (vs : List Item) → length (marks_from types g vs) ≡ length vs
+  pub marks-from : (g : Option LayoutState) (vs : List Item) → length (marks_from types g vs) ≡ length vs
   unfolding marks_from
   marks-from g [] = refl
   marks-from g (v ∷ vs) = ap suc (marks-from (feed types g v) vs)

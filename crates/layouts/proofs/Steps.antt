@@ -14,8 +14,7 @@ use Rattle.values.specs.declared.Value.{Value}
 use Rattle.values.specs.declared.Value.TheVariants.{Default, Whole, Real, Text}
 use Rattle.values.specs.Value.{is_missing}
 use Rattle.layouts.specs.declared.LayoutState.{LayoutState}
-use Rattle.layouts.specs.declared.Stepped.{Stepped}
-use Rattle.layouts.specs.declared.Stepped.TheVariants.{Go, Bad}
+use Rattle.std.specs.Prelude.{Option, Some, None}
 use Rattle.layouts.specs.declared.LayoutVerdict.{LayoutVerdict}
 use Rattle.layouts.specs.declared.LayoutVerdict.TheVariants.{Layout}
 use Rattle.layouts.specs.Layout.{most_upper, paper, bit_of}
@@ -29,9 +28,9 @@ use Rattle.layouts.proofs.Moves.{onward_same}
 
 -- ---- the machine moves only where it is told to
 
-abbrev place : Stepped → ℕ → ℕ
-place (Go t) i = t.at
-place Bad i = i
+abbrev place : Option LayoutState → ℕ → ℕ
+place (Some t) i = t.at
+place None i = i
 
 need-at : (b : Bool) (t : LayoutState) → place (need b t) t.at ≡ t.at
 need-at true t = refl
@@ -62,8 +61,8 @@ takes_at (Q want) s v class = refer-at false want s v class
 takes_at (Bound want) s v class = refer-at (not (eqb s.k2 1)) want s v class
 takes_at Rest s v class = need-at (is_missing v) s
 
-pub stays : (k : Kind) (s t : LayoutState) (v : Value) (class : ℕ) → takes k s v class ≡ Go t → t.at ≡ s.at
-stays k s t v class e = ap (λ (x : Stepped). place x s.at) (sym e) ∙ takes_at k s v class
+pub stays : (k : Kind) (s t : LayoutState) (v : Value) (class : ℕ) → takes k s v class ≡ Some t → t.at ≡ s.at
+stays k s t v class e = ap (λ (x : Option LayoutState). place x s.at) (sym e) ∙ takes_at k s v class
 
 pub not_rest : (i : ℕ) → rests (place_at i).kind ≡ false → i < 116
 not_rest i e = pick (ltb i 116) refl
@@ -72,27 +71,27 @@ not_rest i e = pick (ltb i 116) refl
     pick true h = ltb-true i 116 h
     pick false h = absurd (false≢true (sym e ∙ ap (λ (p : LayoutPlace). rests p.kind) (past i (ltb-false i 116 h))))
 
-module _ (s : LayoutState) (v : Value) (class : ℕ) (p : LayoutPlace) (g : Stepped) (ep : p ≡ place_at s.at) (eg : g ≡ takes p.kind s v class) where
-  room : (t : LayoutState) (b : Bool) → g ≡ Go t → b ≡ rests p.kind → b ≡ false → t.at < 116
+module _ (s : LayoutState) (v : Value) (class : ℕ) (p : LayoutPlace) (g : Option LayoutState) (ep : p ≡ place_at s.at) (eg : g ≡ takes p.kind s v class) where
+  room : (t : LayoutState) (b : Bool) → g ≡ Some t → b ≡ rests p.kind → b ≡ false → t.at < 116
   room t b e eb f =
       let h : s.at < 116 = not_rest s.at (ap (λ (q : LayoutPlace). rests q.kind) (sym ep) ∙ sym eb ∙ f) in
-      let q : t.at ≡ s.at = ap (λ (x : Stepped). place x s.at) (sym e ∙ eg) ∙ takes_at p.kind s v class in
+      let q : t.at ≡ s.at = ap (λ (x : Option LayoutState). place x s.at) (sym e ∙ eg) ∙ takes_at p.kind s v class in
       omega arith
 
-  pub room-here : (t : LayoutState) (b : Bool) → g ≡ Go t → b ≡ rests p.kind → b ≡ false → t.at < 900
+  pub room-here : (t : LayoutState) (b : Bool) → g ≡ Some t → b ≡ rests p.kind → b ≡ false → t.at < 900
   room-here t b e eb f = omega (arith, room t b e eb f)
 
   step_is : (b : Bool) → b ≡ rests p.kind → step s v class ≡ moved b g
   unfolding step
   step_is b eb = sym (ap (λ (q : LayoutPlace). moved (rests q.kind) (takes q.kind s v class)) ep) ∙ ap₂ moved (sym eb) (sym eg)
 
-  pub step_bad : g ≡ Bad → Bad ≡ step s v class
+  pub step_bad : g ≡ None → None ≡ step s v class
   step_bad e = sym (step_is (rests p.kind) refl ∙ rw e)
 
-  pub step_rest : (t : LayoutState) (b : Bool) → g ≡ Go t → b ≡ rests p.kind → b ≡ true → Go t ≡ step s v class
+  pub step_rest : (t : LayoutState) (b : Bool) → g ≡ Some t → b ≡ rests p.kind → b ≡ true → Some t ≡ step s v class
   step_rest t b e eb f = sym (step_is b eb ∙ rw (e, f))
 
-  pub step_go : (t u : LayoutState) (b : Bool) → g ≡ Go t → b ≡ rests p.kind → b ≡ false → u ≡ onward t → Go u ≡ step s v class
+  pub step_go : (t u : LayoutState) (b : Bool) → g ≡ Some t → b ≡ rests p.kind → b ≡ false → u ≡ onward t → Some u ≡ step s v class
   step_go t u b e eb f q = sym (step_is b eb ∙ rw (e, f, q))
 
 pub ruleset steps = (room-here, step_bad, step_rest, step_go)
@@ -119,7 +118,7 @@ runs_other s v b h e t = sym (ap₂ (λ (x y : Bool). x && (y && numeric v)) (lt
 
 pub ruleset running = (runs_few, runs_real, runs_other)
 
-reals-take : (k : Kind) (s : LayoutState) (v : Value) (class : ℕ) → reals k ≡ true → numeric v ≡ true → moved (rests k) (takes k s v class) ≡ Go (onward s)
+reals-take : (k : Kind) (s : LayoutState) (v : Value) (class : ℕ) → reals k ≡ true → numeric v ≡ true → moved (rests k) (takes k s v class) ≡ Some (onward s)
 unfolding takes
 reals-take R s v class e r = ap (λ (b : Bool). moved false (need (b || is_missing v) s)) r
 reals-take Given s v class e r = ap (λ (b : Bool). moved false (need b s)) r
@@ -141,29 +140,29 @@ reals-take Rest s v class e r = absurd (false≢true e)
 pub runs_left : (s : LayoutState) (v : Value) (b : Bool) → b ≡ runs_on s v → b ≡ true → 1 ≤ s.left
 runs_left s v b e t = let h = (runs_parts s v (sym e ∙ t)).0 in omega arith
 
-pub step_runs : (s t : LayoutState) (v : Value) (class : ℕ) (b : Bool) → b ≡ runs_on s v → b ≡ true → t ≡ stand s s.at (s.left - 1) → Go t ≡ step s v class
+pub step_runs : (s t : LayoutState) (v : Value) (class : ℕ) (b : Bool) → b ≡ runs_on s v → b ≡ true → t ≡ stand s s.at (s.left - 1) → Some t ≡ step s v class
 unfolding step
 step_runs s t v class b e h q =
     let p = runs_parts s v (sym e ∙ h) in
-    ap Go (q ∙ onward_same s p.0) ∙ sym (reals-take (kind_at s) s v class p.1.0 p.1.1)
+    ap Some (q ∙ onward_same s p.0) ∙ sym (reals-take (kind_at s) s v class p.1.0 p.1.1)
 
-pub same_step : (s t : LayoutState) (v : Value) (class : ℕ) (g : Stepped) → t ≡ stand s s.at s.left → g ≡ step t v class → g ≡ step s v class
+pub same_step : (s t : LayoutState) (v : Value) (class : ℕ) (g : Option LayoutState) → t ≡ stand s s.at s.left → g ≡ step t v class → g ≡ step s v class
 same_step s t v class g e q = q ∙ ap (λ (x : LayoutState). step x v class) e
 
-pub same_bad : (s t : LayoutState) (v : Value) (class : ℕ) (g : Stepped) → t ≡ stand s s.at s.left → g ≡ step t v class → g ≡ Bad → Bad ≡ step s v class
+pub same_bad : (s t : LayoutState) (v : Value) (class : ℕ) (g : Option LayoutState) → t ≡ stand s s.at s.left → g ≡ step t v class → g ≡ None → None ≡ step s v class
 same_bad s t v class g e q h = sym h ∙ same_step s t v class g e q
 
-pub same_go : (s t u w : LayoutState) (v : Value) (class : ℕ) (g : Stepped) → t ≡ stand s s.at s.left → g ≡ step t v class → g ≡ Go u → w ≡ stand u u.at u.left → Go w ≡ step s v class
-same_go s t u w v class g e q h d = ap Go d ∙ sym h ∙ same_step s t v class g e q
+pub same_go : (s t u w : LayoutState) (v : Value) (class : ℕ) (g : Option LayoutState) → t ≡ stand s s.at s.left → g ≡ step t v class → g ≡ Some u → w ≡ stand u u.at u.left → Some w ≡ step s v class
+same_go s t u w v class g e q h d = ap Some d ∙ sym h ∙ same_step s t v class g e q
 
-pub ruleset one-step = (runs_left, step_runs, same_step, same_bad, same_go)
+pub ruleset one_step = (runs_left, step_runs, same_step, same_bad, same_go)
 
 -- ---- the end
 
 -- past the last of a place
-abbrev passed : Stepped → Stepped
-passed Bad = Bad
-passed (Go t) = Go (settle (beyond t))
+abbrev passed : Option LayoutState → Option LayoutState
+passed None = None
+passed (Some t) = Some (settle (beyond t))
 
 follow_last : (x : Then) (s : LayoutState) → follow x (stand s s.at 1) ≡ follow x s
 follow_last Next s = refl
@@ -173,12 +172,12 @@ unfolding onward
 onward_last s = ap (λ (t : LayoutState). settle (enter t)) (follow_last (place_at s.at).next s)
 
 need_last : (b : Bool) (s : LayoutState) → moved false (need b (stand s s.at 1)) ≡ passed (need b s)
-need_last true s = ap Go (onward_last s)
+need_last true s = ap Some (onward_last s)
 need_last false s = refl
 
 refer_last : (free : Bool) (want : ℕ) (s : LayoutState) (v : Value) (class : ℕ) → moved false (refer free want (stand s s.at 1) v class) ≡ passed (refer free want s v class)
-refer_last free want s Default class = ap Go (onward_last (with_bad s (s.bad || not free)))
-refer_last free want s (Whole neg n) class = ap Go (onward_last (with_bad s (s.bad || not ((free && eqb n 0) || fits want class))))
+refer_last free want s Default class = ap Some (onward_last (with_bad s (s.bad || not free)))
+refer_last free want s (Whole neg n) class = ap Some (onward_last (with_bad s (s.bad || not ((free && eqb n 0) || fits want class))))
 refer_last free want s (Real neg m eneg e double) class = refl
 refer_last free want s (Text start count) class = refl
 
@@ -201,7 +200,7 @@ takes_last (Q want) s v class = refer_last false want s v class
 takes_last (Bound want) s v class = refer_last (not (eqb s.k2 1)) want s v class
 takes_last Rest s v class = need_last (is_missing v) s
 
-rest_takes : (k : Kind) (s : LayoutState) → rests k ≡ true → takes k s Default 0 ≡ Go s
+rest_takes : (k : Kind) (s : LayoutState) → rests k ≡ true → takes k s Default 0 ≡ Some s
 unfolding takes
 rest_takes R s e = absurd (false≢true e)
 rest_takes Given s e = absurd (false≢true e)
@@ -220,13 +219,13 @@ rest_takes (Q want) s e = absurd (false≢true e)
 rest_takes (Bound want) s e = absurd (false≢true e)
 rest_takes Rest s e = refl
 
-abbrev gone_on : ℕ → Stepped → LayoutVerdict
-gone_on n Bad = Layout
-gone_on n (Go t) = finish n t
+abbrev gone_on : ℕ → Option LayoutState → LayoutVerdict
+gone_on n None = Layout
+gone_on n (Some t) = finish n t
 
-gone_on_lem : (n : ℕ) (g : Stepped) → after false g (λ (u : LayoutState). finish n (settle (beyond u))) ≡ gone_on n (passed g)
-gone_on_lem n Bad = refl
-gone_on_lem n (Go t) = refl
+gone_on_lem : (n : ℕ) (g : Option LayoutState) → after false g (λ (u : LayoutState). finish n (settle (beyond u))) ≡ gone_on n (passed g)
+gone_on_lem n None = refl
+gone_on_lem n (Some t) = refl
 
 module _ (o : LayoutVerdict) (n : ℕ) (t : LayoutState) (p : LayoutPlace) (b : Bool) (inv : o ≡ finish n t) (pos : 0 < n) (ep : p ≡ place_at t.at) (eb : b ≡ rests p.kind) where
   end_step : o ≡ after b (takes (kind_at t) t Default 0) (λ (u : LayoutState). finish (n - 1) (settle (beyond u)))
@@ -238,10 +237,10 @@ module _ (o : LayoutVerdict) (n : ℕ) (t : LayoutState) (p : LayoutPlace) (b : 
 
   pub end_rest : (r : LayoutVerdict) → b ≡ true → r ≡ closed t.bad → r ≡ o
   end_rest r f q =
-      let k : takes (kind_at t) t Default 0 ≡ Go t = rest_takes (kind_at t) t (ap (λ (x : LayoutPlace). rests x.kind) (sym ep) ∙ sym eb ∙ f) in
+      let k : takes (kind_at t) t Default 0 ≡ Some t = rest_takes (kind_at t) t (ap (λ (x : LayoutPlace). rests x.kind) (sym ep) ∙ sym eb ∙ f) in
       q ∙ sym (end_step ∙ rw (f, k))
 
-  end_last : (x : LayoutState) (g : Stepped) → b ≡ false → x ≡ stand t t.at 1 → g ≡ step x Default 0 → o ≡ gone_on (n - 1) g
+  end_last : (x : LayoutState) (g : Option LayoutState) → b ≡ false → x ≡ stand t t.at 1 → g ≡ step x Default 0 → o ≡ gone_on (n - 1) g
   unfolding step
   end_last x g f ex eg =
       let z : rests (kind_at t) ≡ false = ap (λ (q : LayoutPlace). rests q.kind) (sym ep) ∙ sym eb ∙ f in
@@ -250,10 +249,10 @@ module _ (o : LayoutVerdict) (n : ℕ) (t : LayoutState) (p : LayoutPlace) (b : 
       end_step ∙ ap (λ (c : Bool). after c (takes (kind_at t) t Default 0) (λ (u : LayoutState). finish (n - 1) (settle (beyond u)))) f
       ∙ gone_on_lem (n - 1) (takes (kind_at t) t Default 0) ∙ ap (gone_on (n - 1)) (sym y)
 
-  pub end_bad : (x : LayoutState) (g : Stepped) → b ≡ false → x ≡ stand t t.at 1 → g ≡ step x Default 0 → g ≡ Bad → Layout ≡ o
+  pub end_bad : (x : LayoutState) (g : Option LayoutState) → b ≡ false → x ≡ stand t t.at 1 → g ≡ step x Default 0 → g ≡ None → Layout ≡ o
   end_bad x g f ex eg h = sym (end_last x g f ex eg ∙ ap (gone_on (n - 1)) h)
 
-  pub end_go : (x u : LayoutState) (g : Stepped) (m : ℕ) → b ≡ false → x ≡ stand t t.at 1 → g ≡ step x Default 0 → g ≡ Go u → n ≡ suc m → o ≡ finish m u
+  pub end_go : (x u : LayoutState) (g : Option LayoutState) (m : ℕ) → b ≡ false → x ≡ stand t t.at 1 → g ≡ step x Default 0 → g ≡ Some u → n ≡ suc m → o ≡ finish m u
   end_go x u g m f ex eg h e =
       let d : n - 1 ≡ m = omega arith in
       end_last x g f ex eg ∙ ap (gone_on (n - 1)) h ∙ ap (λ (k : ℕ). finish k u) d

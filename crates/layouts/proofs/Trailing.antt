@@ -17,8 +17,7 @@ use Rattle.layouts.specs.declared.Then.TheVariants.{Next}
 use Rattle.layouts.specs.declared.LayoutPlace.{LayoutPlace}
 use Rattle.values.specs.declared.Value.TheVariants.{Default}
 use Rattle.layouts.specs.declared.LayoutState.{LayoutState}
-use Rattle.layouts.specs.declared.Stepped.{Stepped}
-use Rattle.layouts.specs.declared.Stepped.TheVariants.{Go, Bad}
+use Rattle.std.specs.Prelude.{Option, Some, None}
 use Rattle.layouts.specs.Layout.{paper}
 use Rattle.layouts.specs.Table.{table, place_at}
 use Rattle.layouts.specs.Machine.{takes, times, stand, settle, onward, rests, kind_at, moved, step, after, finish, end, with_k1, with_k2, with_bad, follow, enter, beyond, if_empty}
@@ -28,11 +27,11 @@ use Rattle.layouts.proofs.Steps.{not_rest, stays}
 
 -- ---- a default at a place that took one changes nothing
 
-abbrev state : Stepped → LayoutState → LayoutState
-state (Go t) s = t
-state Bad s = s
+abbrev state : Option LayoutState → LayoutState → LayoutState
+state (Some t) s = t
+state None s = s
 
-never : {A : Type 0} (t : LayoutState) → Bad ≡ Go t → A
+never : {A : Type 0} (t : LayoutState) → None ≡ Some t → A
 never t e = let z : ◌≡◌ {A = ℕ} 0 1 = cc in absurd (no z)
   where
     no : ◌≡◌ {A = ℕ} 0 1 → ⊥
@@ -51,7 +50,7 @@ or_again true x = refl
 or_again false true = refl
 or_again false false = refl
 
-idle : (k : Kind) (s t : LayoutState) (i n : ℕ) → takes k s Default 0 ≡ Go t → takes k (stand t i n) Default 0 ≡ Go (stand t i n)
+idle : (k : Kind) (s t : LayoutState) (i n : ℕ) → takes k s Default 0 ≡ Some t → takes k (stand t i n) Default 0 ≡ Some (stand t i n)
 unfolding takes
 idle R s t i n e = refl
 idle Given s t i n e = never t e
@@ -59,25 +58,25 @@ idle Weight s t i n e = never t e
 idle S s t i n e = refl
 idle (I low high) s t i n e = go (eqb low 0) e
   where
-    go : (b : Bool) → cond b (Go s) Bad ≡ Go t → cond b (Go (stand t i n)) Bad ≡ Go (stand t i n)
+    go : (b : Bool) → cond b (Some s) None ≡ Some t → cond b (Some (stand t i n)) None ≡ Some (stand t i n)
     go true e = refl
     go false e = never t e
 idle Flag s t i n e = never t e
-idle Count s t i n e = ap (λ (x : LayoutState). Go (with_k1 (stand t i n) x.k1)) (ap (λ (g : Stepped). state g s) e)
-idle Outer s t i n e = ap (λ (x : LayoutState). Go (with_k2 (stand t i n) x.k2)) (ap (λ (g : Stepped). state g s) e)
+idle Count s t i n e = ap (λ (x : LayoutState). Some (with_k1 (stand t i n) x.k1)) (ap (λ (g : Option LayoutState). state g s) e)
+idle Outer s t i n e = ap (λ (x : LayoutState). Some (with_k2 (stand t i n) x.k2)) (ap (λ (g : Option LayoutState). state g s) e)
 idle Upper1 s t i n e = never t e
 idle Upper2 s t i n e = never t e
 idle Degree1 s t i n e = never t e
 idle Degree2 s t i n e = never t e
-idle (P want) s t i n e = ap (λ (b : Bool). Go (with_bad (stand t i n) b)) (or-false t.bad)
+idle (P want) s t i n e = ap (λ (b : Bool). Some (with_bad (stand t i n) b)) (or-false t.bad)
 idle (Q want) s t i n e =
-    let q : (s.bad || true) ≡ t.bad = ap (λ (g : Stepped). (state g s).bad) e in
-    ap (λ (b : Bool). Go (with_bad (stand t i n) b)) (or_true t.bad ∙ sym (or_true s.bad) ∙ q)
+    let q : (s.bad || true) ≡ t.bad = ap (λ (g : Option LayoutState). (state g s).bad) e in
+    ap (λ (b : Bool). Some (with_bad (stand t i n) b)) (or_true t.bad ∙ sym (or_true s.bad) ∙ q)
 idle (Bound want) s t i n e =
     let x = not (not (eqb s.k2 1)) in
-    let q : (s.bad || x) ≡ t.bad = ap (λ (g : Stepped). (state g s).bad) e in
-    let k : s.k2 ≡ t.k2 = ap (λ (g : Stepped). (state g s).k2) e in
-    ap (λ (b : Bool). Go (with_bad (stand t i n) b))
+    let q : (s.bad || x) ≡ t.bad = ap (λ (g : Option LayoutState). (state g s).bad) e in
+    let k : s.k2 ≡ t.k2 = ap (λ (g : Option LayoutState). (state g s).k2) e in
+    ap (λ (b : Bool). Some (with_bad (stand t i n) b))
     (ap₂ (λ (b : Bool) (m : ℕ). b || not (not (eqb m 1))) (sym q) (sym k) ∙ or_again s.bad x ∙ q)
 idle Rest s t i n e = refl
 
@@ -189,7 +188,7 @@ settle-falls u = go (eqb (times (place_at u.at).times u) 0) refl
 
 -- ---- more turns change nothing
 
-next_low : (s t : LayoutState) (n : ℕ) → rests (kind_at s) ≡ false → takes (kind_at s) s Default 0 ≡ Go t → rank s.at < suc n → rank (settle (beyond t)).at < n
+next_low : (s t : LayoutState) (n : ℕ) → rests (kind_at s) ≡ false → takes (kind_at s) s Default 0 ≡ Some t → rank s.at < suc n → rank (settle (beyond t)).at < n
 next_low s t n r e h =
     let q = stays (kind_at s) s t Default 0 e in
     let f : rests (kind_at t) ≡ false = ap (λ (i : ℕ). rests (place_at i).kind) q ∙ r in
@@ -203,11 +202,11 @@ unfolding finish
 stable zero s h = absurd (not-suc-le-zero h)
 stable (suc n) s h = go (rests (kind_at s)) (takes (kind_at s) s Default 0) refl refl (λ x. stable n x)
   where
-    go : (b : Bool) (g : Stepped) → rests (kind_at s) ≡ b → takes (kind_at s) s Default 0 ≡ g → ((x : LayoutState) → rank x.at < n → finish n x ≡ finish (suc n) x)
+    go : (b : Bool) (g : Option LayoutState) → rests (kind_at s) ≡ b → takes (kind_at s) s Default 0 ≡ g → ((x : LayoutState) → rank x.at < n → finish n x ≡ finish (suc n) x)
         → after b g (λ (t : LayoutState). finish n (settle (beyond t))) ≡ after b g (λ (t : LayoutState). finish (suc n) (settle (beyond t)))
-    go b Bad r e ih = refl
-    go true (Go t) r e ih = refl
-    go false (Go t) r e ih = ih (settle (beyond t)) (next_low s t n r e h)
+    go b None r e ih = refl
+    go true (Some t) r e ih = refl
+    go false (Some t) r e ih = ih (settle (beyond t)) (next_low s t n r e h)
 
 -- the turns of `end` are enough: with any number more it says the same
 pub enough : (n : ℕ) (s : LayoutState) → finish (16 + n) s ≡ end s
@@ -225,10 +224,10 @@ follow-stand Next t n = refl
 beyond-stand : (t : LayoutState) (n : ℕ) → beyond (stand t t.at n) ≡ beyond t
 beyond-stand t n = ap enter (follow-stand (place_at t.at).next t n)
 
-finish-at : (n : ℕ) (s : LayoutState) (b : Bool) (g : Stepped) → rests (kind_at s) ≡ b → takes (kind_at s) s Default 0 ≡ g
+finish-at : (n : ℕ) (s : LayoutState) (b : Bool) (g : Option LayoutState) → rests (kind_at s) ≡ b → takes (kind_at s) s Default 0 ≡ g
     → finish (suc n) s ≡ after b g (λ (t : LayoutState). finish n (settle (beyond t)))
 unfolding finish
-finish-at n s b g r e = ap₂ (λ (x : Bool) (y : Stepped). after x y (λ (t : LayoutState). finish n (settle (beyond t)))) r e
+finish-at n s b g r e = ap₂ (λ (x : Bool) (y : Option LayoutState). after x y (λ (t : LayoutState). finish n (settle (beyond t)))) r e
 
 pub trailing : (s : LayoutState) → ended (step s Default 0) ≡ end s
 unfolding step end onward
@@ -237,20 +236,20 @@ trailing s = go (rests (kind_at s)) (takes (kind_at s) s Default 0) refl refl �
     same_kind : (t : LayoutState) (n : ℕ) → t.at ≡ s.at → kind_at (stand t t.at n) ≡ kind_at s
     same_kind t n e = ap (λ (i : ℕ). (place_at i).kind) e
 
-    idles : (t : LayoutState) (n : ℕ) (b : Bool) → rests (kind_at s) ≡ b → takes (kind_at s) s Default 0 ≡ Go t
-        → finish 16 (stand t t.at n) ≡ after b (Go (stand t t.at n)) (λ (u : LayoutState). finish 15 (settle (beyond u)))
+    idles : (t : LayoutState) (n : ℕ) (b : Bool) → rests (kind_at s) ≡ b → takes (kind_at s) s Default 0 ≡ Some t
+        → finish 16 (stand t t.at n) ≡ after b (Some (stand t t.at n)) (λ (u : LayoutState). finish 15 (settle (beyond u)))
     idles t n b r e =
         let q = same_kind t n (stays (kind_at s) s t Default 0 e) in
-        finish-at 15 (stand t t.at n) b (Go (stand t t.at n)) (ap rests q ∙ r)
+        finish-at 15 (stand t t.at n) b (Some (stand t t.at n)) (ap rests q ∙ r)
         (ap (λ (k : Kind). takes k (stand t t.at n) Default 0) q ∙ idle (kind_at s) s t t.at n e)
 
-    on : (t : LayoutState) (c : Bool) → ltb 1 t.left ≡ c → rests (kind_at s) ≡ false → takes (kind_at s) s Default 0 ≡ Go t
+    on : (t : LayoutState) (c : Bool) → ltb 1 t.left ≡ c → rests (kind_at s) ≡ false → takes (kind_at s) s Default 0 ≡ Some t
         → finish 16 (cond c (stand t t.at (t.left - 1)) (settle (beyond t))) ≡ finish 15 (settle (beyond t))
     on t true l r e = idles t (t.left - 1) false r e ∙ ap (λ (x : LayoutState). finish 15 (settle x)) (beyond-stand t (t.left - 1))
     on t false l r e = sym (stable 15 (settle (beyond t)) (next_low s t 15 r e (omega (arith, rank_low s.at))))
 
-    go : (b : Bool) (g : Stepped) → rests (kind_at s) ≡ b → takes (kind_at s) s Default 0 ≡ g
+    go : (b : Bool) (g : Option LayoutState) → rests (kind_at s) ≡ b → takes (kind_at s) s Default 0 ≡ g
         → ended (moved b g) ≡ after b g (λ (t : LayoutState). finish 15 (settle (beyond t)))
-    go b Bad r e = refl
-    go true (Go t) r e = idles t t.left true r e
-    go false (Go t) r e = on t (ltb 1 t.left) refl r e
+    go b None r e = refl
+    go true (Some t) r e = idles t t.left true r e
+    go false (Some t) r e = on t (ltb 1 t.left) refl r e

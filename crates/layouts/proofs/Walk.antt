@@ -14,7 +14,7 @@ use Rattle.layouts.specs.declared.Kind.TheVariants.{Rest}
 use Rattle.layouts.specs.declared.Times.TheVariants.{Fixed}
 use Rattle.layouts.specs.declared.LayoutPlace.{LayoutPlace}
 use Rattle.layouts.specs.declared.LayoutState.{LayoutState}
-use Rattle.layouts.specs.declared.Stepped.TheVariants.{Bad}
+use Rattle.std.specs.Prelude.{None}
 use Rattle.layouts.specs.declared.LayoutVerdict.{LayoutVerdict}
 use Rattle.layouts.specs.declared.LayoutVerdict.TheVariants.{Good, Layout, LayoutReference}
 use Rattle.layouts.specs.Layout.{Row, ◌of◌, paper, groups, bit_of}
@@ -128,16 +128,16 @@ module _ (types : List ℕ) where
         by true k = ap (λ (w : LayoutVerdict). fault w place) (judged-verdict list e k)
         by false k = refl
 
-    bad_marks : (vs : List Item) → marks_from types Bad vs ≡ map carried vs
+    bad_marks : (vs : List Item) → marks_from types None vs ≡ map carried vs
     unfolding marks_from
     bad_marks [] = refl
     bad_marks (v ∷ vs) = ap (λ (l : List Bool). false ∷ l) (bad_marks vs)
 
     -- the marks by the walk, which begins nowhere where the list does not know the entity
-    pub marks-judged : (known list e.typ e.form ≡ true → Keeps types e) → marks_from types (cond (known list e.typ e.form) (begun e) Bad) e.values ≡ marks list e
+    pub marks-judged : (known list e.typ e.form ≡ true → Keeps types e) → marks_from types (cond (known list e.typ e.form) (begun e) None) e.values ≡ marks list e
     unfolding marks
     marks-judged h = by (known list e.typ e.form) refl
       where
-        by : (b : Bool) → known list e.typ e.form ≡ b → marks_from types (cond b (begun e) Bad) e.values ≡ cond b (reference_places (asked e) e.values) (map carried e.values)
+        by : (b : Bool) → known list e.typ e.form ≡ b → marks_from types (cond b (begun e) None) e.values ≡ cond b (reference_places (asked e) e.values) (map carried e.values)
         by true k = marks_walked list e k (h k).fits
         by false k = bad_marks e.values

@@ -1,5 +1,6 @@
 -- The code's form: the layouts as one machine, where it stands, what one value does, what the end says.
 use Rattle.std.specs.Prelude.{Bool, true, false, cond, not, ◌&&◌, ◌||◌, ℕ, zero, suc, ◌+◌, ◌-◌, ◌*◌, eqb, ltb}
+use Rattle.std.specs.Prelude.{Option, Some, None}
 use Rattle.columns.specs.Format.{most_integer}
 use Rattle.layouts.specs.declared.Kind.{Kind}
 use Rattle.layouts.specs.declared.Kind.TheVariants.{R, Given, Weight, S, I, Flag, Count, Outer}
@@ -12,8 +13,6 @@ use Rattle.values.specs.declared.Value.{Value}
 use Rattle.values.specs.declared.Value.TheVariants.{Default, Whole, Real, Text}
 use Rattle.values.specs.Value.{is_missing}
 use Rattle.layouts.specs.declared.LayoutState.{LayoutState}
-use Rattle.layouts.specs.declared.Stepped.{Stepped}
-use Rattle.layouts.specs.declared.Stepped.TheVariants.{Go, Bad}
 use Rattle.layouts.specs.declared.LayoutVerdict.{LayoutVerdict}
 use Rattle.layouts.specs.declared.LayoutVerdict.TheVariants.{Good, Layout, LayoutReference}
 use Rattle.references.specs.References.{no_entry, fits}
@@ -88,18 +87,18 @@ onward s = cond (ltb 1 s.left) (stand s s.at (s.left - 1)) (settle (beyond s))
 -- ---- one value
 
 -- a test that fails is 14
-abbrev pub need : Bool → LayoutState → Stepped
-need b s = cond b (Go s) Bad
+abbrev pub need : Bool → LayoutState → Option LayoutState
+need b s = cond b (Some s) None
 
 -- a reference, which may be 0 or missing where free: what is wrong with it is told at the end
-abbrev pub refer : Bool → ℕ → LayoutState → Value → ℕ → Stepped
-refer free want s Default class = Go (with_bad s (s.bad || not free))
-refer free want s (Whole neg n) class = Go (with_bad s (s.bad || not ((free && eqb n 0) || fits want class)))
-refer free want s (Real neg m eneg e double) class = Bad
-refer free want s (Text start count) class = Bad
+abbrev pub refer : Bool → ℕ → LayoutState → Value → ℕ → Option LayoutState
+refer free want s Default class = Some (with_bad s (s.bad || not free))
+refer free want s (Whole neg n) class = Some (with_bad s (s.bad || not ((free && eqb n 0) || fits want class)))
+refer free want s (Real neg m eneg e double) class = None
+refer free want s (Text start count) class = None
 
 -- what the place of a kind makes of a value; class is that of the entry that it names
-unfoldable pub takes : Kind → LayoutState → Value → ℕ → Stepped
+unfoldable pub takes : Kind → LayoutState → Value → ℕ → Option LayoutState
 takes R s v class = need (numeric v || is_missing v) s
 takes Given s v class = need (numeric v) s
 takes Weight s v class = need (above v) s
@@ -179,16 +178,16 @@ abbrev pub kind_at : LayoutState → Kind
 kind_at s = (place_at s.at).kind
 
 -- behind the rest nothing moves
-abbrev pub moved : Bool → Stepped → Stepped
-moved rest Bad = Bad
-moved rest (Go t) = Go (cond rest t (onward t))
+abbrev pub moved : Bool → Option LayoutState → Option LayoutState
+moved rest None = None
+moved rest (Some t) = Some (cond rest t (onward t))
 
 -- at the first place of a type and form
 unfoldable pub start : ℕ → ℕ → LayoutState
 start typ form = enter (stand fresh (start_of (bit_of typ form)) 0)
 
 -- one value more
-unfoldable pub step : LayoutState → Value → ℕ → Stepped
+unfoldable pub step : LayoutState → Value → ℕ → Option LayoutState
 step s v class = moved (rests (kind_at s)) (takes (kind_at s) s v class)
 
 -- a number stands at a place that takes it as it comes, and more of the place follow
@@ -202,9 +201,9 @@ abbrev pub closed : Bool → LayoutVerdict
 closed bad = cond bad LayoutReference Good
 
 -- a place took its default, or did not
-abbrev pub after : Bool → Stepped → (LayoutState → LayoutVerdict) → LayoutVerdict
-after rest Bad f = Layout
-after rest (Go t) f = cond rest (closed t.bad) (f t)
+abbrev pub after : Bool → Option LayoutState → (LayoutState → LayoutVerdict) → LayoutVerdict
+after rest None f = Layout
+after rest (Some t) f = cond rest (closed t.bad) (f t)
 
 -- in so many places at most
 unfoldable pub finish : ℕ → LayoutState → LayoutVerdict

@@ -55,7 +55,8 @@ pub struct LayoutPlace {
     pub next: Then,
 }
 
-// Where the machine stands: at a place, with so many of it left; the numbers read so far; whether a reference was bad.
+// Where the machine stands: at a place, with so many of it left; the numbers read so far; whether a reference was bad. Where a value
+// can't stand there is no state behind it: that is refusal 14.
 // The widths keep 3(K1+1)(K2+1) in 64 bits.
 #[derive(Clone, Copy)]
 pub struct LayoutState {
@@ -66,13 +67,6 @@ pub struct LayoutState {
     pub m1: u32,
     pub m2: u32,
     pub bad: bool,
-}
-
-// Bad is refusal 14.
-#[derive(Clone, Copy)]
-pub enum Stepped {
-    Go(LayoutState),
-    Bad,
 }
 
 // Layout is refusal 14, LayoutReference 15.

@@ -7,7 +7,7 @@ ghost use Rattle.layouts.specs.Machine.{times, follow, enter, beyond, settle, on
 ghost use Rattle.layouts.specs.Machine.{reals, refers, kind_at, stand, runs_on};
 ghost use Rattle.layouts.specs.Coded.{told};
 
-use layouts::{LayoutState, LayoutVerdict, Stepped, Then, Times};
+use layouts::{LayoutState, LayoutVerdict, Then, Times};
 use layouts_lists::{ROWS, bit_of};
 use layouts_rows::told::numeric_in;
 use layouts_rows::{look, rests_in};
@@ -100,25 +100,21 @@ pub fn with_left(s: LayoutState, left: u64) -> LayoutState
 }
 
 // One value more, at a place of any kind.
-fn step_from(s: LayoutState, v: Value, class: u8) -> Stepped
+fn step_from(s: LayoutState, v: Value, class: u8) -> Option<LayoutState>
     ensures { result ≡ step s v class }
 {
     let p = look(s.at);
     let k = p.kind;
-    match takes_in(k, s, v, class) {
-        Stepped::Bad => Stepped::Bad,
-        Stepped::Go(t) => {
-            if rests_in(k) {
-                Stepped::Go(t)
-            } else {
-                Stepped::Go(onward_of(t))
-            }
-        }
+    let t = takes_in(k, s, v, class)?;
+    if rests_in(k) {
+        Some(t)
+    } else {
+        Some(onward_of(t))
     }
 }
 
 // The same, with the fields of the state kept apart.
-fn step_any(s: LayoutState, v: Value, class: u8) -> Stepped
+fn step_any(s: LayoutState, v: Value, class: u8) -> Option<LayoutState>
     ensures { result ≡ step s v class }
 {
     let t = with_left(s, s.left);
@@ -167,17 +163,16 @@ pub fn runs_on(s: LayoutState, v: Value) -> bool
 }
 
 // One value more. The commonest case comes first, and is small enough to stand where the step is called.
-pub fn step(s: LayoutState, v: Value, class: u8) -> Stepped
+#[tactic(auto, using(layouts::proofs::Steps::one_step))]
+pub fn step(s: LayoutState, v: Value, class: u8) -> Option<LayoutState>
     ensures { result ≡ step s v class }
 {
     if runs_on(s, v) {
-        return Stepped::Go(with_left(s, s.left - 1));
+        return Some(with_left(s, s.left - 1));
     }
     let t = with_left(s, s.left);
-    match step_any(t, v, class) {
-        Stepped::Bad => Stepped::Bad,
-        Stepped::Go(u) => Stepped::Go(with_left(u, u.left)),
-    }
+    let u = step_any(t, v, class)?;
+    Some(with_left(u, u.left))
 }
 
 // At the rest of a row.
@@ -205,7 +200,7 @@ pub fn end(s: LayoutState) -> LayoutVerdict
         }
         // A default passes the whole place, however many of it were left.
         let last = with_left(t, 1);
-        let Stepped::Go(u) = step_any(last, Value::Default, NO_ENTRY) else {
+        let Some(u) = step_any(last, Value::Default, NO_ENTRY) else {
             return LayoutVerdict::Layout;
         };
         t = u;

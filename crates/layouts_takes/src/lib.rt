@@ -1,21 +1,21 @@
 // What a place makes of a value.
 #![tactic(auto)]
 
-ghost use Rattle.std.specs.Prelude.{◌≡◌, true, ◌||◌, ◌&&◌, ◌^◌, ◌<◌, eqb};
+ghost use Rattle.std.specs.Prelude.{◌≡◌, true, ◌||◌, ◌&&◌, ◌^◌, ◌<◌, eqb, Some};
 ghost use Rattle.layouts.specs.Machine.{need, with_k1, with_k2, with_m1, with_m2, with_bad, refer, takes};
 
 use columns::format::MOST_INTEGER;
-use layouts::{Kind, LayoutState, Stepped};
+use layouts::{Kind, LayoutState};
 use layouts_rows::told::{above_in, numeric_in, size_in, text_in, within_in};
 use values::{Value, is_missing};
 
 const MOST_UPPER: u32 = 10000;
 
 // A test that fails is refusal 14.
-fn need_of(b: bool, s: LayoutState) -> Stepped
+fn need_of(b: bool, s: LayoutState) -> Option<LayoutState>
     ensures { result ≡ need b s }
 {
-    if b { Stepped::Go(s) } else { Stepped::Bad }
+    b.then_some(s)
 }
 
 fn zero_in(free: bool, n: u32) -> bool
@@ -25,16 +25,16 @@ fn zero_in(free: bool, n: u32) -> bool
 }
 
 // A bad reference is kept to the end.
-fn noted(s: LayoutState, bad: bool) -> Stepped
-    ensures { result ≡ Stepped.Go (with_bad s (s.bad || bad)) }
+fn noted(s: LayoutState, bad: bool) -> Option<LayoutState>
+    ensures { result ≡ Some (with_bad s (s.bad || bad)) }
 {
     let mut t = s;
     t.bad = s.bad || bad;
-    Stepped::Go(t)
+    Some(t)
 }
 
 // A number that is right is kept.
-fn keep_k1(b: bool, s: LayoutState, n: u32) -> Stepped
+fn keep_k1(b: bool, s: LayoutState, n: u32) -> Option<LayoutState>
     ensures { result ≡ need b (with_k1 s n) }
 {
     let mut t = s;
@@ -42,20 +42,18 @@ fn keep_k1(b: bool, s: LayoutState, n: u32) -> Stepped
     need_of(b, t)
 }
 
-fn keep_k2(b: bool, s: LayoutState, n: u32) -> Stepped
+fn keep_k2(b: bool, s: LayoutState, n: u32) -> Option<LayoutState>
     requires { b ≡ true → n < 2 ^ 16 }
     ensures { result ≡ need b (with_k2 s n) }
 {
-    if b {
+    b.then(|| {
         let mut t = s;
         t.k2 = n as u16;
-        Stepped::Go(t)
-    } else {
-        Stepped::Bad
-    }
+        t
+    })
 }
 
-fn keep_m1(b: bool, s: LayoutState, n: u32) -> Stepped
+fn keep_m1(b: bool, s: LayoutState, n: u32) -> Option<LayoutState>
     ensures { result ≡ need b (with_m1 s n) }
 {
     let mut t = s;
@@ -63,7 +61,7 @@ fn keep_m1(b: bool, s: LayoutState, n: u32) -> Stepped
     need_of(b, t)
 }
 
-fn keep_m2(b: bool, s: LayoutState, n: u32) -> Stepped
+fn keep_m2(b: bool, s: LayoutState, n: u32) -> Option<LayoutState>
     ensures { result ≡ need b (with_m2 s n) }
 {
     let mut t = s;
@@ -72,7 +70,7 @@ fn keep_m2(b: bool, s: LayoutState, n: u32) -> Stepped
 }
 
 // A reference, which may be 0 or missing where free.
-fn refer_in(free: bool, want: u8, s: LayoutState, v: Value, class: u8) -> Stepped
+fn refer_in(free: bool, want: u8, s: LayoutState, v: Value, class: u8) -> Option<LayoutState>
     ensures { result ≡ refer free want s v class }
 {
     match v {
@@ -81,14 +79,14 @@ fn refer_in(free: bool, want: u8, s: LayoutState, v: Value, class: u8) -> Steppe
             s,
             !(zero_in(free, n) || references::fits(want, class)),
         ),
-        Value::Real { .. } => Stepped::Bad,
-        Value::Text { .. } => Stepped::Bad,
+        Value::Real { .. } => None,
+        Value::Text { .. } => None,
     }
 }
 
 // What a place of kind k makes of a value.
 #[tactic(auto, using(crate::proofs::Taking::small_outer, crate::proofs::Taking::small_upper), unfolding(layouts::specs::Machine::takes))]
-pub fn takes_in(k: Kind, s: LayoutState, v: Value, class: u8) -> Stepped
+pub fn takes_in(k: Kind, s: LayoutState, v: Value, class: u8) -> Option<LayoutState>
     ensures { result ≡ takes k s v class }
 {
     match k {

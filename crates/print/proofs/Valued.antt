@@ -23,8 +23,7 @@ use Rattle.records.proofs.Items.{trimmed_first}
 use Rattle.records.proofs.Steps.{last_is, more-is, none-wrong}
 use Rattle.directory.specs.Naming.{types_at}
 use Rattle.layouts.specs.declared.LayoutState.{LayoutState}
-use Rattle.layouts.specs.declared.Stepped.{Stepped}
-use Rattle.layouts.specs.declared.Stepped.TheVariants.{Go}
+use Rattle.std.specs.Prelude.{Option, Some}
 use Rattle.layouts.specs.Walk.{stepped, feed, run, mark, marks_from}
 use Rattle.layouts.specs.Named.{named}
 use Rattle.layouts.specs.Machine.{refers, kind_at, stand, runs_on}
@@ -52,23 +51,23 @@ value-lines (v ∷ vs) rest =
 
 module _ (types : List ℕ) where
   -- one value more
-  line-more : (g : Stepped) (v : Item) (vs : List Item)
+  line-more : (g : Option LayoutState) (v : Item) (vs : List Item)
       → value_bytes (marked_from types g (v ∷ vs)) ≡ (line_of (value (mark g) v) ++ (10 ∷ [])) ++ value_bytes (marked_from types (feed types g v) vs)
   unfolding value_bytes marked_from marks_from marked
   line-more g v vs = refl
 
-  line-none : (g : Stepped) → value_bytes (marked_from types g []) ≡ []
+  line-none : (g : Option LayoutState) → value_bytes (marked_from types g []) ≡ []
   unfolding value_bytes marked_from marks_from marked
   line-none g = refl
 
   -- some values, and others behind them
-  lines-append : (g : Stepped) (us vs : List Item)
+  lines-append : (g : Option LayoutState) (us vs : List Item)
       → value_bytes (marked_from types g (us ++ vs)) ≡ value_bytes (marked_from types g us) ++ value_bytes (marked_from types (run types g us) vs)
   unfolding run
   lines-append g [] vs = sym (ap (λ (l : List ℕ). l ++ value_bytes (marked_from types g vs)) (line-none g))
   lines-append g (u ∷ us) vs =
       let l : List ℕ = line_of (value (mark g) u) ++ (10 ∷ []) in
-      let h : Stepped = feed types g u in
+      let h : Option LayoutState = feed types g u in
       line-more g u (us ++ vs) ∙ ap (λ (x : List ℕ). l ++ x) (lines-append h us vs)
       ∙ sym (append_assoc l (value_bytes (marked_from types h us)) (value_bytes (marked_from types (run types h us) vs)))
       ∙ sym (ap (λ (x : List ℕ). x ++ value_bytes (marked_from types (run types h us) vs)) (line-more g u us))
@@ -81,8 +80,8 @@ module _ (types : List ℕ) where
   owed_none zero v h = refl
   owed_none (suc left) v h = absurd (omega arith)
 
-  module _ {o bs o₁ : List ℕ} {at r₁ : ℕ} (t : List ℕ) (v : Value) (s : Stepped) (left : ℕ) (p : Owes o at bs o₁ r₁ (value_bytes (marked_from types s (owing left (item_of t v ∷ []))))) where
-    pub owed_more : {o₂ : List ℕ} {r₂ : ℕ} {b : Bool} {u : Stepped} → 0 < left → b ≡ mark s → u ≡ stepped types s Default
+  module _ {o bs o₁ : List ℕ} {at r₁ : ℕ} (t : List ℕ) (v : Value) (s : Option LayoutState) (left : ℕ) (p : Owes o at bs o₁ r₁ (value_bytes (marked_from types s (owing left (item_of t v ∷ []))))) where
+    pub owed_more : {o₂ : List ℕ} {r₂ : ℕ} {b : Bool} {u : Option LayoutState} → 0 < left → b ≡ mark s → u ≡ stepped types s Default
         → Wrote o₁ r₁ (line_of (value b (item_of t Default)) ++ (10 ∷ [])) o₂ r₂ → Owes o at bs o₂ r₂ (value_bytes (marked_from types u (owing (left - 1) (item_of t v ∷ []))))
     owed_more {b = b} {u = u} h eb eu w =
         let vs : List Item = owing (left - 1) (item_of t v ∷ []) in
@@ -90,7 +89,7 @@ module _ (types : List ℕ) where
         let e : value_bytes (marked_from types s (owing left (item_of t v ∷ []))) ≡ (line_of (value b default) ++ (10 ∷ [])) ++ value_bytes (marked_from types u vs)
         = ap (λ (l : List Item). value_bytes (marked_from types s l)) (owed_first left (item_of t v) h) ∙ line-more s default vs
         ∙ ap (λ (m : Bool). (line_of (value m default) ++ (10 ∷ [])) ++ value_bytes (marked_from types (feed types s default) vs)) (sym eb)
-        ∙ ap (λ (g : Stepped). (line_of (value b default) ++ (10 ∷ [])) ++ value_bytes (marked_from types g vs)) eg in
+        ∙ ap (λ (g : Option LayoutState). (line_of (value b default) ++ (10 ∷ [])) ++ value_bytes (marked_from types g vs)) eg in
         owes_less (owes_same p e) w
 
     pub owed_last : {o₂ : List ℕ} {r₂ : ℕ} {b : Bool} → left ≤ 0 → b ≡ mark s → Wrote o₁ r₁ (line_of (value b (item_of t v)) ++ (10 ∷ [])) o₂ r₂ → Wrote o at bs o₂ r₂
@@ -102,28 +101,28 @@ module _ (types : List ℕ) where
         ∙ ap (λ (l : List ℕ). (line_of (value b i) ++ (10 ∷ [])) ++ l) (line-none (feed types s i)) in
         owes_none (owes_less (owes_same p e) w)
 
-  module _ (t : List ℕ) (v : Value) (s z : Stepped) (left : ℕ) (p : run types s (owing left (item_of t v ∷ [])) ≡ z) where
-    pub owed_steps : {u : Stepped} → 0 < left → u ≡ stepped types s Default → run types u (owing (left - 1) (item_of t v ∷ [])) ≡ z
+  module _ (t : List ℕ) (v : Value) (s z : Option LayoutState) (left : ℕ) (p : run types s (owing left (item_of t v ∷ [])) ≡ z) where
+    pub owed_steps : {u : Option LayoutState} → 0 < left → u ≡ stepped types s Default → run types u (owing (left - 1) (item_of t v ∷ [])) ≡ z
     unfolding run
     owed_steps {u} h eu =
         let vs : List Item = owing (left - 1) (item_of t v ∷ []) in
-        ap (λ (g : Stepped). run types g vs) (eu ∙ sym (feed-stepped types t s Default)) ∙ sym (ap (run types s) (owed_first left (item_of t v) h)) ∙ p
+        ap (λ (g : Option LayoutState). run types g vs) (eu ∙ sym (feed-stepped types t s Default)) ∙ sym (ap (run types s) (owed_first left (item_of t v) h)) ∙ p
 
-    pub owed_stepped : {u : Stepped} → left ≤ 0 → u ≡ stepped types s v → u ≡ z
+    pub owed_stepped : {u : Option LayoutState} → left ≤ 0 → u ≡ stepped types s v → u ≡ z
     unfolding run
     owed_stepped {u} h eu = eu ∙ sym (feed-stepped types t s v) ∙ sym (ap (run types s) (owed_none left (item_of t v) h)) ∙ p
 
 pub ruleset owed = (owes_all, owed_more, owed_last, owed_steps, owed_stepped, wrote_length)
 
 -- where more of its kind follow and none is owed: its mark is that of the place, and one of it is left less
-pub given_runs : (f : List ℕ) (base lines first n owed : ℕ) (v : Value) {g : Stepped} {s u : LayoutState} → owed ≡ 0 → g ≡ Go s → {y : Bool} → y ≡ runs_on s v → y ≡ true
+pub given_runs : (f : List ℕ) (base lines first n owed : ℕ) (v : Value) {g : Option LayoutState} {s u : LayoutState} → owed ≡ 0 → g ≡ Some s → {y : Bool} → y ≡ runs_on s v → y ≡ true
     → u ≡ stand s s.at (s.left - 1) → {m : Bool} → m ≡ refers (kind_at s) → {o o' : List ℕ} {at r : ℕ}
-    → Wrote o at (line_of (value m (item_of (text_of f base 64 lines) v)) ++ (10 ∷ [])) o' r → r ≤ at + 1100 → GivenPut f base lines first n g owed v o at o' (record { next = r; marks = Go u })
+    → Wrote o at (line_of (value m (item_of (text_of f base 64 lines) v)) ++ (10 ∷ [])) o' r → r ≤ at + 1100 → GivenPut f base lines first n g owed v o at o' (record { next = r; marks = Some u })
 given_runs f base lines first n owed v {g} {s} {u} z e {y} ey yt eu {m} em {o} {o'} {at} {r} w near =
     let types : List ℕ = types_at f first n in
     let t : List ℕ = text_of f base 64 lines in
     let low : owed ≤ 0 = omega arith in
-    let step : Go u ≡ stepped types g v = rw e (step_runs s u v (named types v) y ey yt eu) in
+    let step : Some u ≡ stepped types g v = rw e (step_runs s u v (named types v) y ey yt eu) in
     let mk : m ≡ mark g = rw e em in
     record {
       laid = owed_last types t v g owed (owes_all o at (value_bytes (marked_from types g (owing owed (item_of t v ∷ []))))) low mk w;
@@ -139,7 +138,7 @@ pub data Left (c d : ℕ) (t : List ℕ) (q : ℕ) : Bool → List Item → Type
   some : (vs : List Item) (end : ℕ) → values_at 64 c d t q ≡ values vs end → Left c d t q false vs
 
 -- so many defaults were met behind the last line; what is owed are the lines of the values that are kept of them and of what is left
-pub record Owing (types t : List ℕ) (c d : ℕ) (o : List ℕ) (at : ℕ) (bs o' : List ℕ) (r : ℕ) (g : Stepped) (owed q : ℕ) (last : Bool) : Type 0 where
+pub record Owing (types t : List ℕ) (c d : ℕ) (o : List ℕ) (at : ℕ) (bs o' : List ℕ) (r : ℕ) (g : Option LayoutState) (owed q : ℕ) (last : Bool) : Type 0 where
   pub left : List Item
   pub is : Left c d t q last left
   pub owes : Owes o at bs o' r (value_bytes (marked_from types g (trimmed (replicate owed default ++ left))))
@@ -196,7 +195,7 @@ module _ (file : List ℕ) (base lines : ℕ) (st : Stands file base 64 lines) (
 
   module _ (types : List ℕ) where
     -- behind the type all of it is owed
-    pub values_all : (list typ form : ℕ) (o : List ℕ) (at : ℕ) {g : Stepped} {x : Met} → g ≡ marks_begun list typ form → Unrefused (values_at 64 c d t 0) → x ≡ met_of (value_at 64 c d t 0)
+    pub values_all : (list typ form : ℕ) (o : List ℕ) (at : ℕ) {g : Option LayoutState} {x : Met} → g ≡ marks_begun list typ form → Unrefused (values_at 64 c d t 0) → x ≡ met_of (value_at 64 c d t 0)
         → Owing types t c d o at (value_bytes (marked_from types (marks_begun list typ form) (carried_in (values_at 64 c d t 0)))) o at g 0 x.next x.last
     values_all list typ form o at {g} {x} eg u ex =
         let f : First c d t u.items x = first_met 0 (omega arith) ex u.items u.end u.is in
@@ -205,7 +204,7 @@ module _ (file : List ℕ) (base lines : ℕ) (st : Stands file base 64 lines) (
         let e : marked_from types (marks_begun list typ form) vs ≡ marked_from types g (trimmed f.left) = ap₂ (marked_from types) (sym eg) ev in
         record { left = f.left; is = f.is; owes = owes_same (owes_all o at (value_bytes (marked_from types (marks_begun list typ form) vs))) (ap value_bytes e) }
 
-    module _ {o bs o₁ : List ℕ} {at r₁ : ℕ} (g : Stepped) (owed q : ℕ) {last : Bool} (p : Owing types t c d o at bs o₁ r₁ g owed q last) where
+    module _ {o bs o₁ : List ℕ} {at r₁ : ℕ} (g : Option LayoutState) (owed q : ℕ) {last : Bool} (p : Owing types t c d o at bs o₁ r₁ g owed q last) where
       -- nothing is left
       pub values_end : last ≡ true → Wrote o at bs o₁ r₁
       values_end h =
@@ -228,7 +227,7 @@ module _ (file : List ℕ) (base lines : ℕ) (st : Stands file base 64 lines) (
               record { left = us; is = met.is; owes = owes_same p.owes (ap (λ (l : List Item). value_bytes (marked_from types g (trimmed l))) e) }
 
           -- a given value comes behind what was owed
-          pub values_given : b ≡ false → {o₂ : List ℕ} {r₂ : ℕ} {u : Stepped} → u ≡ run types g (owing owed (item_of t y.value ∷ []))
+          pub values_given : b ≡ false → {o₂ : List ℕ} {r₂ : ℕ} {u : Option LayoutState} → u ≡ run types g (owing owed (item_of t y.value ∷ []))
               → Wrote o₁ r₁ (value_bytes (marked_from types g (owing owed (item_of t y.value ∷ [])))) o₂ r₂ → Owing types t c d o at bs o₂ r₂ u 0 y.next y.last
           values_given k {u = u} eu w =
               let v : Item = item_of t y.value in
@@ -237,10 +236,10 @@ module _ (file : List ℕ) (base lines : ℕ) (st : Stands file base 64 lines) (
               = ap (λ (l : List Item). trimmed (replicate owed default ++ l)) met.whole ∙ some_kept owed v us (missing t y.value ∙ sym eb ∙ k) in
               let bytes : value_bytes (marked_from types g (trimmed (replicate owed default ++ p.left))) ≡ value_bytes (marked_from types g (owing owed (v ∷ []))) ++ value_bytes (marked_from types u (trimmed us))
               = ap (λ (l : List Item). value_bytes (marked_from types g l)) e ∙ lines-append types g (owing owed (v ∷ [])) (trimmed us)
-              ∙ ap (λ (z : Stepped). value_bytes (marked_from types g (owing owed (v ∷ []))) ++ value_bytes (marked_from types z (trimmed us))) (sym eu) in
+              ∙ ap (λ (z : Option LayoutState). value_bytes (marked_from types g (owing owed (v ∷ []))) ++ value_bytes (marked_from types z (trimmed us))) (sym eu) in
               record { left = us; is = met.is; owes = owes_less (owes_same p.owes bytes) w }
 
-    module _ {o bs o₁ : List ℕ} {at r₁ : ℕ} (g : Stepped) (owed q : ℕ) {last : Bool} (p : Owing types t c d o at bs o₁ r₁ g owed q last) (h : last ≡ false) (i : q ≤ lines * 64) {got : Got} (eg : got ≡ value_at 64 c d t q) where
+    module _ {o bs o₁ : List ℕ} {at r₁ : ℕ} (g : Option LayoutState) (owed q : ℕ) {last : Bool} (p : Owing types t c d o at bs o₁ r₁ g owed q last) (h : last ≡ false) (i : q ≤ lines * 64) {got : Got} (eg : got ≡ value_at 64 c d t q) where
       -- no value of it is refused
       pub values_refused : {fault : Fault} {s z : ℕ} {o₂ : List ℕ} {r₂ : ℕ} → got ≡ Refused fault s z → Wrote o at bs o₂ r₂
       values_refused e =
@@ -255,7 +254,7 @@ module _ (file : List ℕ) (base lines : ℕ) (st : Stands file base 64 lines) (
         pub found_default : b ≡ true → Owing types t c d o at bs o₁ r₁ g (owed + 1) next end
         found_default k = values_default g owed q p h i met-is eb k
 
-        pub found-given : b ≡ false → {o₂ : List ℕ} {r₂ : ℕ} {u : Stepped} → u ≡ run types g (owing owed (item_of t v ∷ []))
+        pub found-given : b ≡ false → {o₂ : List ℕ} {r₂ : ℕ} {u : Option LayoutState} → u ≡ run types g (owing owed (item_of t v ∷ []))
             → Wrote o₁ r₁ (value_bytes (marked_from types g (owing owed (item_of t v ∷ [])))) o₂ r₂ → Owing types t c d o at bs o₂ r₂ u 0 next end
         found-given k eu w = values_given g owed q p h i met-is eb k eu w
 

@@ -1,5 +1,5 @@
 -- The code's form: how printing goes through a record's values: what it meets, and what it needs and leaves at a value that is given.
-use Rattle.std.specs.Prelude.{◌≡◌, true, List, [], ◌∷◌, ℕ, ◌+◌, ◌*◌, ◌^◌, ◌≤◌, ◌<◌, length}
+use Rattle.std.specs.Prelude.{◌≡◌, true, List, [], ◌∷◌, ℕ, ◌+◌, ◌*◌, ◌^◌, ◌≤◌, ◌<◌, length, Option}
 use Rattle.columns.specs.Columns.{text_of}
 use Rattle.columns.specs.Laid.{Wrote}
 use Rattle.columns.specs.Format.{line_bytes, parameter_columns}
@@ -11,7 +11,7 @@ use Rattle.records.specs.declared.Got.TheVariants.{Found, Refused}
 use Rattle.records.specs.Record.{Values, values, values_at}
 use Rattle.records.specs.Reading.{Stands, Writable}
 use Rattle.directory.specs.Naming.{types_at}
-use Rattle.layouts.specs.declared.Stepped.{Stepped}
+use Rattle.layouts.specs.declared.LayoutState.{LayoutState}
 use Rattle.layouts.specs.Walk.{run}
 use Rattle.read_entities.specs.Marks.{marked_from}
 use Rattle.read_entities.specs.Walking.{owing}
@@ -48,7 +48,7 @@ pub record GivenStands (f : List ℕ) (base lines first n owed : ℕ) (v : Value
   pub room : at + 1100 * owed < 2 ^ 59
 
 -- the lines of the defaults and its own are laid, and the marks stand behind it
-pub record GivenPut (f : List ℕ) (base lines first n : ℕ) (g : Stepped) (owed : ℕ) (v : Value) (o : List ℕ) (at : ℕ)
+pub record GivenPut (f : List ℕ) (base lines first n : ℕ) (g : Option LayoutState) (owed : ℕ) (v : Value) (o : List ℕ) (at : ℕ)
     (o' : List ℕ) (r : Behind) : Type 0 where
   pub laid :
       Wrote o at

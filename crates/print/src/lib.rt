@@ -8,7 +8,7 @@ pub mod characters;
 pub mod lines;
 pub mod taking;
 
-use layouts::Stepped;
+use layouts::LayoutState;
 use values::Value;
 
 // A value that is met in a record, the position behind its delimiter, and whether that ends the record.
@@ -23,5 +23,5 @@ pub struct Met {
 #[derive(Clone, Copy)]
 pub struct Behind {
     pub next: usize,
-    pub marks: Stepped,
+    pub marks: Option<LayoutState>,
 }

@@ -12,7 +12,7 @@ ghost use Rattle.print.specs.Bytes.{value_bytes};
 ghost use Rattle.print.specs.Taking.{ValuesStand, GivenStands, GivenPut};
 
 use columns::format::PARAMETER_COLUMNS;
-use layouts::Stepped;
+use layouts::LayoutState;
 use layouts_machine::{is_reference, runs_on, with_left};
 use print::Behind;
 use print::lines::{put_mostly_real, put_value_line};
@@ -31,7 +31,7 @@ fn put_owed(
     lines: usize,
     first: usize,
     n: usize,
-    g: Stepped,
+    g: Option<LayoutState>,
     owed: usize,
     v: Value,
 ) -> Behind
@@ -102,17 +102,17 @@ pub fn put_values(
                 }
                 if owed == 0 {
                     match g {
-                        Stepped::Go(s) => {
+                        Some(s) => {
                             if runs_on(s, value) {
                                 let reference = is_reference(s);
                                 next = put_mostly_real(
                                     out, next, file, base, lines, reference, value,
                                 );
-                                g = Stepped::Go(with_left(s, s.left - 1));
+                                g = Some(with_left(s, s.left - 1));
                                 continue;
                             }
                         }
-                        Stepped::Bad => {}
+                        None => {}
                     }
                 }
                 let z = put_owed(out, next, file, base, lines, first, n, g, owed, value);

@@ -6,8 +6,7 @@ use Prim.Native.Nat.{ℕ}
 use Rattle.values.specs.declared.Value.{Value}
 use Rattle.values.specs.Value.{Item}
 use Rattle.layouts.specs.declared.LayoutState.{LayoutState}
-use Rattle.layouts.specs.declared.Stepped.{Stepped}
-use Rattle.layouts.specs.declared.Stepped.TheVariants.{Go, Bad}
+use Rattle.std.specs.Prelude.{Option, Some, None}
 use Rattle.layouts.specs.Named.{named}
 use Rattle.layouts.specs.Known.{known}
 use Rattle.layouts.specs.Machine.{start, step, refers, kind_at}
@@ -22,26 +21,26 @@ use Rattle.read_entities.specs.Marks.{marks_begun, marked_from}
 -- ---- marks
 
 module _ (list typ form : ℕ) {y : Bool} (ey : y ≡ known list typ form) where
-  pub begun-known : y ≡ true → {s : LayoutState} → s ≡ start typ form → Go s ≡ marks_begun list typ form
+  pub begun-known : y ≡ true → {s : LayoutState} → s ≡ start typ form → Some s ≡ marks_begun list typ form
   unfolding marks_begun
   begun-known e q = rw (← ey, e, q)
 
-  pub begun-carried : y ≡ false → Bad ≡ marks_begun list typ form
+  pub begun-carried : y ≡ false → None ≡ marks_begun list typ form
   unfolding marks_begun
   begun-carried e = rw (← ey, e)
 
-module _ {g : Stepped} where
-  pub mark_go : {s : LayoutState} {b : Bool} → g ≡ Go s → b ≡ refers (kind_at s) → b ≡ mark g
+module _ {g : Option LayoutState} where
+  pub mark_go : {s : LayoutState} {b : Bool} → g ≡ Some s → b ≡ refers (kind_at s) → b ≡ mark g
   mark_go e q = rw e q
 
-  pub mark_bad : g ≡ Bad → false ≡ mark g
+  pub mark_bad : g ≡ None → false ≡ mark g
   mark_bad e = rw e
 
   module _ (types : List ℕ) (v : Value) where
-    pub stepped_go : {s : LayoutState} (class : ℕ) {r : Stepped} → g ≡ Go s → class ≡ named types v → r ≡ step s v class → r ≡ stepped types g v
+    pub stepped_go : {s : LayoutState} (class : ℕ) {r : Option LayoutState} → g ≡ Some s → class ≡ named types v → r ≡ step s v class → r ≡ stepped types g v
     stepped_go {s} class e q h = rw e (h ∙ ap (step s v) q)
 
-    pub stepped_bad : g ≡ Bad → Bad ≡ stepped types g v
+    pub stepped_bad : g ≡ None → None ≡ stepped types g v
     stepped_bad e = rw e
 
 pub ruleset marking = (begun-known, begun-carried, mark_go, mark_bad, stepped_go, stepped_bad)

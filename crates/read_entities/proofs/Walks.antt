@@ -22,8 +22,7 @@ use Rattle.records.proofs.Bounds.{next_more, next_in, next_less, can_write}
 use Rattle.records.proofs.Puts.{inside, copied-text, spelled-length, copied_few}
 use Rattle.records.proofs.Steps.{at_last, at_more, at-wrong}
 use Rattle.layouts.specs.declared.LayoutState.{LayoutState}
-use Rattle.layouts.specs.declared.Stepped.{Stepped}
-use Rattle.layouts.specs.declared.Stepped.TheVariants.{Go, Bad}
+use Rattle.std.specs.Prelude.{Option, Some, None}
 use Rattle.layouts.specs.Named.{named}
 use Rattle.layouts.specs.Machine.{stand, runs_on}
 use Rattle.layouts.specs.Walk.{stepped, run}
@@ -35,42 +34,42 @@ use Rattle.read_entities.specs.Walking.{carried_length, owing, state_after, leng
 
 -- ---- defaults
 
-run_default : (types : List ℕ) (g : Stepped) (n : ℕ) → run types (stepped types g Default) (replicate n default) ≡ run types g (replicate (suc n) default)
+run_default : (types : List ℕ) (g : Option LayoutState) (n : ℕ) → run types (stepped types g Default) (replicate n default) ≡ run types g (replicate (suc n) default)
 unfolding run
-run_default types g n = ap (λ (x : Stepped). run types x (replicate n default)) (sym (feed-stepped types [] g Default))
+run_default types g n = ap (λ (x : Option LayoutState). run types x (replicate n default)) (sym (feed-stepped types [] g Default))
 
-module _ (types : List ℕ) (g : Stepped) (left : ℕ) {f : Stepped} (inv : run types g (replicate left default) ≡ f) where
+module _ (types : List ℕ) (g : Option LayoutState) (left : ℕ) {f : Option LayoutState} (inv : run types g (replicate left default) ≡ f) where
   pub defaults_none : left ≤ 0 → g ≡ f
   unfolding run
   defaults_none h =
       let z : left ≡ 0 = omega arith in
       rw z at inv
 
-  pub defaults_more : {u : Stepped} → 0 < left → u ≡ stepped types g Default → run types u (replicate (left - 1) default) ≡ f
+  pub defaults_more : {u : Option LayoutState} → 0 < left → u ≡ stepped types g Default → run types u (replicate (left - 1) default) ≡ f
   defaults_more {u} h e =
       let z : suc (left - 1) ≡ left = omega arith in
-      ap (λ (x : Stepped). run types x (replicate (left - 1) default)) e ∙ run_default types g (left - 1) ∙ ap (λ (k : ℕ). run types g (replicate k default)) z ∙ inv
+      ap (λ (x : Option LayoutState). run types x (replicate (left - 1) default)) e ∙ run_default types g (left - 1) ∙ ap (λ (k : ℕ). run types g (replicate k default)) z ∙ inv
 
 pub ruleset defaults = (defaults_none, defaults_more)
 
 -- ---- behind a value
 
-module _ (types : List ℕ) {g : Stepped} (owed : ℕ) (v : Value) (b : Bool) (eb : b ≡ is_missing v) where
+module _ (types : List ℕ) {g : Option LayoutState} (owed : ℕ) (v : Value) (b : Bool) (eb : b ≡ is_missing v) where
   pub state_same : b ≡ true → g ≡ state_after types g owed v
   state_same e = rw (← eb, e)
 
   module _ (e : b ≡ false) where
-    pub state_bad : g ≡ Bad → Bad ≡ state_after types g owed v
+    pub state_bad : g ≡ None → None ≡ state_after types g owed v
     state_bad eg = rw (← eb, e, eg, run_bad types (replicate owed default))
 
-    module _ (s : LayoutState) (eg : g ≡ Go s) (t : LayoutState) where
+    module _ (s : LayoutState) (eg : g ≡ Some s) (t : LayoutState) where
       -- none is owed, and more of its kind follow
-      pub state_runs : (y : Bool) → owed ≡ 0 → y ≡ runs_on s v → y ≡ true → t ≡ stand s s.at (s.left - 1) → Go t ≡ state_after types g owed v
+      pub state_runs : (y : Bool) → owed ≡ 0 → y ≡ runs_on s v → y ≡ true → t ≡ stand s s.at (s.left - 1) → Some t ≡ state_after types g owed v
       unfolding run
       state_runs y z ey h et = rw (← eb, e, eg, z) (step_runs s t v (named types v) y ey h et)
 
-      pub state-given : (h u : Stepped) → t ≡ stand s s.at s.left → h ≡ run types (Go t) (replicate owed default) → u ≡ stepped types h v → u ≡ state_after types g owed v
-      state-given h u et eh eu = rw (← eb, e, eg) (eu ∙ ap (λ (x : Stepped). stepped types x v) (eh ∙ ap (λ (x : LayoutState). run types (Go x) (replicate owed default)) et))
+      pub state-given : (h u : Option LayoutState) → t ≡ stand s s.at s.left → h ≡ run types (Some t) (replicate owed default) → u ≡ stepped types h v → u ≡ state_after types g owed v
+      state-given h u et eh eu = rw (← eb, e, eg) (eu ∙ ap (λ (x : Option LayoutState). stepped types x v) (eh ∙ ap (λ (x : LayoutState). run types (Some x) (replicate owed default)) et))
 
 pub ruleset states = (state_same, state_bad, state_runs, state-given, runs_left)
 
@@ -129,7 +128,7 @@ defaults_length zero us = omega arith
 defaults_length (suc n) us = omega (arith, defaults_length n us)
 
 -- a value that is given, behind the defaults owed
-module _ (types : List ℕ) (g : Stepped) (owed : ℕ) (t : List ℕ) (v : Value) (us : List Item) (e : is_default (item_of t v) ≡ false) where
+module _ (types : List ℕ) (g : Option LayoutState) (owed : ℕ) (t : List ℕ) (v : Value) (us : List Item) (e : is_default (item_of t v) ≡ false) where
   given-state : run types g (owing owed (trim (item_of t v) us)) ≡ run types (stepped types (run types g (replicate owed default)) v) (owing 0 us)
   unfolding run
   given-state =
@@ -143,7 +142,7 @@ module _ (types : List ℕ) (g : Stepped) (owed : ℕ) (t : List ℕ) (v : Value
       let b = ap carried_length (owing-none us) in
       omega (arith, a, b, spelled-length t v (inside (length t) v h))
 
-module _ (types : List ℕ) (g : Stepped) (owed size : ℕ) (t : List ℕ) where
+module _ (types : List ℕ) (g : Option LayoutState) (owed size : ℕ) (t : List ℕ) where
   walk_one : (v : Value) (vals : Values) → Writable (length t) v
       → walked_from types g owed size (more (item_of t v) vals) ≡ walked_from types (state_after types g owed v) (owed_after owed v) (length_after size owed v) vals
   walk_one v (wrong fault start at) h = refl
@@ -159,12 +158,12 @@ module _ (types : List ℕ) (g : Stepped) (owed size : ℕ) (t : List ℕ) where
 -- ---- the loop over a record: f is the answer
 
 module _ {file : List ℕ} {base lines : ℕ} (st : Stands file base 64 lines) {c d : ℕ} (pc : 0 < c) (pd : 0 < d) (types : List ℕ) where
-  module _ (q owed size : ℕ) (g : Stepped) {got : Got} {f : EntityWalked} (h : q ≤ lines * 64) (eg : got ≡ value_at 64 c d (text_of file base 64 lines) q)
+  module _ (q owed size : ℕ) (g : Option LayoutState) {got : Got} {f : EntityWalked} (h : q ≤ lines * 64) (eg : got ≡ value_at 64 c d (text_of file base 64 lines) q)
       (inv : walked_from types g owed size (values_at 64 c d (text_of file base 64 lines) q) ≡ f) where
     pub walk_wrong : {fault : Fault} {s at : ℕ} → got ≡ Refused fault s at → Wrong fault ≡ f
     walk_wrong e = sym (ap (walked_from types g owed size) (at-wrong 64 c d (text_of file base 64 lines) pc pd q (sym eg ∙ e))) ∙ inv
 
-    module _ (sane : Sane q (lines * 64) got) {v : Value} {s next : ℕ} {last : Bool} (e : got ≡ Found v s next last) {u : Stepped} {size' : ℕ}
+    module _ (sane : Sane q (lines * 64) got) {v : Value} {s next : ℕ} {last : Bool} (e : got ≡ Found v s next last) {u : Option LayoutState} {size' : ℕ}
         (eu : u ≡ state_after types g owed v) (el : size' ≡ length_after size owed v) where
       can : Writable (length (text_of file base 64 lines)) v
       can = rw (length-text file base 64 lines st) (can_write q (lines * 64) e sane)

@@ -1,5 +1,5 @@
 -- The code's form: what the last pass says of one entity: the answer of `by_parameters` without what is carried and without the place.
-use Rattle.std.specs.Prelude.{Bool, false, cond, not, ◌&&◌, List, ℕ, eqb, get_or, drop}
+use Rattle.std.specs.Prelude.{Bool, false, cond, not, ◌&&◌, List, ℕ, eqb, get_or, drop, Option}
 use Rattle.columns.specs.declared.Fault.TheVariants.{FirstValue, Layout as LayoutFault, LayoutReference as LayoutReferenceFault}
 use Rattle.columns.specs.Refusal.{Outcome, accepted, refused, demand, ◌then◌}
 use Rattle.values.specs.declared.Value.{Value}
@@ -8,7 +8,7 @@ use Rattle.values.specs.Value.{default}
 use Rattle.records.specs.Record.{Values, values, wrong, trimmed}
 use Rattle.layouts.specs.declared.LayoutVerdict.{LayoutVerdict}
 use Rattle.layouts.specs.declared.LayoutVerdict.TheVariants.{Good as GoodVerdict, Layout, LayoutReference}
-use Rattle.layouts.specs.declared.Stepped.{Stepped}
+use Rattle.layouts.specs.declared.LayoutState.{LayoutState}
 use Rattle.layouts.specs.Entities.{entity_check}
 use Rattle.layouts.specs.Walk.{ended}
 use Rattle.model.specs.Read.{is_type}
@@ -48,7 +48,7 @@ verdict_answer Layout = Refused LayoutFault
 verdict_answer LayoutReference = Refused LayoutReferenceFault
 
 -- by whether the first value is the type, whether the list knows the entity, and where its layout stands behind its values
-abbrev pub pass_answer : Bool → Bool → Stepped → EntityAnswer
+abbrev pub pass_answer : Bool → Bool → Option LayoutState → EntityAnswer
 pass_answer typed inside g = cond typed (cond inside (verdict_answer (ended g)) Good) (Refused FirstValue)
 
 -- the same by the walk over its values, with the bytes of their lines

@@ -1,9 +1,8 @@
 -- The code's form: what printing needs of an entity: its carried values where they stand, and the mark of each.
-use Rattle.std.specs.Prelude.{Bool, cond, List, [], ℕ, drop}
+use Rattle.std.specs.Prelude.{Bool, cond, List, [], ℕ, drop, Option, Some, None}
 use Rattle.values.specs.Value.{Item}
 use Rattle.records.specs.Record.{Values, values, wrong, trimmed}
-use Rattle.layouts.specs.declared.Stepped.{Stepped}
-use Rattle.layouts.specs.declared.Stepped.TheVariants.{Go, Bad}
+use Rattle.layouts.specs.declared.LayoutState.{LayoutState}
 use Rattle.layouts.specs.Known.{known}
 use Rattle.layouts.specs.Machine.{start}
 use Rattle.layouts.specs.Walk.{marks_from}
@@ -15,9 +14,9 @@ carried_in (values vs end) = trimmed (drop 1 vs)
 carried_in (wrong fault start at) = []
 
 -- before the first of them; outside the list it stands where nothing is a reference
-unfoldable pub marks_begun : ℕ → ℕ → ℕ → Stepped
-marks_begun list typ form = cond (known list typ form) (Go (start typ form)) Bad
+unfoldable pub marks_begun : ℕ → ℕ → ℕ → Option LayoutState
+marks_begun list typ form = cond (known list typ form) (Some (start typ form)) None
 
 -- the values from here on, each with its mark
-unfoldable pub marked_from : List ℕ → Stepped → List Item → List (Bool × Item)
+unfoldable pub marked_from : List ℕ → Option LayoutState → List Item → List (Bool × Item)
 marked_from types g vs = marked (marks_from types g vs) vs

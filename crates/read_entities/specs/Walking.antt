@@ -1,6 +1,6 @@
 -- The code's form: one walk over an entity's values: what the layout and the sheet see are those up to the last that is no default, so a
 -- default is owed until a value is given behind it. Its lines in the sheet are measured on the way.
-use Rattle.std.specs.Prelude.{cond, List, [], ◌∷◌, ◌++◌, ℕ, ◌+◌, ◌*◌, ◌≤◌, ◌<◌, length, replicate}
+use Rattle.std.specs.Prelude.{cond, List, [], ◌∷◌, ◌++◌, ℕ, ◌+◌, ◌*◌, ◌≤◌, ◌<◌, length, replicate, Option}
 use Rattle.columns.specs.Format.{line_bytes, parameter_columns}
 use Rattle.values.specs.declared.Value.{Value}
 use Rattle.values.specs.Value.{Item, default, spelled, is_missing}
@@ -8,7 +8,7 @@ use Rattle.values.specs.Writing.{front}
 use Rattle.records.specs.Record.{Values, values, wrong, trimmed}
 use Rattle.records.specs.Reading.{Stands}
 use Rattle.records.specs.Written.{copied}
-use Rattle.layouts.specs.declared.Stepped.{Stepped}
+use Rattle.layouts.specs.declared.LayoutState.{LayoutState}
 use Rattle.layouts.specs.Walk.{stepped, run}
 use Rattle.read_entities.specs.declared.EntityWalked.{EntityWalked}
 use Rattle.read_entities.specs.declared.EntityWalked.TheVariants.{Done, Wrong}
@@ -32,7 +32,7 @@ pub record EntityStands (f : List ℕ) (base lines c d first n : ℕ) : Type 0 w
 
 -- ---- behind a value
 
-abbrev pub state_after : List ℕ → Stepped → ℕ → Value → Stepped
+abbrev pub state_after : List ℕ → Option LayoutState → ℕ → Value → Option LayoutState
 state_after types g owed v = cond (is_missing v) g (stepped types (run types g (replicate owed default)) v)
 
 abbrev pub length_after : ℕ → ℕ → Value → ℕ
@@ -44,7 +44,7 @@ owed_after owed v = cond (is_missing v) (owed + 1) 0
 -- ---- behind all
 
 -- the rest of the walk, so many defaults owed and so many bytes measured
-abbrev pub walked_from : List ℕ → Stepped → ℕ → ℕ → Values → EntityWalked
+abbrev pub walked_from : List ℕ → Option LayoutState → ℕ → ℕ → Values → EntityWalked
 walked_from types g owed size (values vs end) =
     Done (run types g (owing owed (trimmed vs))) (size + carried_length (owing owed (trimmed vs)))
 walked_from types g owed size (wrong fault start at) = Wrong fault

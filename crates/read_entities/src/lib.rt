@@ -6,7 +6,7 @@ pub mod marks;
 pub mod naming;
 
 use columns::Fault;
-use layouts::Stepped;
+use layouts::LayoutState;
 use values::Value;
 
 // A value of a record, and the position behind its delimiter.
@@ -34,6 +34,6 @@ pub struct Weighed {
 // lines up to it; or the first refusal.
 #[derive(Clone, Copy)]
 pub enum EntityWalked {
-    Done { state: Stepped, length: usize },
+    Done { state: Option<LayoutState>, length: usize },
     Wrong(Fault),
 }

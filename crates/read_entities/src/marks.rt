@@ -6,41 +6,34 @@ ghost use Rattle.layouts.specs.Walk.{stepped, mark};
 ghost use Rattle.read_entities.specs.Marks.{marks_begun};
 
 use crate::naming::named_at;
-use layouts::Stepped;
+use layouts::LayoutState;
 use layouts_lists::known;
 use layouts_machine::{is_reference, start, step};
 use values::Value;
 
 // Before the first value.
-pub fn marks_begun(list: u64, typ: u32, form: u32) -> Stepped
+#[tactic(auto, using(crate::proofs::Marking::marking))]
+pub fn marks_begun(list: u64, typ: u32, form: u32) -> Option<LayoutState>
     ensures { result ≡ marks_begun list typ form }
 {
-    if known(list, typ, form) {
-        return Stepped::Go(start(typ, form));
-    }
-    Stepped::Bad
+    known(list, typ, form).then(|| start(typ, form))
 }
 
 // The mark of the next value: whether it is R.
-pub fn mark_of(g: Stepped) -> bool
+#[tactic(auto, using(crate::proofs::Marking::marking))]
+pub fn mark_of(g: Option<LayoutState>) -> bool
     ensures { result ≡ mark g }
 {
-    match g {
-        Stepped::Go(s) => is_reference(s),
-        Stepped::Bad => false,
-    }
+    g.is_some_and(is_reference)
 }
 
 // Behind this value.
-pub fn mark_step(file: &[u8], first: usize, n: usize, g: Stepped, v: Value) -> Stepped
+#[tactic(auto, using(crate::proofs::Marking::marking))]
+pub fn mark_step(file: &[u8], first: usize, n: usize, g: Option<LayoutState>, v: Value) -> Option<LayoutState>
     requires { line_bytes * (first + 2 * n) ≤ length file.now }
     ensures { result ≡ stepped (types_at file.now first n) g v }
 {
-    match g {
-        Stepped::Go(s) => {
-            let class = named_at(file, first, n, v);
-            step(s, v, class)
-        }
-        Stepped::Bad => Stepped::Bad,
-    }
+    let s = g?;
+    let class = named_at(file, first, n, v);
+    step(s, v, class)
 }

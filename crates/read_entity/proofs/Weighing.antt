@@ -17,8 +17,7 @@ use Rattle.records.specs.Record.{Values, values, wrong, more, value_at, values_a
 use Rattle.records.proofs.Bounds.{next_in}
 use Rattle.records.proofs.Steps.{at_last, at_more, at-wrong}
 use Rattle.layouts.specs.declared.LayoutState.{LayoutState}
-use Rattle.layouts.specs.declared.Stepped.{Stepped}
-use Rattle.layouts.specs.declared.Stepped.TheVariants.{Go, Bad}
+use Rattle.std.specs.Prelude.{Option, Some, None}
 use Rattle.layouts.specs.declared.LayoutVerdict.{LayoutVerdict}
 use Rattle.layouts.specs.Machine.{start, end}
 use Rattle.layouts.specs.Known.{known}
@@ -40,7 +39,7 @@ use Rattle.read_entities.proofs.Walks.{owing-none}
 
 -- ---- the answer by cases
 
-module _ (typed inside : Bool) (g : Stepped) where
+module _ (typed inside : Bool) (g : Option LayoutState) where
   pub answer_first : typed ≡ false → Refused FirstValue ≡ pass_answer typed inside g
   answer_first e = rw e
 
@@ -49,10 +48,10 @@ module _ (typed inside : Bool) (g : Stepped) where
     answer_outside h = rw (e, h)
 
     module _ (h : inside ≡ true) where
-      pub answer_go : {s : LayoutState} {w : LayoutVerdict} {r : EntityAnswer} → g ≡ Go s → w ≡ end s → r ≡ verdict_answer w → r ≡ pass_answer typed inside g
+      pub answer_go : {s : LayoutState} {w : LayoutVerdict} {r : EntityAnswer} → g ≡ Some s → w ≡ end s → r ≡ verdict_answer w → r ≡ pass_answer typed inside g
       answer_go q ew er = rw (e, h, q, ← ew) er
 
-      pub answer_bad : g ≡ Bad → Refused LayoutFault ≡ pass_answer typed inside g
+      pub answer_bad : g ≡ None → Refused LayoutFault ≡ pass_answer typed inside g
       answer_bad q = rw (e, h, q)
 
 pub ruleset answers = (not-true, not-false, answer_first, answer_outside, answer_go, answer_bad)
@@ -62,7 +61,7 @@ module _ (typed inside : Bool) {w : EntityWalked} where
   unfolding weighed_of
   weighed_wrong e = rw e
 
-  pub weighed_done : {u : Stepped} {size : ℕ} {a : EntityAnswer} → w ≡ Done u size → a ≡ pass_answer typed inside u → record { answer = a; length = size } ≡ weighed_of typed inside w
+  pub weighed_done : {u : Option LayoutState} {size : ℕ} {a : EntityAnswer} → w ≡ Done u size → a ≡ pass_answer typed inside u → record { answer = a; length = size } ≡ weighed_of typed inside w
   unfolding weighed_of
   weighed_done e ea = rw (e, ea)
 
@@ -78,18 +77,18 @@ module _ (list : ℕ) (types : List ℕ) (typ form : ℕ) where
       by (is_type typ i) (known list typ form)
       ∙ ap (λ (o : Outcome (Unit {0})). entity_answer (demand (is_type typ i) FirstValue 0 then λ _. o)) (check_judged types list (entity_with typ form (trimmed vs)) 0)
     where
-      by : (a b : Bool) → pass_answer a b (run types (cond b (Go (start typ form)) Bad) (trimmed vs))
+      by : (a b : Bool) → pass_answer a b (run types (cond b (Some (start typ form)) None) (trimmed vs))
           ≡ entity_answer (demand a FirstValue 0 then λ _. cond b (fault (judged types (entity_with typ form (trimmed vs))) 0) (accepted tt))
       by true true = answer-fault (judged types (entity_with typ form (trimmed vs))) 0
       by true false = refl
       by false b = refl
 
-  values_wrong : (i : Item) (vals : Values) (g : Stepped) (f : Fault) → walked_from types g 0 0 vals ≡ Wrong f → Refused f ≡ entity_pass_of list types typ form (more i vals)
+  values_wrong : (i : Item) (vals : Values) (g : Option LayoutState) (f : Fault) → walked_from types g 0 0 vals ≡ Wrong f → Refused f ≡ entity_pass_of list types typ form (more i vals)
   unfolding entity_pass_of
   values_wrong i (values vs to) g f h = let z : ◌≡◌ {A = ℕ} 0 1 = cc in absurd (omega arith)
   values_wrong i (wrong n s at) g f h = let e : f ≡ n = cc in ap Refused e
 
-  values_done : (i : Item) (vals : Values) (u : Stepped) (size : ℕ) → walked_from types (marks_begun list typ form) 0 0 vals ≡ Done u size
+  values_done : (i : Item) (vals : Values) (u : Option LayoutState) (size : ℕ) → walked_from types (marks_begun list typ form) 0 0 vals ≡ Done u size
       → pass_answer (is_type typ i) (known list typ form) u ≡ entity_pass_of list types typ form (more i vals)
   values_done i (values vs to) u size h =
       let e : u ≡ run types (marks_begun list typ form) (owing 0 (trimmed vs)) = cc in
@@ -98,12 +97,12 @@ module _ (list : ℕ) (types : List ℕ) (typ form : ℕ) where
 
 -- ---- what is carried, measured
 
-none-carried : (types : List ℕ) (i : Item) (vals : Values) (g : Stepped) (f : Fault) → walked_from types g 0 0 vals ≡ Wrong f → 0 ≡ carried_length (carried_in (more i vals))
+none-carried : (types : List ℕ) (i : Item) (vals : Values) (g : Option LayoutState) (f : Fault) → walked_from types g 0 0 vals ≡ Wrong f → 0 ≡ carried_length (carried_in (more i vals))
 unfolding carried_length
 none-carried types i (values vs to) g f h = let z : ◌≡◌ {A = ℕ} 0 1 = cc in absurd (omega arith)
 none-carried types i (wrong n s at) g f h = refl
 
-all_carried : (types : List ℕ) (i : Item) (vals : Values) (g u : Stepped) (size : ℕ) → walked_from types g 0 0 vals ≡ Done u size → size ≡ carried_length (carried_in (more i vals))
+all_carried : (types : List ℕ) (i : Item) (vals : Values) (g u : Option LayoutState) (size : ℕ) → walked_from types g 0 0 vals ≡ Done u size → size ≡ carried_length (carried_in (more i vals))
 all_carried types i (values vs to) g u size h =
     let e : size ≡ 0 + carried_length (owing 0 (trimmed vs)) = cc in
     e ∙ zero-add _ ∙ ap carried_length (owing-none (trimmed vs))
@@ -119,7 +118,7 @@ module _ {c d : ℕ} (pc : 0 < c) (pd : 0 < d) (t : List ℕ) {got : Got} (eg : 
     unfolding carried_length
     weigh_single l = sym (ap (λ (vs : Values). carried_length (carried_in vs)) (at_last 64 c d t pc pd 0 (sym eg ∙ e ∙ ap (Found v s next) l)))
 
-    module _ (l : last ≡ false) (types : List ℕ) (g : Stepped) {w : EntityWalked} (ew : w ≡ walked_from types g 0 0 (values_at 64 c d t next)) where
+    module _ (l : last ≡ false) (types : List ℕ) (g : Option LayoutState) {w : EntityWalked} (ew : w ≡ walked_from types g 0 0 (values_at 64 c d t next)) where
       whole : carried_length (carried_in (more (item_of t v) (values_at 64 c d t next))) ≡ carried_length (carried_in (values_at 64 c d t 0))
       whole = sym (ap (λ (vs : Values). carried_length (carried_in vs)) (at_more 64 c d t pc pd 0 (omega arith) (sym eg ∙ e ∙ ap (Found v s next) l)))
 
@@ -147,7 +146,7 @@ module _ (list : ℕ) (types : List ℕ) (typ form : ℕ) where
     unfolding entity_pass_of
     pass_refused e = sym (ap (entity_pass_of list types typ form) (at-wrong 64 c d t pc pd 0 (sym eg ∙ e)))
 
-    module _ {v : Value} {s next : ℕ} {last : Bool} (e : got ≡ Found v s next last) {typed inside : Bool} {g : Stepped}
+    module _ {v : Value} {s next : ℕ} {last : Bool} (e : got ≡ Found v s next last) {typed inside : Bool} {g : Option LayoutState}
         (et : typed ≡ type_read typ v) (ei : inside ≡ known list typ form) (eb : g ≡ marks_begun list typ form) where
       its_type : typed ≡ is_type typ (item_of t v)
       its_type = et ∙ sym (read_type typ t v)
@@ -169,6 +168,6 @@ module _ (list : ℕ) (types : List ℕ) (typ form : ℕ) where
             by : (x : EntityWalked) → x ≡ walked_from types g 0 0 (values_at 64 c d t next) → (weighed_of typed inside x).answer ≡ entity_pass_of list types typ form (more (item_of t v) (values_at 64 c d t next))
             by (Wrong f) ex = values_wrong list types typ form (item_of t v) (values_at 64 c d t next) g f (sym ex)
             by (Done u size) ex =
-                rw (its_type, ei) (values_done list types typ form (item_of t v) (values_at 64 c d t next) u size (ap (λ (y : Stepped). walked_from types y 0 0 (values_at 64 c d t next)) (sym eb) ∙ sym ex))
+                rw (its_type, ei) (values_done list types typ form (item_of t v) (values_at 64 c d t next) u size (ap (λ (y : Option LayoutState). walked_from types y 0 0 (values_at 64 c d t next)) (sym eb) ∙ sym ex))
 
 pub ruleset passes = (pass_refused, pass_single, pass_walked, weigh_refused, weigh_single, weigh_walked, weigh_light, next_in)

@@ -12,7 +12,7 @@ ghost use Rattle.read_entities.specs.Answers.{type_read, verdict_answer, pass_an
 
 use columns::Fault;
 use columns::format::PARAMETER_COLUMNS;
-use layouts::{LayoutVerdict, Stepped};
+use layouts::{LayoutState, LayoutVerdict};
 use layouts_lists::known;
 use layouts_machine::end;
 use read_entities::marks::marks_begun;
@@ -51,7 +51,7 @@ fn verdict_answer(w: LayoutVerdict) -> EntityAnswer
 
 // What is said of an entity whose first value is its type or not, that the list knows or not, and whose layout stands there
 // behind its values.
-fn pass_answer(typed: bool, inside: bool, g: Stepped) -> EntityAnswer
+fn pass_answer(typed: bool, inside: bool, g: Option<LayoutState>) -> EntityAnswer
     ensures { result ≡ pass_answer typed inside g }
 {
     if !typed {
@@ -61,11 +61,11 @@ fn pass_answer(typed: bool, inside: bool, g: Stepped) -> EntityAnswer
         return EntityAnswer::Good;
     }
     match g {
-        Stepped::Go(s) => {
+        Some(s) => {
             let w = end(s);
             verdict_answer(w)
         }
-        Stepped::Bad => EntityAnswer::Refused(Fault::Layout),
+        None => EntityAnswer::Refused(Fault::Layout),
     }
 }
 

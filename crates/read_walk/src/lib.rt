@@ -13,7 +13,7 @@ ghost use Rattle.layouts.specs.Walk.{run};
 ghost use Rattle.read_entities.specs.Walking.{EntityStands, state_after, owed_after, length_after, walked_from, Light};
 
 use columns::format::PARAMETER_COLUMNS;
-use layouts::Stepped;
+use layouts::LayoutState;
 use layouts_machine::{runs_on, with_left};
 use read_entities::EntityWalked;
 use read_entities::marks::mark_step;
@@ -26,7 +26,7 @@ use values_spell::{head_len, real_len, whole_len};
 const AROUND: usize = 3;
 
 // The layout behind so many defaults.
-fn behind_defaults(file: &[u8], first: usize, n: usize, g: Stepped, owed: usize) -> Stepped
+fn behind_defaults(file: &[u8], first: usize, n: usize, g: Option<LayoutState>, owed: usize) -> Option<LayoutState>
     requires { line_bytes * (first + 2 * n) ≤ length file.now }
     ensures { result ≡ run (types_at file.now first n) g (replicate owed default) }
 {
@@ -41,7 +41,7 @@ fn behind_defaults(file: &[u8], first: usize, n: usize, g: Stepped, owed: usize)
 
 // The layout behind this value and the defaults owed before it; a default is owed. Most values are numbers where more of their kind follow:
 // they are answered here, for a state or a value that is passed on is copied through memory.
-fn state_after(file: &[u8], first: usize, n: usize, g: Stepped, owed: usize, v: Value) -> Stepped
+fn state_after(file: &[u8], first: usize, n: usize, g: Option<LayoutState>, owed: usize, v: Value) -> Option<LayoutState>
     requires { line_bytes * (first + 2 * n) ≤ length file.now }
     ensures { result ≡ state_after (types_at file.now first n) g owed v }
 {
@@ -49,14 +49,14 @@ fn state_after(file: &[u8], first: usize, n: usize, g: Stepped, owed: usize, v: 
         return g;
     }
     match g {
-        Stepped::Bad => Stepped::Bad,
-        Stepped::Go(s) => {
+        None => None,
+        Some(s) => {
             if owed == 0 {
                 if runs_on(s, v) {
-                    return Stepped::Go(with_left(s, s.left - 1));
+                    return Some(with_left(s, s.left - 1));
                 }
             }
-            let h = behind_defaults(file, first, n, Stepped::Go(with_left(s, s.left)), owed);
+            let h = behind_defaults(file, first, n, Some(with_left(s, s.left)), owed);
             mark_step(file, first, n, h, v)
         }
     }
@@ -103,7 +103,7 @@ pub fn walk(
     c: u8,
     d: u8,
     from: usize,
-    begun: Stepped,
+    begun: Option<LayoutState>,
     first: usize,
     n: usize,
 ) -> EntityWalked

@@ -19,7 +19,7 @@ use Rattle.values.specs.declared.Head.{Head}
 use Rattle.values.specs.declared.Head.TheVariants.{Count, Plain}
 use Rattle.values.specs.Head.{head_of}
 use Rattle.values.specs.Value.{Item, item_of, is_default, Fine, fine_default, fine_whole, fine_real, fine_text, Printed}
-use Rattle.values.specs.declared.Strict.TheVariants.{Is}
+use Rattle.std.specs.Prelude.{Some}
 use Rattle.values.specs.Strict.{strict_of}
 use Rattle.values.specs.Writing.{Inside}
 use Rattle.values.proofs.Sizes.{sizes}
@@ -114,7 +114,7 @@ fine_writable t (Text start count) (fine_text _ lo hi) i =
     (i, omega arith, omega arith)
 
 -- and what is read back of a text is such a value
-pub strict_writable : (t : List ℕ) (v : Value) → strict_of t ≡ Is v → Writable (length t) v
+pub strict_writable : (t : List ℕ) (v : Value) → strict_of t ≡ Some v → Writable (length t) v
 strict_writable t v e = fine_writable t v (sound t e).fine (rw e at (strict_inside t))
 
 -- ---- their bytes

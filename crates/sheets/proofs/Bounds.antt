@@ -8,8 +8,8 @@ use lib.ListN.{length, take, drop, length-drop}
 use Rattle.columns.specs.Columns.{columns}
 use Rattle.columns.proofs.Tests.{cond_cases, both_left}
 use Rattle.columns.proofs.Columns.{length-columns}
-use Rattle.values.specs.declared.Strict.{Strict}
-use Rattle.values.specs.declared.Strict.TheVariants.{Is, Not}
+use Rattle.std.specs.Prelude.{Option, Some, None}
+use Rattle.values.specs.declared.Value.{Value}
 use Rattle.values.specs.Value.{is_missing}
 use Rattle.values.specs.Writing.{Inside, Placed}
 use Rattle.values.specs.Strict.{strict_of}
@@ -46,9 +46,9 @@ module _ (l : List ℕ) (two : 2 ≤ length l) where
   value-within : (reference : Bool) → Within (length l) (value_of reference (strict_of (drop 2 l)))
   value-within reference = pick (strict_of (drop 2 l)) (strict_inside (drop 2 l))
     where
-      pick : (x : Strict) → Placed (length (drop 2 l)) x → Within (length l) (value_of reference x)
-      pick (Is v) h = (two, rw rest at h)
-      pick Not h = tt
+      pick : (x : Option Value) → Placed (length (drop 2 l)) x → Within (length l) (value_of reference x)
+      pick (Some v) h = (two, rw rest at h)
+      pick None h = tt
 
   global_within : Within (length l) (global_line (drop 2 l))
   unfolding global_line
@@ -60,8 +60,8 @@ module _ (l : List ℕ) (two : 2 ≤ length l) where
       n : ℕ
       n = plain_of (take (run 9 t) t)
 
-      pick : (x : Strict) → Placed (length (drop (suc (run 9 t)) t)) x → Within (length l) (global_of (is_numbered t) n (2 + suc (run 9 t)) x)
-      pick (Is v) h =
+      pick : (x : Option Value) → Placed (length (drop (suc (run 9 t)) t)) x → Within (length l) (global_of (is_numbered t) n (2 + suc (run 9 t)) x)
+      pick (Some v) h =
           cond_cases (Within (length l)) (is_numbered t && not (is_missing v)) (Global n (2 + suc (run 9 t)) v) (Nothing false)
           (λ e. inside (has_number t (both_left (is_numbered t) (not (is_missing v)) e))) (λ e. tt)
         where
@@ -69,7 +69,7 @@ module _ (l : List ℕ) (two : 2 ≤ length l) where
           inside k =
               let a : length (drop (suc (run 9 t)) t) ≡ length l - (2 + suc (run 9 t)) = length-drop (suc (run 9 t)) t ∙ omega (arith, rest) in
               (k.low, k.high, omega (arith, rest, k.tab), rw a at h)
-      pick Not h = tt
+      pick None h = tt
 
 pub says_within : (l : List ℕ) → Within (length l) (says_of l)
 says_within l =
@@ -79,7 +79,7 @@ says_within l =
 pub line-within : (s : List ℕ) (at end : ℕ) (r : Said) → r ≡ says_of (columns s at end) → at ≤ end → end ≤ length s → Within (end - at) r
 line-within s at end r e h k = rw (e, ← length-columns s at end h k) (says_within (columns s at end))
 
-pub strict_placed : (s : List ℕ) (at end : ℕ) (r : Strict) → at ≤ end → end ≤ length s → r ≡ strict_of (columns s at end) → Placed (end - at) r
+pub strict_placed : (s : List ℕ) (at end : ℕ) (r : Option Value) → at ≤ end → end ≤ length s → r ≡ strict_of (columns s at end) → Placed (end - at) r
 strict_placed s at end r h k e = rw (e, ← length-columns s at end h k) (strict_inside (columns s at end))
 
 pub ruleset within = (line-within, strict_placed)

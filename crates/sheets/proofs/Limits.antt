@@ -8,8 +8,8 @@ use lib.Seq.{drop-drop}
 use lib.Dec.{leb}
 use borrow.Author.Tests.{leb-true}
 use Rattle.columns.proofs.Tests.{cond_cases, both_left}
-use Rattle.values.specs.declared.Strict.{Strict}
-use Rattle.values.specs.declared.Strict.TheVariants.{Is, Not}
+use Rattle.std.specs.Prelude.{Option, Some, None}
+use Rattle.values.specs.declared.Value.{Value}
 use Rattle.values.specs.Value.{is_missing}
 use Rattle.values.specs.Strict.{strict_of}
 use Rattle.records.specs.Reading.{Writable}
@@ -36,9 +36,9 @@ module _ (l : List ℕ) where
   value_can : (reference : Bool) → Can l (value_of reference (strict_of (drop 2 l)))
   value_can reference = pick (strict_of (drop 2 l)) refl
     where
-      pick : (x : Strict) → strict_of (drop 2 l) ≡ x → Can l (value_of reference x)
-      pick (Is v) e = strict_writable (drop 2 l) v e
-      pick Not e = tt
+      pick : (x : Option Value) → strict_of (drop 2 l) ≡ x → Can l (value_of reference x)
+      pick (Some v) e = strict_writable (drop 2 l) v e
+      pick None e = tt
 
   global_can : Can l (global_line (drop 2 l))
   unfolding global_line
@@ -47,12 +47,12 @@ module _ (l : List ℕ) where
       t : List ℕ
       t = drop 2 l
 
-      pick : (x : Strict) → strict_of (drop (suc (run 9 t)) t) ≡ x
+      pick : (x : Option Value) → strict_of (drop (suc (run 9 t)) t) ≡ x
           → Can l (global_of (is_numbered t) (plain_of (take (run 9 t) t)) (2 + suc (run 9 t)) x)
-      pick (Is v) e =
+      pick (Some v) e =
           cond_cases (Can l) (is_numbered t && not (is_missing v)) (Global (plain_of (take (run 9 t) t)) (2 + suc (run 9 t)) v) (Nothing false)
           (λ _. rw (drop-drop (suc (run 9 t)) 2 l) at (strict_writable (drop (suc (run 9 t)) t) v e)) (λ _. tt)
-      pick Not e = tt
+      pick None e = tt
 
   entry_can : Can l (entry_line_of (entry_of l))
   entry_can = pick (entry_of l) refl

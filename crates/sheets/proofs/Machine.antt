@@ -14,8 +14,7 @@ use Rattle.columns.specs.Format.{most_integer}
 use Rattle.columns.proofs.Tests.{both}
 use Rattle.columns.proofs.Columns.{columns-none, columns_rest, length-columns, byte_of}
 use Rattle.values.specs.declared.Value.{Value}
-use Rattle.values.specs.declared.Strict.{Strict}
-use Rattle.values.specs.declared.Strict.TheVariants.{Is, Not}
+use Rattle.std.specs.Prelude.{Option, Some, None}
 use Rattle.values.specs.Strict.{strict_of}
 use Rattle.values.specs.Value.{is_missing}
 use Rattle.directory.specs.declared.Fields.{Fields}
@@ -74,24 +73,24 @@ start_no t b p q = rw (← p, q)
 pub ruleset starts = (mark-r, mark_v, start_none, start_long, start-blank, start_plain, start_yes, start_no)
 
 -- ---- a value
-pub strict_part : (s : List ℕ) (at end : ℕ) (r : Strict) → r ≡ strict_of (take (end - at) (drop at s)) → r ≡ strict_of (columns s at end)
+pub strict_part : (s : List ℕ) (at end : ℕ) (r : Option Value) → r ≡ strict_of (take (end - at) (drop at s)) → r ≡ strict_of (columns s at end)
 unfolding columns
 strict_part s at end r e = e
 
-pub value_yes : (x : Strict) (v : Value) (reference : Bool) → x ≡ Is v → Given reference v ≡ value_of reference x
+pub value_yes : (x : Option Value) (v : Value) (reference : Bool) → x ≡ Some v → Given reference v ≡ value_of reference x
 value_yes x v reference e = rw e
 
-pub value_no : (x : Strict) (reference : Bool) → x ≡ Not → Nothing true ≡ value_of reference x
+pub value_no : (x : Option Value) (reference : Bool) → x ≡ None → Nothing true ≡ value_of reference x
 value_no x reference e = rw e
 
 pub ruleset values = (strict_part, value_yes, value_no)
 
 -- ---- a G line
-module _ (x : Strict) (n at : ℕ) where
-  pub global_not : x ≡ Not → Nothing false ≡ global_of true n at x
+module _ (x : Option Value) (n at : ℕ) where
+  pub global_not : x ≡ None → Nothing false ≡ global_of true n at x
   global_not e = rw e
 
-  module _ (v : Value) (m : Bool) (e : x ≡ Is v) (p : m ≡ is_missing v) where
+  module _ (v : Value) (m : Bool) (e : x ≡ Some v) (p : m ≡ is_missing v) where
     pub global_default : m ≡ true → Nothing false ≡ global_of true n at x
     global_default q = rw (e, ← p, q)
 
@@ -134,9 +133,9 @@ global_wrong : (t : List ℕ) → is_numbered t ≡ false → Nothing false ≡ 
 unfolding global_line
 global_wrong t e = rw e (none (strict_of (drop (suc (run 9 t)) t)))
   where
-    none : (x : Strict) → Nothing false ≡ global_of false (plain_of (take (run 9 t) t)) (2 + suc (run 9 t)) x
-    none (Is v) = refl
-    none Not = refl
+    none : (x : Option Value) → Nothing false ≡ global_of false (plain_of (take (run 9 t) t)) (2 + suc (run 9 t)) x
+    none (Some v) = refl
+    none None = refl
 
 pub global_right : (t : List ℕ) → is_numbered t ≡ true → global_of true (plain_of (take (run 9 t) t)) (2 + suc (run 9 t)) (strict_of (drop (suc (run 9 t)) t)) ≡ global_line t
 unfolding global_line
@@ -161,7 +160,7 @@ module _ (s : List ℕ) (at e end : ℕ) (lo : at ≤ e) (hi : e ≤ end) (le : 
     pub global_large : 3 ≤ n → 24 < n → Nothing false ≡ global_line (columns s at end)
     global_large l k = global_wrong (columns s at end) (tabbed ∙ field_out (columns s at e) n m (simp (le-leb _ _ l, lt-leb _ _ k)))
 
-    pub global_yes : (r : Said) (v : Strict) → 3 ≤ n → n ≤ 24 → v ≡ strict_of (columns s (e + 1) end) → r ≡ global_of true n (2 + (e + 1 - at)) v → r ≡ global_line (columns s at end)
+    pub global_yes : (r : Said) (v : Option Value) → 3 ≤ n → n ≤ 24 → v ≡ strict_of (columns s (e + 1) end) → r ≡ global_of true n (2 + (e + 1 - at)) v → r ≡ global_line (columns s at end)
     global_yes r v l k p q =
         let g = field_in (columns s at e) n m l k in
         q ∙ named g.1 ∙ global_right (columns s at end) (tabbed ∙ g.0)
@@ -239,11 +238,11 @@ module _ (s : List ℕ) (at end : ℕ) (lo : at ≤ end) (le : end ≤ length s)
           unfolding by_mark
           mark-u x h p q = q ∙ rw (marked, h, p)
 
-          pub mark_reference : (x : Strict) → get_or s at 0 ≡ 82 → x ≡ strict_of (columns s (at + 2) end) → r ≡ value_of true x → r ≡ says_of (columns s at end)
+          pub mark_reference : (x : Option Value) → get_or s at 0 ≡ 82 → x ≡ strict_of (columns s (at + 2) end) → r ≡ value_of true x → r ≡ says_of (columns s at end)
           unfolding by_mark
           mark_reference x h p q = q ∙ rw (marked, h, p)
 
-          pub mark-value : (x : Strict) → get_or s at 0 ≡ 86 → x ≡ strict_of (columns s (at + 2) end) → r ≡ value_of false x → r ≡ says_of (columns s at end)
+          pub mark-value : (x : Option Value) → get_or s at 0 ≡ 86 → x ≡ strict_of (columns s (at + 2) end) → r ≡ value_of false x → r ≡ says_of (columns s at end)
           unfolding by_mark
           mark-value x h p q = q ∙ rw (marked, h, p)
 

@@ -15,8 +15,7 @@ use Rattle.columns.specs.Columns.{printable}
 use Rattle.columns.specs.Decimal.{dec}
 use Rattle.columns.proofs.Tests.{both, both_right}
 use Rattle.values.specs.declared.Value.{Value}
-use Rattle.values.specs.declared.Strict.{Strict}
-use Rattle.values.specs.declared.Strict.TheVariants.{Is, Not}
+use Rattle.std.specs.Prelude.{Option, Some, None}
 use Rattle.values.specs.Value.{Item, item_of, spelled, is_missing}
 use Rattle.values.specs.Strict.{strict_of}
 use Rattle.values.proofs.Digits.{dec-value}
@@ -286,7 +285,7 @@ global_told t = pick (strict_of v) refl
     v : List ℕ
     v = drop (suc (run 9 t)) t
 
-    good : (w : Value) → strict_of v ≡ Is w → is_numbered t && not (is_missing w) ≡ true → Well (global n (item_of v w)) × (71 ∷ (9 ∷ (dec n ++ (9 ∷ spelled (item_of v w)))) ≡ 71 ∷ (9 ∷ t))
+    good : (w : Value) → strict_of v ≡ Some w → is_numbered t && not (is_missing w) ≡ true → Well (global n (item_of v w)) × (71 ∷ (9 ∷ (dec n ++ (9 ∷ spelled (item_of v w)))) ≡ 71 ∷ (9 ∷ t))
     good w e g =
         let z = sound v e in
         let a = both (is_numbered t) (not (is_missing w)) g in
@@ -304,9 +303,9 @@ global_told t = pick (strict_of v) refl
         given true e = sym e
         given false e = refl
 
-    pick : (x : Strict) → strict_of v ≡ x → Told (71 ∷ (9 ∷ t)) (line_from (71 ∷ (9 ∷ t)) (global_of (is_numbered t) n (2 + suc (run 9 t)) x))
-    pick Not e = untold (71 ∷ (9 ∷ t)) false
-    pick (Is w) e =
+    pick : (x : Option Value) → strict_of v ≡ x → Told (71 ∷ (9 ∷ t)) (line_from (71 ∷ (9 ∷ t)) (global_of (is_numbered t) n (2 + suc (run 9 t)) x))
+    pick None e = untold (71 ∷ (9 ∷ t)) false
+    pick (Some w) e =
         told_if (is_numbered t && not (is_missing w)) (71 ∷ (9 ∷ t)) (Global n (2 + suc (run 9 t)) w) false
         (λ g. rw (skip (suc (run 9 t)) 71 9 t) (good w e g))
 
@@ -325,11 +324,11 @@ value-told : (reference : Bool) (m : ℕ) (t : List ℕ) → cond reference 82 8
 unfolding line_of
 value-told reference m t c = pick (strict_of t) refl
   where
-    pick : (x : Strict) → strict_of t ≡ x → Told (m ∷ (9 ∷ t)) (line_from (m ∷ (9 ∷ t)) (value_of reference x))
-    pick (Is w) e =
+    pick : (x : Option Value) → strict_of t ≡ x → Told (m ∷ (9 ∷ t)) (line_from (m ∷ (9 ∷ t)) (value_of reference x))
+    pick (Some w) e =
         let z = sound t e in
         told (w_value (record { fine = z.fine; printed = z.printed })) (rw (c, z.text))
-    pick Not e = untold (m ∷ (9 ∷ t)) true
+    pick None e = untold (m ∷ (9 ∷ t)) true
 
 last_told : (t : List ℕ) → is_plain t ≡ true → Told (90 ∷ (9 ∷ t)) (last (plain_of t))
 unfolding line_of

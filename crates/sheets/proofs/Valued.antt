@@ -12,8 +12,7 @@ use Rattle.columns.specs.Columns.{columns}
 use Rattle.columns.proofs.Columns.{byte_of}
 use Rattle.columns.proofs.Tests.{cond_cases, both_left, both_right, true_false}
 use Rattle.values.specs.declared.Value.{Value}
-use Rattle.values.specs.declared.Strict.{Strict}
-use Rattle.values.specs.declared.Strict.TheVariants.{Is, Not}
+use Rattle.std.specs.Prelude.{Option, Some, None}
 use Rattle.values.specs.Strict.{strict_of}
 use Rattle.values.specs.Value.{is_missing}
 use Rattle.sheets.specs.declared.EntryLine.{EntryLine}
@@ -71,9 +70,9 @@ says_value l h =
 
 -- ---- what no other line says
 
-no_global : (good : Bool) (n at : ℕ) (x : Strict) → NoValue (global_of good n at x)
-no_global good n at (Is v) = cond_cases NoValue (good && not (is_missing v)) (Global n at v) (Nothing false) (λ _. tt) (λ _. tt)
-no_global good n at Not = tt
+no_global : (good : Bool) (n at : ℕ) (x : Option Value) → NoValue (global_of good n at x)
+no_global good n at (Some v) = cond_cases NoValue (good && not (is_missing v)) (Global n at v) (Nothing false) (λ _. tt) (λ _. tt)
+no_global good n at None = tt
 
 no_globals : (t : List ℕ) → NoValue (global_line t)
 unfolding global_line
@@ -111,15 +110,15 @@ module _ (s : List ℕ) (at end : ℕ) (b : Bool) (eb : b ≡ is_value (columns 
           let k : ◌≡◌ {A = ℕ} 0 1 = cc in
           absurd (omega arith)
 
-  module _ (lo : at + 2 ≤ end) (e : b ≡ true) (x : Strict) (ex : x ≡ strict_of (columns s (at + 2) end)) where
+  module _ (lo : at + 2 ≤ end) (e : b ≡ true) (x : Option Value) (ex : x ≡ strict_of (columns s (at + 2) end)) where
     said : says_of (columns s at end) ≡ value_of (eqb (get_or s at 0) 82) x
     said =
         let z : at + 0 ≡ at = omega arith in
         let f : get_or (columns s at end) 0 0 ≡ get_or s at 0 = byte_of s at end 0 (omega arith) ∙ ap (λ (k : ℕ). get_or s k 0) z in
         says_value (columns s at end) (sym eb ∙ e) ∙ rw (f, columns-drop s at 2 end, ex)
 
-    pub value-given : (v : Value) → x ≡ Is v → says_of (columns s at end) ≡ Given (eqb (get_or s at 0) 82) v
+    pub value-given : (v : Value) → x ≡ Some v → says_of (columns s at end) ≡ Given (eqb (get_or s at 0) 82) v
     value-given v h = said ∙ rw h
 
-    pub value_not : x ≡ Not → says_of (columns s at end) ≡ Nothing true
+    pub value_not : x ≡ None → says_of (columns s at end) ≡ Nothing true
     value_not h = said ∙ rw h

@@ -1,14 +1,13 @@
 -- The sheet: lines that end in LF, fields parted by tabs. What a sheet carries, its spelling, and what its lines say.
 use Rattle.std.specs.Prelude.{Bool, true, false, cond, not, ◌&&◌, ◌||◌, List, [], ◌∷◌, ◌++◌, ℕ, suc, ◌+◌, ◌-◌}
-use Rattle.std.specs.Prelude.{◌*◌, length}
+use Rattle.std.specs.Prelude.{◌*◌, length, Option, Some, None}
 use Rattle.std.specs.Prelude.{get_or, take, drop, ltb, leb, eqb}
 use Rattle.columns.specs.declared.Signed.{Signed}
 use Rattle.columns.specs.Columns.{printable}
 use Rattle.columns.specs.Decimal.{dec}
 use Rattle.columns.specs.Format.{text_columns}
 use Rattle.columns.specs.Letters.{tab, newline, space, letter_e, letter_g, letter_r, letter_s, letter_u, letter_v, letter_z}
-use Rattle.values.specs.declared.Strict.{Strict}
-use Rattle.values.specs.declared.Strict.TheVariants.{Is, Not}
+use Rattle.values.specs.declared.Value.{Value}
 use Rattle.values.specs.Value.{Item, item_of, spelled, is_missing}
 use Rattle.values.specs.Strict.{strict_of}
 use Rattle.records.specs.Global.{first_field, last_field}
@@ -113,9 +112,9 @@ unfoldable pub start_line : List ℕ → Said
 start_line t = cond (is_start t) Start (Nothing false)
 
 -- a G value that is spelt, and no default
-abbrev pub global_of : Bool → ℕ → ℕ → Strict → Said
-global_of good n at Not = Nothing false
-global_of good n at (Is v) = cond (good && not (is_missing v)) (Global n at v) (Nothing false)
+abbrev pub global_of : Bool → ℕ → ℕ → Option Value → Said
+global_of good n at None = Nothing false
+global_of good n at (Some v) = cond (good && not (is_missing v)) (Global n at v) (Nothing false)
 
 -- a plain number from 3 to 24
 unfoldable pub is_field_number : List ℕ → Bool
@@ -135,9 +134,9 @@ entry_line_of (Got known n x) = Entry known n x
 entry_line_of Wrong = Nothing false
 
 -- a default, or a value
-abbrev pub value_of : Bool → Strict → Said
-value_of reference (Is v) = Given reference v
-value_of reference Not = Nothing true
+abbrev pub value_of : Bool → Option Value → Said
+value_of reference (Some v) = Given reference v
+value_of reference None = Nothing true
 
 -- Z, tab, the entry count
 unfoldable pub last_line : List ℕ → Said

@@ -15,7 +15,7 @@ use columns::format::{FIELD_COLUMNS, MOST_INTEGER, MOST_INTEGER_WIDE, TEXT_COLUM
 use columns::{Signed, look};
 use directory::{Fields, order};
 use sheets::{EntryLine, Said};
-use values::{Strict, Value, is_missing};
+use values::{Value, is_missing};
 
 // Where the line that starts at `at` ends: its LF, or the text's end.
 pub fn end_of(t: &[u8], at: usize) -> usize
@@ -142,7 +142,7 @@ fn start_line(s: &[u8], at: usize, end: usize) -> Said
 }
 
 // The value that stands from `at` up to `end`.
-pub fn strict_at(s: &[u8], at: usize, end: usize) -> Strict
+pub fn strict_at(s: &[u8], at: usize, end: usize) -> Option<Value>
     requires at_le_end { at ≤ end }
     requires end_in_bounds { end ≤ length s.now }
     ensures value { result ≡ strict_of (columns s.now at end) }
@@ -151,11 +151,11 @@ pub fn strict_at(s: &[u8], at: usize, end: usize) -> Strict
     values_strict::strict(&s[at..end])
 }
 
-fn global_of(n: u32, at: usize, v: Strict) -> Said
+fn global_of(n: u32, at: usize, v: Option<Value>) -> Said
     ensures { result ≡ global_of true n at v }
 {
     match v {
-        Strict::Is(value) => {
+        Some(value) => {
             if is_missing(value) {
                 return Said::Nothing(false);
             }
@@ -165,7 +165,7 @@ fn global_of(n: u32, at: usize, v: Strict) -> Said
                 value,
             }
         }
-        Strict::Not => Said::Nothing(false),
+        None => Said::Nothing(false),
     }
 }
 
@@ -202,12 +202,12 @@ fn entry_said(x: EntryLine) -> Said
     }
 }
 
-fn value_said(reference: bool, v: Strict) -> Said
+fn value_said(reference: bool, v: Option<Value>) -> Said
     ensures { result ≡ value_of reference v }
 {
     match v {
-        Strict::Is(value) => Said::Value { reference, value },
-        Strict::Not => Said::Nothing(true),
+        Some(value) => Said::Value { reference, value },
+        None => Said::Nothing(true),
     }
 }
 

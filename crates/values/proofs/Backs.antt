@@ -22,8 +22,7 @@ use Rattle.values.specs.declared.Head.{Head}
 use Rattle.values.specs.declared.Head.TheVariants.{Count, Plain}
 use Rattle.values.specs.declared.Value.{Value}
 use Rattle.values.specs.declared.Value.TheVariants.{Default, Whole, Real, Text}
-use Rattle.values.specs.declared.Strict.{Strict}
-use Rattle.values.specs.declared.Strict.TheVariants.{Is, Not}
+use Rattle.std.specs.Prelude.{Option, Some, None}
 use Rattle.values.specs.Number.{is_digit}
 use Rattle.values.specs.Head.{head_of}
 use Rattle.values.specs.Value.{head}
@@ -135,11 +134,11 @@ module _ (neg : Bool) (size : ℕ) where
     pub whole_fits : b ≡ true → size < 2 ^ 32
     whole_fits h = omega (arith, leb-true size 2147483647 (both_left (leb size 2147483647) _ (sym e ∙ h)))
 
-    pub whole_yes : b ≡ true → Is (Whole neg size) ≡ as_whole neg size
+    pub whole_yes : b ≡ true → Some (Whole neg size) ≡ as_whole neg size
     unfolding as_whole
     whole_yes h = rw (← e, h)
 
-    pub whole_no : b ≡ false → Not ≡ as_whole neg size
+    pub whole_no : b ≡ false → None ≡ as_whole neg size
     unfolding as_whole
     whole_no h = rw (← e, h)
 
@@ -148,11 +147,11 @@ module _ (neg : Bool) (m : ℕ) (eneg : Bool) (e : ℕ) where
     pub real_fits : b ≡ true → e < 2 ^ 32
     real_fits h = omega (arith, leb-true e 400 (both_left (leb e 400) _ (sym q ∙ h)))
 
-    pub real_yes : (double : Bool) → b ≡ true → Is (Real neg m eneg e double) ≡ as_real neg m eneg e double
+    pub real_yes : (double : Bool) → b ≡ true → Some (Real neg m eneg e double) ≡ as_real neg m eneg e double
     unfolding as_real
     real_yes double h = rw (← q, h)
 
-    pub real_no : (double : Bool) → b ≡ false → Not ≡ as_real neg m eneg e double
+    pub real_no : (double : Bool) → b ≡ false → None ≡ as_real neg m eneg e double
     unfolding as_real
     real_no double h = rw (← q, h)
 
@@ -173,20 +172,20 @@ module _ (l : List ℕ) (neg : Bool) (m : ℕ) (double : Bool) (i : ℕ) {b a : 
     unfolding behind_letter
     letter-is = rw (ex, ea, eb)
 
-    pub letter-none : x.end ≡ i + a → Not ≡ behind_letter l neg m double i
+    pub letter-none : x.end ≡ i + a → None ≡ behind_letter l neg m double i
     letter-none h = sym (letter-is ∙ rw (eq-eqb x.end (i + a) h))
 
-    pub letter-more : (x.end ≡ i + a → ⊥) → (x.end ≡ length l → ⊥) → Not ≡ behind_letter l neg m double i
+    pub letter-more : (x.end ≡ i + a → ⊥) → (x.end ≡ length l → ⊥) → None ≡ behind_letter l neg m double i
     letter-more h n = sym (letter-is ∙ rw (ne_eqb x.end (i + a) h, ne_eqb x.end (length l) n))
 
     module _ {c : Bool} (h : x.end ≡ i + a → ⊥) (z : x.end ≡ length l) (ec : c ≡ (double || ltb 0 x.value)) where
-      pub letter_real : {r : Strict} → c ≡ true → r ≡ as_real neg m (eqb b 45) x.value double → r ≡ behind_letter l neg m double i
+      pub letter_real : {r : Option Value} → c ≡ true → r ≡ as_real neg m (eqb b 45) x.value double → r ≡ behind_letter l neg m double i
       letter_real t q = q ∙ sym (letter-is ∙ rw (ne_eqb x.end (i + a) h, eq-eqb x.end (length l) z, ← ec, t))
 
-      pub letter_short : c ≡ false → Not ≡ behind_letter l neg m double i
+      pub letter_short : c ≡ false → None ≡ behind_letter l neg m double i
       letter_short t = sym (letter-is ∙ rw (ne_eqb x.end (i + a) h, eq-eqb x.end (length l) z, ← ec, t))
 
-module _ (l : List ℕ) (neg : Bool) (m i : ℕ) {r : Strict} where
+module _ (l : List ℕ) (neg : Bool) (m i : ℕ) {r : Option Value} where
   pub point-end : i ≡ length l → r ≡ as_real neg m false 0 false → r ≡ behind_point l neg m i
   unfolding behind_point
   point-end h q = q ∙ sym (rw (eq-eqb i (length l) h))
@@ -196,42 +195,42 @@ module _ (l : List ℕ) (neg : Bool) (m i : ℕ) {r : Strict} where
   point-letter h e t q = q ∙ sym (rw (ne_eqb i (length l) h, ← e, t))
 
 module _ (l : List ℕ) (neg : Bool) (m i : ℕ) where
-  pub point-other : {b : Bool} → (i ≡ length l → ⊥) → b ≡ (eqb (get_or l i 0) 69 || eqb (get_or l i 0) 68) → b ≡ false → Not ≡ behind_point l neg m i
+  pub point-other : {b : Bool} → (i ≡ length l → ⊥) → b ≡ (eqb (get_or l i 0) 69 || eqb (get_or l i 0) 68) → b ≡ false → None ≡ behind_point l neg m i
   unfolding behind_point
   point-other h e t = sym (rw (ne_eqb i (length l) h, ← e, t))
 
-  pub count-minus : neg ≡ true → Not ≡ behind_count l neg m i
+  pub count-minus : neg ≡ true → None ≡ behind_count l neg m i
   unfolding behind_count
   count-minus h = simp h
 
-  pub count-nought : neg ≡ false → m < 1 → Not ≡ behind_count l neg m i
+  pub count-nought : neg ≡ false → m < 1 → None ≡ behind_count l neg m i
   unfolding behind_count
   count-nought h a = simp (h, lt-leb 1 m a)
 
-  pub count-many : neg ≡ false → 1 ≤ m → 999 < m → Not ≡ behind_count l neg m i
+  pub count-many : neg ≡ false → 1 ≤ m → 999 < m → None ≡ behind_count l neg m i
   unfolding behind_count
   count-many h a b = simp (h, le-leb 1 m a, lt-leb m 999 b)
 
-  pub count-length : neg ≡ false → 1 ≤ m → m ≤ 999 → (i + m ≡ length l → ⊥) → Not ≡ behind_count l neg m i
+  pub count-length : neg ≡ false → 1 ≤ m → m ≤ 999 → (i + m ≡ length l → ⊥) → None ≡ behind_count l neg m i
   unfolding behind_count
   count-length h a b n = simp (h, le-leb 1 m a, le-leb m 999 b, ne_eqb (i + m) (length l) n)
 
   module _ {c : Bool} (h : neg ≡ false) (a : 1 ≤ m) (b : m ≤ 999) (z : i + m ≡ length l) (p : c ≡ printable (columns l i (length l))) where
-    count-is : behind_count l neg m i ≡ cond c (Is (Text i m)) Not
+    count-is : behind_count l neg m i ≡ cond c (Some (Text i m)) None
     unfolding behind_count
     count-is = simp (h, le-leb 1 m a, le-leb m 999 b, eq-eqb (i + m) (length l) z, p, columns_rest l i)
 
-    pub count_yes : c ≡ true → Is (Text i m) ≡ behind_count l neg m i
+    pub count_yes : c ≡ true → Some (Text i m) ≡ behind_count l neg m i
     count_yes t = sym (count-is ∙ rw t)
 
-    pub count_no : c ≡ false → Not ≡ behind_count l neg m i
+    pub count_no : c ≡ false → None ≡ behind_count l neg m i
     count_no t = sym (count-is ∙ rw t)
 
 pub ruleset behinds = (letter_in, letter-none, letter-more, letter_real, letter_short, point-end, point-letter, point-other, count-minus, count-nought, count-many, count-length, count_yes, count_no)
 
 -- ---- put together
 
-pub strict_none : (l : List ℕ) → length l ≡ 0 → Is Default ≡ strict_of l
+pub strict_none : (l : List ℕ) → length l ≡ 0 → Some Default ≡ strict_of l
 unfolding direct_of
 strict_none l h = sym (rw h) ∙ direct l
 
@@ -239,14 +238,14 @@ module _ (l : List ℕ) (s : length l ≡ 0 → ⊥) {a : ℕ} {x : Decimal} (ea
   abbrev neg : Bool
   neg = eqb (get_or l 0 0) 45
 
-  direct_is : direct_of l ≡ cond (eqb x.end a) Not (behind_digits l neg x.value x.end)
+  direct_is : direct_of l ≡ cond (eqb x.end a) None (behind_digits l neg x.value x.end)
   unfolding direct_of
   direct_is = rw (ex, ea, ne_eqb (length l) 0 s)
 
-  pub strict_bad : x.end ≡ a → Not ≡ strict_of l
+  pub strict_bad : x.end ≡ a → None ≡ strict_of l
   strict_bad h = sym (direct_is ∙ rw (eq-eqb x.end a h)) ∙ direct l
 
-  module _ (n : x.end ≡ a → ⊥) {r : Strict} where
+  module _ (n : x.end ≡ a → ⊥) {r : Option Value} where
     all : r ≡ behind_digits l neg x.value x.end → r ≡ strict_of l
     all q = q ∙ sym (direct_is ∙ rw (ne_eqb x.end a n)) ∙ direct l
 
@@ -262,19 +261,19 @@ module _ (l : List ℕ) (s : length l ≡ 0 → ⊥) {a : ℕ} {x : Decimal} (ea
     unfolding behind_digits
     strict_count h d c q = all (q ∙ sym (rw (ne_eqb x.end (length l) h, c)))
 
-  pub strict_other : (x.end ≡ a → ⊥) → (x.end ≡ length l → ⊥) → (get_or l x.end 0 ≡ 46 → ⊥) → (get_or l x.end 0 ≡ 72 → ⊥) → Not ≡ strict_of l
+  pub strict_other : (x.end ≡ a → ⊥) → (x.end ≡ length l → ⊥) → (get_or l x.end 0 ≡ 46 → ⊥) → (get_or l x.end 0 ≡ 72 → ⊥) → None ≡ strict_of l
   unfolding behind_digits
   strict_other n h d c = all n (sym (rw (ne_eqb x.end (length l) h, ne_eqb (get_or l x.end 0) 46 d, ne_eqb (get_or l x.end 0) 72 c)))
 
 placed-spelt : (l : List ℕ) (m : ℕ) (v : Value) → Inside m v → Placed m (spelt l v)
 placed-spelt l m v h = pick (same_bytes _ l)
   where
-    pick : (b : Bool) → Placed m (cond b (Is v) Not)
+    pick : (b : Bool) → Placed m (cond b (Some v) None)
     pick true = h
     pick false = tt
 
 -- a number has no place
-pub placed-numeral : (l : List ℕ) (m : ℕ) (x : Number) {r : Strict} → r ≡ numeral l x → Placed m r
+pub placed-numeral : (l : List ℕ) (m : ℕ) (x : Number) {r : Option Value} → r ≡ numeral l x → Placed m r
 placed-numeral l m x e = rw e (pick x)
   where
     pick : (x : Number) → Placed m (numeral l x)
@@ -292,7 +291,7 @@ strict_inside (b ∷ bs) = by-head (head_of (b ∷ bs))
     l : List ℕ
     l = b ∷ bs
 
-    by-string : (count len : ℕ) (a c : Bool) → eqb (len + count) (length l) ≡ a → Placed (length l) (cond (a && c) (Is (Text len count)) Not)
+    by-string : (count len : ℕ) (a c : Bool) → eqb (len + count) (length l) ≡ a → Placed (length l) (cond (a && c) (Some (Text len count)) None)
     by-string count len true true e = let k : len + count ≡ length l = eqb-true (len + count) (length l) e in omega arith
     by-string count len true false e = tt
     by-string count len false c e = tt
@@ -301,7 +300,7 @@ strict_inside (b ∷ bs) = by-head (head_of (b ∷ bs))
     by-head (Count count len) = by-string count len (eqb (len + count) (length l)) (eqb len (length (head count)) && printable (drop len l)) refl
     by-head (Plain k) = placed-numeral l (length l) k.number refl
 
-pub strict_placed : (l : List ℕ) {r : Strict} → r ≡ strict_of l → Placed (length l) r
+pub strict_placed : (l : List ℕ) {r : Option Value} → r ≡ strict_of l → Placed (length l) r
 strict_placed l e = rw e (strict_inside l)
 
 pub ruleset backs = (strict_none, strict_bad, strict_whole, strict_point, strict_count, strict_other, strict_placed)

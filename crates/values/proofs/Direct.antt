@@ -15,9 +15,9 @@ use Rattle.columns.specs.Decimal.{dec, minus}
 use Rattle.columns.proofs.Decimals.{dec_some}
 use Rattle.columns.proofs.Tests.{both_left, both_right}
 use Rattle.values.specs.declared.Decimal.{Decimal}
+use Rattle.values.specs.declared.Value.{Value}
 use Rattle.values.specs.declared.Value.TheVariants.{Whole, Real, Text}
-use Rattle.values.specs.declared.Strict.{Strict}
-use Rattle.values.specs.declared.Strict.TheVariants.{Is, Not}
+use Rattle.std.specs.Prelude.{Option, Some, None}
 use Rattle.values.specs.Number.{is_digit}
 use Rattle.values.specs.Value.{Item, whole, real, text, letter, ten_to, exponent, head, spelled, item_of, Normal, nought, times, over, Fine, fine_default, fine_whole, fine_real, fine_text, Printed}
 use Rattle.values.specs.Strict.{strict_of}
@@ -69,9 +69,9 @@ limits_normal (over neg m e n l o k) = simp (le-leb e 400 k, ne_eqb (m % 10) 0 n
 -- ---- what is read straight is read back
 
 -- if it is read straight
-abbrev If : List ℕ → Strict → Type 0
-If l (Is v) = strict_of l ≡ Is v
-If l Not = Unit {0}
+abbrev If : List ℕ → Option Value → Type 0
+If l (Some v) = strict_of l ≡ Some v
+If l None = Unit {0}
 
 spelled_whole : (neg : Bool) (size : ℕ) → minus neg ++ dec size ≡ spelled (whole neg size)
 unfolding spelled
@@ -104,7 +104,7 @@ module _ (l : List ℕ) (neg : Bool) where
   unfolding as_whole
   if_whole size e = pick (is_whole neg size) refl
     where
-      pick : (b : Bool) → is_whole neg size ≡ b → If l (cond b (Is (Whole neg size)) Not)
+      pick : (b : Bool) → is_whole neg size ≡ b → If l (cond b (Some (Whole neg size)) None)
       pick true h = let f = whole_limits neg size h in ap strict_of (e ∙ spelled_whole neg size) ∙ complete (fine_whole neg size f.0 f.1) tt
       pick false h = tt
 
@@ -112,7 +112,7 @@ module _ (l : List ℕ) (neg : Bool) where
   unfolding as_real
   if_real m eneg e double h q = pick (is_normal neg m eneg e) refl
     where
-      pick : (b : Bool) → is_normal neg m eneg e ≡ b → If l (cond b (Is (Real neg m eneg e double)) Not)
+      pick : (b : Bool) → is_normal neg m eneg e ≡ b → If l (cond b (Some (Real neg m eneg e double)) None)
       pick true n = ap strict_of (q ∙ spelled_real neg m eneg e double) ∙ complete (fine_real (normal_limits neg m eneg e h n) double) tt
       pick false n = tt
 
@@ -134,7 +134,7 @@ module _ (l : List ℕ) (neg : Bool) where
       long n z = minus-at l i ∙ ap (λ (y : List ℕ). minus eneg ++ y) (decimal-spelt l k n ∙ ap (λ (y : List ℕ). dec x.value ++ y) (none_left l x.end z) ∙ append-nil _)
 
       pick : (a : Bool) → eqb x.end k ≡ a → (b : Bool) → eqb x.end (length l) ≡ b → (c : Bool) → (double || ltb 0 x.value) ≡ c
-          → If l (cond a Not (cond (b && c) (as_real neg m eneg x.value double) Not))
+          → If l (cond a None (cond (b && c) (as_real neg m eneg x.value double) None))
       pick true ea b eb c ec = tt
       pick false ea true eb true ec =
           if_real m eneg x.value double h (q ∙ ap (λ (y : List ℕ). minus neg ++ (dec m ++ (46 ∷ (letter double ∷ y)))) (long (eqb-false x.end k ea) (eqb-true x.end (length l) eb)) ∙ rw ec)
@@ -152,11 +152,11 @@ module _ (l : List ℕ) (neg : Bool) where
       on double e z = q ∙ ap (λ (y : List ℕ). minus neg ++ (dec m ++ (46 ∷ y))) (drop-cons l i 0 (inside l i z) ∙ rw (e, add-one))
 
       pick : (a : Bool) → eqb i (length l) ≡ a → (b : Bool) → eqb c 69 ≡ b → (d : Bool) → eqb c 68 ≡ d
-          → If l (cond a (as_real neg m false 0 false) (cond (b || d) (behind_letter l neg m d (i + 1)) Not))
+          → If l (cond a (as_real neg m false 0 false) (cond (b || d) (behind_letter l neg m d (i + 1)) None))
       pick true ea b eb d ed = if_real m false 0 false h (q ∙ ap (λ (y : List ℕ). minus neg ++ (dec m ++ (46 ∷ y))) (none_left l i (eqb-true i (length l) ea)))
       pick false ea b eb true ed = rw_or b (if_letter m true (i + 1) h (on true (eqb-true c 68 ed) (omega (arith, eqb-true c 68 ed))))
         where
-          rw_or : (b : Bool) → If l (behind_letter l neg m true (i + 1)) → If l (cond (b || true) (behind_letter l neg m true (i + 1)) Not)
+          rw_or : (b : Bool) → If l (behind_letter l neg m true (i + 1)) → If l (cond (b || true) (behind_letter l neg m true (i + 1)) None)
           rw_or true f = f
           rw_or false f = f
       pick false ea true eb false ed = if_letter m false (i + 1) h (on false (eqb-true c 69 eb) (omega (arith, eqb-true c 69 eb)))
@@ -169,7 +169,7 @@ module _ (l : List ℕ) (neg : Bool) where
       bs : List ℕ
       bs = drop i l
 
-      back : neg ≡ false → 1 ≤ count → count ≤ 999 → i + count ≡ length l → printable bs ≡ true → strict_of l ≡ Is (Text i count)
+      back : neg ≡ false → 1 ≤ count → count ≤ 999 → i + count ≡ length l → printable bs ≡ true → strict_of l ≡ Some (Text i count)
       back n a b z p =
           let m : length bs ≡ count = length-drop i l ∙ omega arith in
           let s : l ≡ head count ++ bs = q ∙ rw n (sym (append_assoc (dec count) (72 ∷ []) bs)) in
@@ -177,7 +177,7 @@ module _ (l : List ℕ) (neg : Bool) where
           ap strict_of (s ∙ ap (λ (y : ℕ). head y ++ bs) (sym m) ∙ spelled-text bs) ∙ complete (fine_text bs (omega arith) (omega arith)) p ∙ rw (m, k)
 
       pick : (a : Bool) → neg ≡ a → (b : Bool) → leb 1 count ≡ b → (c : Bool) → leb count 999 ≡ c → (d : Bool) → eqb (i + count) (length l) ≡ d → (e : Bool) → printable bs ≡ e
-          → If l (cond (not a && (b && (c && (d && e)))) (Is (Text i count)) Not)
+          → If l (cond (not a && (b && (c && (d && e)))) (Some (Text i count)) None)
       pick false n true b true c true d true e = back n (leb-true 1 count b) (leb-true count 999 c) (eqb-true (i + count) (length l) d) e
       pick false n true b true c true d false e = tt
       pick false n true b true c false d f e = tt
@@ -196,7 +196,7 @@ module _ (l : List ℕ) (neg : Bool) where
       on d e z = q ∙ ap (λ (y : List ℕ). minus neg ++ (dec v ++ y)) (drop-cons l i 0 (inside l i (omega arith)) ∙ rw (e, add-one))
 
       pick : (a : Bool) → eqb i (length l) ≡ a → (b : Bool) → eqb c 46 ≡ b → (d : Bool) → eqb c 72 ≡ d
-          → If l (cond a (as_whole neg v) (cond b (behind_point l neg v (i + 1)) (cond d (behind_count l neg v (i + 1)) Not)))
+          → If l (cond a (as_whole neg v) (cond b (behind_point l neg v (i + 1)) (cond d (behind_count l neg v (i + 1)) None)))
       pick true ea b eb d ed = if_whole v (q ∙ ap (λ (y : List ℕ). minus neg ++ (dec v ++ y)) (none_left l i (eqb-true i (length l) ea)) ∙ ap (λ (y : List ℕ). minus neg ++ y) (append-nil (dec v)))
       pick false ea true eb d ed = if_point v (i + 1) h (on 46 (eqb-true c 46 eb) (omega arith))
       pick false ea false eb true ed = if_count v (i + 1) (on 72 (eqb-true c 72 ed) (omega arith))
@@ -219,7 +219,7 @@ if_direct (b ∷ bs) = rw (ne_eqb (length (b ∷ bs)) 0 (omega arith)) (pick (eq
     x : Decimal
     x = decimal (drop a l) a
 
-    pick : (c : Bool) → eqb x.end a ≡ c → If l (cond c Not (behind_digits l neg x.value x.end))
+    pick : (c : Bool) → eqb x.end a ≡ c → If l (cond c None (behind_digits l neg x.value x.end))
     pick true e = tt
     pick false e =
         if_digits l neg x.value x.end (decimal-below (drop a l) a)
@@ -250,7 +250,7 @@ module _ (l : List ℕ) where
   behind : (neg : Bool) (m : ℕ) (q : List ℕ) → l ≡ minus neg ++ (dec m ++ q) → drop (length (minus neg) + length (dec m)) l ≡ q
   behind neg m q e = next l (length (minus neg)) (dec m) q (rw zero-add at (next l 0 (minus neg) (dec m ++ q) e))
 
-  back_whole : (neg : Bool) (size : ℕ) → l ≡ minus neg ++ dec size → size ≤ 2147483647 → (size ≡ 0 → neg ≡ false) → direct_of l ≡ Is (Whole neg size)
+  back_whole : (neg : Bool) (size : ℕ) → l ≡ minus neg ++ dec size → size ≤ 2147483647 → (size ≡ 0 → neg ≡ false) → direct_of l ≡ Some (Whole neg size)
   unfolding behind_digits as_whole
   back_whole neg size e h z =
       let e2 : l ≡ minus neg ++ (dec size ++ []) = e ∙ ap (λ (y : List ℕ). minus neg ++ y) (sym (append-nil (dec size))) in
@@ -284,7 +284,7 @@ module _ (l : List ℕ) where
       rw (s.0, d3, decimal-read e k [] (omega arith) refl) (simp (ne_eqb (k + length (dec e)) k (omega (arith, dec_some e)), eq-eqb (k + length (dec e)) (length l) z, t))
 
   module _ {neg : Bool} {m : ℕ} {eneg : Bool} {e : ℕ} (ok : Normal neg m eneg e) where
-    back_long : (double : Bool) → (double || ltb 0 e) ≡ true → l ≡ minus neg ++ (dec m ++ (46 ∷ ten_to eneg e double)) → direct_of l ≡ Is (Real neg m eneg e double)
+    back_long : (double : Bool) → (double || ltb 0 e) ≡ true → l ≡ minus neg ++ (dec m ++ (46 ∷ ten_to eneg e double)) → direct_of l ≡ Some (Real neg m eneg e double)
     unfolding behind_point as_real
     back_long double t q =
         let i = length (minus neg) + length (dec m) + 1 in
@@ -293,32 +293,32 @@ module _ (l : List ℕ) where
         let r = direct_letter neg m eneg e double (i + 1) (next l i (letter double ∷ []) y p.1) (sizes ok).1 t in
         p.0 ∙ rw (some_left i (letter double) y p.1, here l i (letter double ∷ y) p.1) (pick double i (r ∙ rw (limits_normal ok)))
       where
-        pick : (double : Bool) (i : ℕ) {r : Strict} → behind_letter l neg m double (i + 1) ≡ r
-            → cond (eqb (letter double) 69 || eqb (letter double) 68) (behind_letter l neg m (eqb (letter double) 68) (i + 1)) Not ≡ r
+        pick : (double : Bool) (i : ℕ) {r : Option Value} → behind_letter l neg m double (i + 1) ≡ r
+            → cond (eqb (letter double) 69 || eqb (letter double) 68) (behind_letter l neg m (eqb (letter double) 68) (i + 1)) None ≡ r
         pick true i e = e
         pick false i e = e
 
-    back_short : e ≡ 0 → l ≡ minus neg ++ (dec m ++ (46 ∷ [])) → direct_of l ≡ Is (Real neg m eneg e false)
+    back_short : e ≡ 0 → l ≡ minus neg ++ (dec m ++ (46 ∷ [])) → direct_of l ≡ Some (Real neg m eneg e false)
     unfolding behind_point as_real
     back_short z q =
         let i = length (minus neg) + length (dec m) + 1 in
         let p = direct_point neg m [] q (sizes ok).0 i refl in
         p.0 ∙ rw (none_end i p.2 p.1) (none ok z)
       where
-        none : {neg : Bool} {m : ℕ} {eneg : Bool} {e : ℕ} → Normal neg m eneg e → e ≡ 0 → cond (is_normal neg m false 0) (Is (Real neg m false 0 false)) Not ≡ Is (Real neg m eneg e false)
+        none : {neg : Bool} {m : ℕ} {eneg : Bool} {e : ℕ} → Normal neg m eneg e → e ≡ 0 → cond (is_normal neg m false 0) (Some (Real neg m false 0 false)) None ≡ Some (Real neg m eneg e false)
         none nought z = refl
         none (times neg m e n h k) z = rw (z, limits_normal (times neg m 0 n h (omega arith)))
         none (over neg m e n h o k) z = absurd (omega arith)
 
-  back_real : {neg : Bool} {m : ℕ} {eneg : Bool} {e : ℕ} → Normal neg m eneg e → (double : Bool) → l ≡ minus neg ++ (dec m ++ (46 ∷ exponent eneg e double)) → direct_of l ≡ Is (Real neg m eneg e double)
+  back_real : {neg : Bool} {m : ℕ} {eneg : Bool} {e : ℕ} → Normal neg m eneg e → (double : Bool) → l ≡ minus neg ++ (dec m ++ (46 ∷ exponent eneg e double)) → direct_of l ≡ Some (Real neg m eneg e double)
   back_real {neg} {m} {eneg} {e} ok double q = pick double (ltb 0 e) refl q
     where
-      pick : (double b : Bool) → ltb 0 e ≡ b → l ≡ minus neg ++ (dec m ++ (46 ∷ cond (double || b) (ten_to eneg e double) [])) → direct_of l ≡ Is (Real neg m eneg e double)
+      pick : (double b : Bool) → ltb 0 e ≡ b → l ≡ minus neg ++ (dec m ++ (46 ∷ cond (double || b) (ten_to eneg e double) [])) → direct_of l ≡ Some (Real neg m eneg e double)
       pick true b h q = back_long ok true refl q
       pick false true h q = back_long ok false h q
       pick false false h q = back_short ok (omega (arith, ltb-false 0 e h)) q
 
-  back_text : (bs : List ℕ) → 1 ≤ length bs → length bs ≤ 999 → printable bs ≡ true → l ≡ head (length bs) ++ bs → direct_of l ≡ Is (Text (length (head (length bs))) (length bs))
+  back_text : (bs : List ℕ) → 1 ≤ length bs → length bs ≤ 999 → printable bs ≡ true → l ≡ head (length bs) ++ bs → direct_of l ≡ Some (Text (length (head (length bs))) (length bs))
   unfolding behind_digits behind_count
   back_text bs a b p q =
       let n = length bs in
@@ -329,10 +329,10 @@ module _ (l : List ℕ) where
       let k : 0 + j + 1 ≡ length (dec n ++ (72 ∷ [])) = rw zero-add (sym (length-append (dec n) (72 ∷ []))) in
       let z : 0 + j + 1 + n ≡ length l = omega (arith, length-drop (0 + j) l, ap (λ (y : List ℕ). length y) d) in
       direct_digits false n (72 ∷ bs) e refl (omega arith)
-      ∙ rw (some_left (0 + j) 72 bs d, here l (0 + j) (72 ∷ bs) d) (simp (le-leb 1 n a, le-leb n 999 b, eq-eqb (0 + j + 1 + n) (length l) z, r, p) (ap (λ (y : ℕ). Is (Text y n)) k))
+      ∙ rw (some_left (0 + j) 72 bs d, here l (0 + j) (72 ∷ bs) d) (simp (le-leb 1 n a, le-leb n 999 b, eq-eqb (0 + j + 1 + n) (length l) z, r, p) (ap (λ (y : ℕ). Some (Text y n)) k))
 
 -- each value that a record can hold and a line can show is read straight from its spelling
-back_direct : {v : Item} → Fine v → Printed v → direct_of (spelled v) ≡ Is (placed v)
+back_direct : {v : Item} → Fine v → Printed v → direct_of (spelled v) ≡ Some (placed v)
 unfolding spelled direct_of
 back_direct fine_default p = refl
 back_direct (fine_whole neg size h z) p = back_whole (minus neg ++ dec size) neg size refl h z
@@ -345,14 +345,14 @@ back_direct (fine_text bs l h) p = back_text (head (length bs) ++ bs) bs l h p r
 pub direct : (l : List ℕ) → direct_of l ≡ strict_of l
 direct l = pick (direct_of l) refl (strict_of l) refl (if_direct l)
   where
-    is_some : Strict → Bool
-    is_some (Is v) = true
-    is_some Not = false
+    is_some : Option Value → Bool
+    is_some (Some v) = true
+    is_some None = false
 
-    pick : (r : Strict) → direct_of l ≡ r → (s : Strict) → strict_of l ≡ s → If l r → r ≡ s
-    pick (Is v) er s es i = sym i ∙ es
-    pick Not er Not es i = refl
-    pick Not er (Is v) es i =
+    pick : (r : Option Value) → direct_of l ≡ r → (s : Option Value) → strict_of l ≡ s → If l r → r ≡ s
+    pick (Some v) er s es i = sym i ∙ es
+    pick None er None es i = refl
+    pick None er (Some v) es i =
         let w = sound l es in
-        let t : direct_of l ≡ Is (placed (item_of l v)) = ap direct_of (sym w.text) ∙ back_direct w.fine w.printed in
+        let t : direct_of l ≡ Some (placed (item_of l v)) = ap direct_of (sym w.text) ∙ back_direct w.fine w.printed in
         absurd (true≢false (ap is_some (sym t ∙ er)))

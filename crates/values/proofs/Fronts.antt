@@ -11,7 +11,7 @@ use Rattle.columns.specs.Decimal.{dec, minus}
 use Rattle.columns.proofs.Decimals.{dec_some, length_dec_le}
 use Rattle.values.specs.declared.Value.{Value}
 use Rattle.values.specs.declared.Value.TheVariants.{Default, Whole, Real, Text}
-use Rattle.values.specs.declared.Strict.TheVariants.{Is}
+use Rattle.std.specs.Prelude.{Some}
 use Rattle.values.specs.Value.{text, letter, ten_to, exponent, head, spelled, Fine, fine_text}
 use Rattle.values.specs.Strict.{strict_of, meant}
 use Rattle.values.specs.Writing.{front, Inside}
@@ -20,7 +20,7 @@ use Rattle.values.proofs.OneSpelling.{Spelt, sound}
 use Rattle.values.proofs.Backs.{strict_inside}
 
 -- the value that was read back is what the text spells
-pub meant_is : (l : List ℕ) {v : Value} → strict_of l ≡ Is v → meant l ≡ v
+pub meant_is : (l : List ℕ) {v : Value} → strict_of l ≡ Some v → meant l ≡ v
 unfolding meant
 meant_is l e = rw e
 
@@ -109,7 +109,7 @@ fronted l (Text start count) s i =
 
 -- ---- as it is looked for
 
-module _ (l : List ℕ) (s : strict_of l ≡ Is (meant l)) where
+module _ (l : List ℕ) (s : strict_of l ≡ Some (meant l)) where
   at_front : Fronted l (length (front (meant l)))
   at_front = fronted l (meant l) (sound l s) (rw s at (strict_inside l))
 

@@ -21,8 +21,7 @@ use Rattle.values.specs.declared.Head.{Head}
 use Rattle.values.specs.declared.Head.TheVariants.{Count, Plain}
 use Rattle.values.specs.declared.Value.{Value}
 use Rattle.values.specs.declared.Value.TheVariants.{Default, Whole, Real, Text}
-use Rattle.values.specs.declared.Strict.{Strict}
-use Rattle.values.specs.declared.Strict.TheVariants.{Is, Not}
+use Rattle.std.specs.Prelude.{Option, Some, None}
 use Rattle.values.specs.Number.{digits, value, number_of}
 use Rattle.values.specs.Head.{head_of}
 use Rattle.values.specs.Value.{Item, default, whole, real, text, item_of, is_default, is_missing, head, spelled, Fine, fine_default, fine_whole, fine_real, fine_text, Printed}
@@ -60,9 +59,9 @@ pub record Spelt (l : List ℕ) (v : Value) : Type 0 where
   pub fine : Fine (item_of l v)
   pub printed : Printed (item_of l v)
 
-abbrev SpeltIf : List ℕ → Strict → Type 0
-SpeltIf l (Is v) = Spelt l v
-SpeltIf l Not = Unit {0}
+abbrev SpeltIf : List ℕ → Option Value → Type 0
+SpeltIf l (Some v) = Spelt l v
+SpeltIf l None = Unit {0}
 
 -- a count with no zero before it is spelt plainly
 head_plain : (l : List ℕ) (count len : ℕ) → HeadIs l (Count count len) → len ≡ length (head count) → head count ++ drop len l ≡ l
@@ -90,7 +89,7 @@ spelt-text l count len h a z p =
 spelt-string : (l : List ℕ) (count len : ℕ) → HeadIs l (Count count len) → SpeltIf l (string l count len)
 spelt-string l count len h = pick (eqb (len + count) (length l)) (eqb len (length (head count))) (printable (drop len l)) refl refl refl
   where
-    pick : (a b c : Bool) → eqb (len + count) (length l) ≡ a → eqb len (length (head count)) ≡ b → printable (drop len l) ≡ c → SpeltIf l (cond (a && (b && c)) (Is (Text len count)) Not)
+    pick : (a b c : Bool) → eqb (len + count) (length l) ≡ a → eqb len (length (head count)) ≡ b → printable (drop len l) ≡ c → SpeltIf l (cond (a && (b && c)) (Some (Text len count)) None)
     pick true true true d e f = spelt-text l count len h (eqb-true (len + count) (length l) d) (eqb-true len (length (head count)) e) f
     pick true true false d e f = tt
     pick true false c d e f = tt
@@ -99,12 +98,12 @@ spelt-string l count len h = pick (eqb (len + count) (length l)) (eqb len (lengt
 spelt-numeral : (l : List ℕ) (k : Number) → (number_of l).number ≡ k → SpeltIf l (numeral l k)
 spelt-numeral l (WholeOf neg size) e = pick (same_bytes (spelled (whole neg size)) l) refl
   where
-    pick : (b : Bool) → same_bytes (spelled (whole neg size)) l ≡ b → SpeltIf l (cond b (Is (Whole neg size)) Not)
+    pick : (b : Bool) → same_bytes (spelled (whole neg size)) l ≡ b → SpeltIf l (cond b (Some (Whole neg size)) None)
     pick true h = record { text = same_eq (spelled (whole neg size)) l h; fine = read_fine l e is_whole; printed = tt }
     pick false h = tt
 spelt-numeral l (RealOf neg m eneg x double) e = pick (same_bytes (spelled (real neg m eneg x double)) l) refl
   where
-    pick : (b : Bool) → same_bytes (spelled (real neg m eneg x double)) l ≡ b → SpeltIf l (cond b (Is (Real neg m eneg x double)) Not)
+    pick : (b : Bool) → same_bytes (spelled (real neg m eneg x double)) l ≡ b → SpeltIf l (cond b (Some (Real neg m eneg x double)) None)
     pick true h = record { text = same_eq (spelled (real neg m eneg x double)) l h; fine = read_fine l e is_real; printed = tt }
     pick false h = tt
 spelt-numeral l Beyond e = tt
@@ -120,11 +119,11 @@ spelt_if [] = record { text = refl; fine = fine_default; printed = tt }
 spelt_if (b ∷ bs) = spelt-head (b ∷ bs) (head_of (b ∷ bs)) (head-is (b ∷ bs))
 
 -- what is read back has this text for its spelling
-pub sound : (l : List ℕ) {v : Value} → strict_of l ≡ Is v → Spelt l v
+pub sound : (l : List ℕ) {v : Value} → strict_of l ≡ Some v → Spelt l v
 sound l e = rw e at (spelt_if l)
 
 -- so it is short
-pub strict_short : (l : List ℕ) {v : Value} → strict_of l ≡ Is v → length l ≤ 1003
+pub strict_short : (l : List ℕ) {v : Value} → strict_of l ≡ Some v → length l ≤ 1003
 strict_short l e = omega (arith, ap length (sound l e).text, spelled_short (sound l e).fine)
 
 -- ---- what is spelt so is read back
@@ -172,7 +171,7 @@ by-head l e s = strict_some l s ∙ ap (by_head l) e
 number_back : {v : Item} {k : Number} → Numeral v k → Fine v → strict_of (spelled v) ≡ numeral (spelled v) k
 number_back {v} {k} n f = by-head (spelled v) (rw append-nil at ((round n f).head [] refl)) (number_some n)
 
-text_back : (bs : List ℕ) → 1 ≤ length bs → length bs ≤ 999 → printable bs ≡ true → strict_of (spelled (text bs)) ≡ Is (placed (text bs))
+text_back : (bs : List ℕ) → 1 ≤ length bs → length bs ≤ 999 → printable bs ≡ true → strict_of (spelled (text bs)) ≡ Some (placed (text bs))
 unfolding spelled
 text_back bs l h p =
     let s = head (length bs) in
@@ -181,18 +180,18 @@ text_back bs l h p =
     let d : drop (length s) (s ++ bs) ≡ bs = drop-append_seam s bs in
     by-head (s ++ bs) e (λ z. omega arith) ∙ rw d (simp (eq-eqb (length s + length bs) (length (s ++ bs)) n, eq-eqb (length s) (length s) refl, p))
 
-default_back : strict_of (spelled default) ≡ Is Default
+default_back : strict_of (spelled default) ≡ Some Default
 unfolding strict_of spelled
 default_back = refl
 
 -- each value that a record can hold and a line can show is read back from its spelling
-pub complete : {v : Item} → Fine v → Printed v → strict_of (spelled v) ≡ Is (placed v)
+pub complete : {v : Item} → Fine v → Printed v → strict_of (spelled v) ≡ Some (placed v)
 complete fine_default p = default_back
 complete (fine_whole neg size h z) p = number_back is_whole (fine_whole neg size h z) ∙ rw (same_self (spelled (whole neg size)))
 complete (fine_real {neg} {m} {eneg} {e} ok double) p = number_back is_real (fine_real ok double) ∙ rw (same_self (spelled (real neg m eneg e double)))
 complete (fine_text bs l h) p = text_back bs l h p
 
-same_value : {v w : Value} → Is v ≡ Is w → v ≡ w
+same_value : {v w : Value} → Some v ≡ Some w → v ≡ w
 same_value e = cc
 
 -- no two of them have one spelling

@@ -1,9 +1,7 @@
 -- The code's form: how the code goes about a spelling: a string's characters are copied from where they stand, everything else is spelt.
-use Rattle.std.specs.Prelude.{List, [], ℕ, ◌+◌, ◌≤◌, take, drop}
+use Rattle.std.specs.Prelude.{List, [], ℕ, ◌+◌, ◌≤◌, take, drop, Option, Some, None}
 use Rattle.values.specs.declared.Value.{Value}
 use Rattle.values.specs.declared.Value.TheVariants.{Default, Whole, Real, Text}
-use Rattle.values.specs.declared.Strict.{Strict}
-use Rattle.values.specs.declared.Strict.TheVariants.{Is, Not}
 use Rattle.values.specs.Value.{default, whole, real, head, spelled}
 
 -- what stands before a string's characters; of any other value all of its spelling
@@ -28,6 +26,6 @@ Inside n (Real neg m eneg e double) = Unit {0}
 Inside n (Text start count) = start + count ≤ n
 
 -- the same of a text that was read back
-abbrev pub Placed : ℕ → Strict → Type 0
-Placed n (Is v) = Inside n v
-Placed n Not = Unit {0}
+abbrev pub Placed : ℕ → Option Value → Type 0
+Placed n (Some v) = Inside n v
+Placed n None = Unit {0}

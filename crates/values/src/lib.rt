@@ -59,13 +59,6 @@ pub enum Head {
     Plain(Token),
 }
 
-// A text as the value that has this spelling, if there is one. A string is where its characters stand in that text.
-#[derive(Clone, Copy)]
-pub enum Strict {
-    Is(Value),
-    Not,
-}
-
 // An exponent: none, a wrong one with the first place that cannot continue it, or ten to up less down.
 #[derive(Clone, Copy)]
 pub enum Power {

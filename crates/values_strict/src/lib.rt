@@ -1,10 +1,9 @@
 // A value's one spelling read back, and no other: straight from the text, by what stands behind its sign and its digits.
 #![tactic(auto)]
 
-ghost use Rattle.std.specs.Prelude.{◌≡◌, ◌||◌, ◌+◌, ◌≤◌, ◌<◌, min, length, drop, ltb, eqb};
+ghost use Rattle.std.specs.Prelude.{◌≡◌, ◌||◌, ◌+◌, ◌≤◌, ◌<◌, min, length, drop, ltb, eqb, Some};
 ghost use Rattle.columns.specs.Decimal.{minus};
 ghost use Rattle.columns.specs.Letters.{letter_d, letter_e};
-ghost use Rattle.values.specs.declared.Strict.TheVariants.{Is};
 ghost use Rattle.values.specs.Strict.{strict_of, meant};
 ghost use Rattle.values.specs.Writing.{front, Placed};
 ghost use Rattle.values.specs.Direct.{decimal, is_whole, is_nought, is_normal, as_whole, as_real, behind_letter, behind_point};
@@ -12,7 +11,7 @@ ghost use Rattle.values.specs.Direct.{behind_count};
 
 use columns::format::MOST_INTEGER_WIDE;
 use columns::look;
-use values::{Decimal, Strict, Value};
+use values::{Decimal, Value};
 
 // Where digits are read to: a number has seventeen at most, and the text ends at n.
 fn stop_of(n: usize, at: usize) -> usize
@@ -76,16 +75,13 @@ fn is_whole(neg: bool, size: u64) -> bool
 
 // An integer that ends with the text.
 #[tactic(auto, using(values::proofs::Backs::limits))]
-fn as_whole(neg: bool, size: u64) -> Strict
+fn as_whole(neg: bool, size: u64) -> Option<Value>
     ensures { result ≡ as_whole neg size }
 {
-    if is_whole(neg, size) {
-        return Strict::Is(Value::Whole {
-            neg,
-            size: size as u32,
-        });
-    }
-    Strict::Not
+    is_whole(neg, size).then(|| Value::Whole {
+        neg,
+        size: size as u32,
+    })
 }
 
 // Nought has no sign and no exponent.
@@ -110,19 +106,16 @@ fn is_normal(neg: bool, m: u64, eneg: bool, e: u64) -> bool
 
 // A real that ends with the text.
 #[tactic(auto, using(values::proofs::Backs::limits))]
-fn as_real(neg: bool, m: u64, eneg: bool, e: u64, double: bool) -> Strict
+fn as_real(neg: bool, m: u64, eneg: bool, e: u64, double: bool) -> Option<Value>
     ensures { result ≡ as_real neg m eneg e double }
 {
-    if is_normal(neg, m, eneg, e) {
-        return Strict::Is(Value::Real {
-            neg,
-            m,
-            eneg,
-            e: e as u32,
-            double,
-        });
-    }
-    Strict::Not
+    is_normal(neg, m, eneg, e).then(|| Value::Real {
+        neg,
+        m,
+        eneg,
+        e: e as u32,
+        double,
+    })
 }
 
 // A single has no exponent 0.
@@ -133,7 +126,7 @@ fn is_spelt(e: u64, double: bool) -> bool
 }
 
 // A real, whose exponent stands at i.
-fn behind_letter(l: &[u8], neg: bool, m: u64, double: bool, i: usize) -> Strict
+fn behind_letter(l: &[u8], neg: bool, m: u64, double: bool, i: usize) -> Option<Value>
     requires { i ≤ length l.now }
     ensures { result ≡ behind_letter l.now neg m double i }
 {
@@ -141,15 +134,15 @@ fn behind_letter(l: &[u8], neg: bool, m: u64, double: bool, i: usize) -> Strict
     let k = i + minus_len(eneg);
     let x = decimal_at(l, k);
     if x.end == k {
-        return Strict::Not;
+        return None;
     }
     if x.end != l.len() {
-        return Strict::Not;
+        return None;
     }
     if is_spelt(x.value, double) {
         return as_real(neg, m, eneg, x.value, double);
     }
-    Strict::Not
+    None
 }
 
 // E or D.
@@ -160,7 +153,7 @@ fn is_letter(c: u8) -> bool
 }
 
 // A real, whose point stands before i.
-fn behind_point(l: &[u8], neg: bool, m: u64, i: usize) -> Strict
+fn behind_point(l: &[u8], neg: bool, m: u64, i: usize) -> Option<Value>
     requires { i ≤ length l.now }
     ensures { result ≡ behind_point l.now neg m i }
 {
@@ -171,48 +164,45 @@ fn behind_point(l: &[u8], neg: bool, m: u64, i: usize) -> Strict
     if is_letter(c) {
         return behind_letter(l, neg, m, c == b'D', i + 1);
     }
-    Strict::Not
+    None
 }
 
 // A string, whose characters start at i.
-fn behind_count(l: &[u8], neg: bool, count: u64, i: usize) -> Strict
+#[tactic(auto, using(values::proofs::Backs::behinds))]
+fn behind_count(l: &[u8], neg: bool, count: u64, i: usize) -> Option<Value>
     requires { i ≤ length l.now }
     ensures { result ≡ behind_count l.now neg count i }
 {
     if neg {
-        return Strict::Not;
+        return None;
     }
     if count < 1 {
-        return Strict::Not;
+        return None;
     }
     if 999 < count {
-        return Strict::Not;
+        return None;
     }
     let n = count as usize;
     if i + n != l.len() {
-        return Strict::Not;
+        return None;
     }
-    if look::is_printable(l, i, l.len()) {
-        Strict::Is(Value::Text { start: i, count: n })
-    } else {
-        Strict::Not
-    }
+    look::is_printable(l, i, l.len()).then_some(Value::Text { start: i, count: n })
 }
 
-// The value that has this spelling.
-pub fn strict(l: &[u8]) -> Strict
+// The value that has this spelling, if there is one. A string is where its characters stand in that text.
+pub fn strict(l: &[u8]) -> Option<Value>
     ensures value { result ≡ strict_of l.now }
     ensures placed { Placed (length l.now) result }
 {
     if l.len() == 0 {
-        return Strict::Is(Value::Default);
+        return Some(Value::Default);
     }
     let neg = l[0] == b'-';
     let a = minus_len(neg);
     let x = decimal_at(l, a);
     let i = x.end;
     if i == a {
-        return Strict::Not;
+        return None;
     }
     if i == l.len() {
         return as_whole(neg, x.value);
@@ -224,13 +214,13 @@ pub fn strict(l: &[u8]) -> Strict
     if c == b'H' {
         return behind_count(l, neg, x.value, i + 1);
     }
-    Strict::Not
+    None
 }
 
 // How much of a value's spelling stands before a string's characters; of any other value all. An H ends a string's count, of one to three
 // digits, and no other spelling has one.
 pub fn front_of(l: &[u8]) -> usize
-    requires { strict_of l.now ≡ Is (meant l.now) }
+    requires { strict_of l.now ≡ Some (meant l.now) }
     ensures value { result ≡ length (front (meant l.now)) }
     ensures upper_bound { result ≤ length l.now }
 {

@@ -18,7 +18,7 @@ use file_canonical::Tally;
 use file_tally::{behind_value, tally_said, with_values};
 use sheets::{BEFORE_STARTS, NO_FIELD, NO_RUN, SheetState, SheetStep, SheetVerdict, order};
 use sheets_read::{end_of, is_mark, is_value, line_at, strict_at};
-use values::{Strict, is_missing};
+use values::is_missing;
 use write_lines::SheetPass;
 use write_lines::rules::rule_too;
 use write_lines::table::keep;
@@ -67,7 +67,7 @@ fn past_values(t: &[u8], from: usize, begun: SheetState, p: usize) -> Past
         }
         let spelled = next + 2;
         match strict_at(t, spelled, end) {
-            Strict::Is(value) => match order::value_step(state, is_missing(value)) {
+            Some(value) => match order::value_step(state, is_missing(value)) {
                 SheetStep::On(st) => {
                     at = behind_value(at, &t[spelled..end], value);
                     state = st;
@@ -77,7 +77,7 @@ fn past_values(t: &[u8], from: usize, begun: SheetState, p: usize) -> Past
                     return Past { state, next, at };
                 }
             },
-            Strict::Not => {
+            None => {
                 return Past { state, next, at };
             }
         }

@@ -12,14 +12,11 @@ use Rattle.columns.specs.Columns.{columns}
 use Rattle.columns.specs.Refusal.{Outcome, accepted, refused, demand, ◌then◌}
 use Rattle.columns.proofs.Tests.{and_assoc}
 use Rattle.values.specs.declared.Value.{Value}
-use Rattle.values.specs.declared.Strict.{Strict}
-use Rattle.values.specs.declared.Strict.TheVariants.{Not}
+use Rattle.std.specs.Prelude.{Option, None, Option, Some, None}
 use Rattle.values.specs.Value.{Item, item_of}
 use Rattle.values.specs.Strict.{strict_of}
 use Rattle.directory.specs.declared.Fields.{Fields}
 use Rattle.layouts.specs.declared.LayoutState.{LayoutState}
-use Rattle.layouts.specs.declared.Stepped.{Stepped}
-use Rattle.layouts.specs.declared.Stepped.TheVariants.{Go, Bad}
 use Rattle.layouts.specs.declared.LayoutVerdict.{LayoutVerdict}
 use Rattle.layouts.specs.declared.LayoutVerdict.TheVariants.{Good as GoodVerdict, Layout, LayoutReference}
 use Rattle.layouts.specs.Known.{known}
@@ -55,21 +52,21 @@ use Rattle.write_lines.proofs.Others.{entity-other}
 
 -- ---- one value
 
-pub right_yes : (right reference m too : Bool) (g : Stepped) → m ≡ mark g → too ≡ equal reference m → right ≡ true → too ≡ right_too right reference g
+pub right_yes : (right reference m too : Bool) (g : Option LayoutState) → m ≡ mark g → too ≡ equal reference m → right ≡ true → too ≡ right_too right reference g
 right_yes right reference m too g em et e = rw (e, ← em) et
 
-pub right_no : (right reference : Bool) (g : Stepped) → right ≡ false → false ≡ right_too right reference g
+pub right_no : (right reference : Bool) (g : Option LayoutState) → right ≡ false → false ≡ right_too right reference g
 right_no right reference g e = rw e
 
 -- a step with as much of the class as it asks for
-pub stepped_for : (types : List ℕ) (g : Stepped) (v : Value) {s : LayoutState} (class : ℕ) {r : Stepped} → g ≡ Go s → step s v class ≡ step s v (named types v) → r ≡ step s v class → r ≡ stepped types g v
+pub stepped_for : (types : List ℕ) (g : Option LayoutState) (v : Value) {s : LayoutState} (class : ℕ) {r : Option LayoutState} → g ≡ Some s → step s v class ≡ step s v (named types v) → r ≡ step s v class → r ≡ stepped types g v
 stepped_for types g v class e q h = rw e (h ∙ q)
 
 pub ruleset values = (stepped_for, stepped_bad, right_yes, right_no)
 
 -- ---- all of them: f is the answer
 
-module _ (types t : List ℕ) (at size : ℕ) (g : Stepped) (right : Bool) (f : Judged) (inv : judged types g right (values_first (lines_in (drop at t))) ≡ f) (all : size ≡ length t) where
+module _ (types t : List ℕ) (at size : ℕ) (g : Option LayoutState) (right : Bool) (f : Judged) (inv : judged types g right (values_first (lines_in (drop at t))) ≡ f) (all : size ≡ length t) where
   pub judge_end : size ≤ at → judged_so g right ≡ f
   unfolding judged values_first
   judge_end h = rw (lines_none t at (omega arith)) at inv
@@ -89,20 +86,20 @@ module _ (types t : List ℕ) (at size : ℕ) (g : Stepped) (right : Bool) (f : 
       pub judge_other : b ≡ false → judged_so g right ≡ f
       judge_other e = other (says_of (columns t at stop)) refl (no_value t at stop b eb e)
 
-      pub judge_not : b ≡ true → (y : Strict) → y ≡ strict_of (columns t (at + 2) stop) → y ≡ Not → judged_so g right ≡ f
+      pub judge_not : b ≡ true → (y : Option Value) → y ≡ strict_of (columns t (at + 2) stop) → y ≡ None → judged_so g right ≡ f
       judge_not e y ey q = other (Nothing true) (value_not t at stop b eb (value_long t at stop b eb lo hi e) e y ey q) tt
 
 -- a value line, and those behind it
 pub judge_on : (ls rest : List Line) (reference : Bool) (s : List ℕ) (v : Value) → ls ≡ value reference (item_of s v) ∷ rest
-    → (types : List ℕ) (g : Stepped) (right : Bool) (f : Judged) → judged types g right (values_first ls) ≡ f
-    → (m : Bool) (u : Stepped) → m ≡ right_too right reference g → u ≡ stepped types g v → judged types u m (values_first rest) ≡ f
+    → (types : List ℕ) (g : Option LayoutState) (right : Bool) (f : Judged) → judged types g right (values_first ls) ≡ f
+    → (m : Bool) (u : Option LayoutState) → m ≡ right_too right reference g → u ≡ stepped types g v → judged types u m (values_first rest) ≡ f
 unfolding judged values_first
 judge_on ls rest reference s v line types g right f inv m u em eu =
     let w : values_first ls ≡ (reference, item_of s v) ∷ values_first rest = rw line in
     rw (eu, em, ← feed-stepped types s g v) (rw w at inv)
 
 -- what is handed back
-module _ (r : Values) (g : Stepped) (right : Bool) (next lines : ℕ) (e : r ≡ values_of g right next lines) where
+module _ (r : Values) (g : Option LayoutState) (right : Bool) (next lines : ℕ) (e : r ≡ values_of g right next lines) where
   pub told-judged : (f : Judged) → judged_so g right ≡ f → judged_so r.state r.right ≡ f
   told-judged f h = rw e h
 
@@ -119,19 +116,19 @@ pub ruleset judging = (not-true, not-false, judge_end, judge_piece, judge_other,
 
 -- ---- what comes of it
 
-module _ (inside : Bool) (g : Stepped) where
+module _ (inside : Bool) (g : Option LayoutState) where
   pub verdict_out : inside ≡ false → GoodVerdict ≡ verdict_if inside g
   verdict_out e = rw e
 
-  pub verdict_go : (s : LayoutState) (w : LayoutVerdict) → inside ≡ true → g ≡ Go s → w ≡ end s → w ≡ verdict_if inside g
+  pub verdict_go : (s : LayoutState) (w : LayoutVerdict) → inside ≡ true → g ≡ Some s → w ≡ end s → w ≡ verdict_if inside g
   verdict_go s w e q h = rw (e, q) h
 
-  pub verdict_bad : inside ≡ true → g ≡ Bad → Layout ≡ verdict_if inside g
+  pub verdict_bad : inside ≡ true → g ≡ None → Layout ≡ verdict_if inside g
   verdict_bad e q = rw (e, q)
 
 pub ruleset verdicts = (not-true, not-false, verdict_out, verdict_go, verdict_bad)
 
-module _ (inside marked : Bool) (j : Judged) (place : ℕ) (g : Stepped) (w : LayoutVerdict) (b : Bool) (eg : g ≡ j.state) (ew : w ≡ verdict_if inside g) (eb : b ≡ equal marked inside) where
+module _ (inside marked : Bool) (j : Judged) (place : ℕ) (g : Option LayoutState) (w : LayoutVerdict) (b : Bool) (eg : g ≡ j.state) (ew : w ≡ verdict_if inside g) (eb : b ≡ equal marked inside) where
   answer : answer_of inside marked j place ≡ pass_of (fault w place then λ _. demand (b && j.right) Mark place)
   unfolding answer_of
   answer = rw (← eg, ← ew, ← eb)
@@ -156,12 +153,12 @@ pub ruleset answers = (answer_layout, answer_reference, answer_good, answer-valu
 -- ---- the same as the paper says it
 
 module _ (types : List ℕ) where
-  judged-state : (g : Stepped) (right : Bool) (vs : List (Bool × Item)) → (judged types g right vs).state ≡ runs types g (map value_in vs)
+  judged-state : (g : Option LayoutState) (right : Bool) (vs : List (Bool × Item)) → (judged types g right vs).state ≡ runs types g (map value_in vs)
   unfolding judged runs
   judged-state g right [] = refl
   judged-state g right (v ∷ vs) = judged-state (feed types g v.1) (right_too right v.0 g) vs
 
-  judged_right : (g : Stepped) (right : Bool) (vs : List (Bool × Item)) → (judged types g right vs).right ≡ right && all_equal (map mark_in vs) (marks_from types g (map value_in vs))
+  judged_right : (g : Option LayoutState) (right : Bool) (vs : List (Bool × Item)) → (judged types g right vs).right ≡ right && all_equal (map mark_in vs) (marks_from types g (map value_in vs))
   unfolding judged marks_from
   judged_right g true [] = refl
   judged_right g false [] = refl
@@ -178,7 +175,7 @@ module _ (list : ℕ) (types : List ℕ) (place : ℕ) (marked : Bool) (x : Fiel
   abbrev inside : Bool
   inside = known list x.entity.size x.form.size
 
-  abbrev begin : Stepped
+  abbrev begin : Option LayoutState
   begin = marks_begun list x.entity.size x.form.size
 
   abbrev entity : Entity
@@ -188,7 +185,7 @@ module _ (list : ℕ) (types : List ℕ) (place : ℕ) (marked : Bool) (x : Fiel
   unfolding marks_begun walked verdict_from
   check_part = by inside ∙ check_judged types list entity place
     where
-      by : (b : Bool) → fault (verdict_if b (runs types (cond b (Go (start x.entity.size x.form.size)) Bad) (map value_in vs))) place
+      by : (b : Bool) → fault (verdict_if b (runs types (cond b (Some (start x.entity.size x.form.size)) None) (map value_in vs))) place
           ≡ cond b (fault (walked types entity) place) (accepted tt)
       by true = refl
       by false = refl
@@ -200,7 +197,7 @@ module _ (list : ℕ) (types : List ℕ) (place : ℕ) (marked : Bool) (x : Fiel
       rw (judged-state types begin true vs, judged_right types begin true vs, check_part)
       (ap pass_of (then_same (entity_check list types entity place) _ _ (λ u h. rw (marks_begin types list x.entity.size x.form.size (map value_in vs) (accepts_keeps types entity list place u h)))))
 
-  pub entity-told : (s : Said) (n : Signed) (inside : Bool) (g : Stepped) (j : Judged) (r : SheetPass) → s ≡ Entry marked n x → inside ≡ known list x.entity.size x.form.size
+  pub entity-told : (s : Said) (n : Signed) (inside : Bool) (g : Option LayoutState) (j : Judged) (r : SheetPass) → s ≡ Entry marked n x → inside ≡ known list x.entity.size x.form.size
       → g ≡ marks_begun list x.entity.size x.form.size → j ≡ judged types g true vs → r ≡ answer_of inside marked j place → r ≡ said_entity list types place vs s
   entity-told s n inside g j r e ei eg ej er = rw e (er ∙ rw (ei, ej, eg) answer-row)
 

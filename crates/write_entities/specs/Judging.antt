@@ -1,9 +1,9 @@
 -- The code's form: an entity of a sheet value by value: the layout's state, and whether all marks so far were right.
-use Rattle.std.specs.Prelude.{Bool, cond, ◌&&◌, List, [], ◌∷◌, ℕ}
+use Rattle.std.specs.Prelude.{Bool, cond, ◌&&◌, List, [], ◌∷◌, ℕ, Option}
 use Rattle.columns.specs.declared.Fault.TheVariants.{Mark}
 use Rattle.columns.specs.Refusal.{demand, ◌then◌}
 use Rattle.values.specs.Value.{Item}
-use Rattle.layouts.specs.declared.Stepped.{Stepped}
+use Rattle.layouts.specs.declared.LayoutState.{LayoutState}
 use Rattle.layouts.specs.declared.LayoutVerdict.{LayoutVerdict}
 use Rattle.layouts.specs.declared.LayoutVerdict.TheVariants.{Good as GoodVerdict}
 use Rattle.layouts.specs.Entities.{fault}
@@ -15,24 +15,24 @@ use Rattle.write_lines.specs.declared.SheetPass.{SheetPass}
 use Rattle.write_lines.specs.Lines.{pass_of}
 
 -- whether a mark is right too
-abbrev pub right_too : Bool → Bool → Stepped → Bool
+abbrev pub right_too : Bool → Bool → Option LayoutState → Bool
 right_too right reference g = right && equal reference (mark g)
 
 -- a state, and whether all marks were right
-abbrev pub judged_so : Stepped → Bool → Judged
+abbrev pub judged_so : Option LayoutState → Bool → Judged
 judged_so g right = record { state = g; right = right }
 
 -- the same behind values, with the place behind them and how many they are
-abbrev pub values_of : Stepped → Bool → ℕ → ℕ → Values
+abbrev pub values_of : Option LayoutState → Bool → ℕ → ℕ → Values
 values_of g right next lines = record { state = g; right = right; next = next; lines = lines }
 
 -- behind the last value
-unfoldable pub judged : List ℕ → Stepped → Bool → List (Bool × Item) → Judged
+unfoldable pub judged : List ℕ → Option LayoutState → Bool → List (Bool × Item) → Judged
 judged types g right [] = judged_so g right
 judged types g right (v ∷ vs) = judged types (feed types g v.1) (right_too right v.0 g) vs
 
 -- the verdict, where the list knows the entity
-abbrev pub verdict_if : Bool → Stepped → LayoutVerdict
+abbrev pub verdict_if : Bool → Option LayoutState → LayoutVerdict
 verdict_if inside g = cond inside (ended g) GoodVerdict
 
 -- 14, 15 by the verdict, then 18 by the marks; the entry line's own mark comes first

@@ -16,12 +16,12 @@ ghost use Rattle.write_lines.specs.Passes.{references_from, references_pass, ent
 
 use crate::naming::named_for;
 use columns::{Fault, SheetLine};
-use layouts::{LayoutVerdict, Stepped};
+use layouts::{LayoutState, LayoutVerdict};
 use layouts_lists::known;
 use read_entities::marks::{mark_of, marks_begun};
 use sheets::Said;
 use sheets_read::{end_of, is_value, strict_at};
-use values::{Strict, Value};
+use values::Value;
 use write_lines::SheetPass;
 use write_lines::heads::head_at;
 use write_lines::refer::{reference_of, references};
@@ -29,14 +29,14 @@ use write_lines::refer::{reference_of, references};
 // The layout's state behind an entity's values, and whether all their marks are right.
 #[derive(Clone, Copy)]
 pub struct Judged {
-    pub state: Stepped,
+    pub state: Option<LayoutState>,
     pub right: bool,
 }
 
 // The same of the value lines behind a line, with the place behind them and how many they are.
 #[derive(Clone, Copy)]
 pub struct Values {
-    pub state: Stepped,
+    pub state: Option<LayoutState>,
     pub right: bool,
     pub next: usize,
     pub lines: usize,
@@ -51,17 +51,14 @@ pub struct Asked {
 }
 
 // The layout behind this value.
-fn step_at(classes: &[u8], n: usize, t: &[u8], g: Stepped, v: Value) -> Stepped
+#[tactic(auto, using(crate::proofs::Judging::values))]
+fn step_at(classes: &[u8], n: usize, t: &[u8], g: Option<LayoutState>, v: Value) -> Option<LayoutState>
     requires { Tabled classes.now n t.now }
     ensures { result ≡ stepped (sheet_types t.now) g v }
 {
-    match g {
-        Stepped::Go(s) => {
-            let class = named_for(classes, n, t, s, v);
-            layouts_machine::step(s, v, class)
-        }
-        Stepped::Bad => Stepped::Bad,
-    }
+    let s = g?;
+    let class = named_for(classes, n, t, s, v);
+    layouts_machine::step(s, v, class)
 }
 
 fn same(a: bool, b: bool) -> bool
@@ -74,7 +71,7 @@ fn same(a: bool, b: bool) -> bool
 }
 
 // Whether this mark is right, as all before it.
-fn right_too(right: bool, reference: bool, g: Stepped) -> bool
+fn right_too(right: bool, reference: bool, g: Option<LayoutState>) -> bool
     ensures { result ≡ right_too right reference g }
 {
     let mark = mark_of(g);
@@ -86,7 +83,7 @@ fn right_too(right: bool, reference: bool, g: Stepped) -> bool
 }
 
 // What is judged so far, with the place and how many lines.
-fn values_of(state: Stepped, right: bool, next: usize, lines: usize) -> Values
+fn values_of(state: Option<LayoutState>, right: bool, next: usize, lines: usize) -> Values
     ensures { result ≡ values_of state right next lines }
 {
     Values {
@@ -98,7 +95,7 @@ fn values_of(state: Stepped, right: bool, next: usize, lines: usize) -> Values
 }
 
 // The values of the value lines from `from` on, from this state.
-fn judge(classes: &[u8], n: usize, t: &[u8], from: usize, begun: Stepped) -> Values
+fn judge(classes: &[u8], n: usize, t: &[u8], from: usize, begun: Option<LayoutState>) -> Values
     requires tabled { Tabled classes.now n t.now }
     requires from_in_bounds { from ≤ length t.now }
     ensures right_value { judged_so result.state result.right
@@ -120,14 +117,14 @@ fn judge(classes: &[u8], n: usize, t: &[u8], from: usize, begun: Stepped) -> Val
             return values_of(state, right, next, lines);
         }
         match strict_at(t, next + 2, end) {
-            Strict::Is(value) => {
+            Some(value) => {
                 let reference = t[next] == b'R';
                 right = right_too(right, reference, state);
                 state = step_at(classes, n, t, state, value);
                 next = end + 1;
                 lines += 1;
             }
-            Strict::Not => {
+            None => {
                 return values_of(state, right, next, lines);
             }
         }
@@ -136,15 +133,15 @@ fn judge(classes: &[u8], n: usize, t: &[u8], from: usize, begun: Stepped) -> Val
 }
 
 // The verdict of a layout, where the list knows the entity.
-fn verdict_if(inside: bool, g: Stepped) -> LayoutVerdict
+fn verdict_if(inside: bool, g: Option<LayoutState>) -> LayoutVerdict
     ensures { result ≡ verdict_if inside g }
 {
     if !inside {
         return LayoutVerdict::Good;
     }
     match g {
-        Stepped::Go(s) => layouts_machine::end(s),
-        Stepped::Bad => LayoutVerdict::Layout,
+        Some(s) => layouts_machine::end(s),
+        None => LayoutVerdict::Layout,
     }
 }
 

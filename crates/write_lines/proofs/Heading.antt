@@ -12,8 +12,8 @@ use Rattle.columns.specs.Columns.{columns}
 use Rattle.columns.specs.Refusal.{demand}
 use Rattle.columns.proofs.Columns.{columns-none, byte_of}
 use Rattle.columns.proofs.Tests.{cond_cases}
-use Rattle.values.specs.declared.Strict.{Strict}
-use Rattle.values.specs.declared.Strict.TheVariants.{Is, Not}
+use Rattle.std.specs.Prelude.{Option, Some, None}
+use Rattle.values.specs.declared.Value.{Value}
 use Rattle.values.specs.Strict.{strict_of}
 use Rattle.records.proofs.Globals.{fits-seen}
 use Rattle.sheets.specs.declared.Said.{Said}
@@ -76,9 +76,9 @@ Quiet (Given reference v) = Unit {0}
 Quiet (Last n) = Unit {0}
 Quiet (Nothing b) = Unit {0}
 
-quiet_value : (reference : Bool) (s : Strict) → Quiet (value_of reference s)
-quiet_value reference (Is v) = tt
-quiet_value reference Not = tt
+quiet_value : (reference : Bool) (s : Option Value) → Quiet (value_of reference s)
+quiet_value reference (Some v) = tt
+quiet_value reference None = tt
 
 quiet_mark : (b : ℕ) (l t : List ℕ) → is_head b ≡ false → Quiet (by_mark b l t)
 unfolding is_head by_mark start_line last_line

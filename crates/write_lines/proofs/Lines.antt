@@ -9,8 +9,7 @@ use lib.Dec.{eqb}
 use lib.Seq.{get_or-drop}
 use Rattle.columns.specs.Columns.{columns}
 use Rattle.values.specs.declared.Value.{Value}
-use Rattle.values.specs.declared.Strict.{Strict}
-use Rattle.values.specs.declared.Strict.TheVariants.{Is}
+use Rattle.std.specs.Prelude.{Option, Some}
 use Rattle.values.specs.Value.{Item, item_of}
 use Rattle.values.specs.Strict.{strict_of}
 use Rattle.sheets.specs.declared.Said.{Said}
@@ -64,7 +63,7 @@ pub line_read : (t : List ℕ) (at end : ℕ) → at ≤ end → end < length t 
 line_read t at end lo hi en x ex = lines_first t at end lo hi en ∙ ap (λ (l : Line). l ∷ lines_in (drop (end + 1) t)) (line_says (columns t at end) x (sym ex))
 
 -- a value line
-module _ (t : List ℕ) (at end : ℕ) (b : Bool) (eb : b ≡ is_value (columns t at end)) (e : b ≡ true) (y : Strict) (ey : y ≡ strict_of (columns t (at + 2) end)) (v : Value) (q : y ≡ Is v) where
+module _ (t : List ℕ) (at end : ℕ) (b : Bool) (eb : b ≡ is_value (columns t at end)) (e : b ≡ true) (y : Option Value) (ey : y ≡ strict_of (columns t (at + 2) end)) (v : Value) (q : y ≡ Some v) where
   pub said-given : at ≤ end → end ≤ length t → says_of (columns t at end) ≡ Given (eqb (get_or t at 0) 82) v
   said-given lo hi = value-given t at end b eb (value_long t at end b eb lo hi e) e y ey v q
 
@@ -76,7 +75,7 @@ module _ (t : List ℕ) (at end : ℕ) (b : Bool) (eb : b ≡ is_value (columns 
       ∙ ap (λ (l : List ℕ). value (eqb (get_or t at 0) 82) (item_of l v) ∷ lines_in (drop (end + 1) t)) (columns-drop t at 2 end)
 
 -- what is read back of it
-pub strict_given : (t : List ℕ) (at end : ℕ) (y : Strict) → y ≡ strict_of (columns t at end) → (v : Value) → y ≡ Is v → strict_of (take (end - at) (drop at t)) ≡ Is v
+pub strict_given : (t : List ℕ) (at end : ℕ) (y : Option Value) → y ≡ strict_of (columns t at end) → (v : Value) → y ≡ Some v → strict_of (take (end - at) (drop at t)) ≡ Some v
 unfolding columns
 strict_given t at end y e v q = sym e ∙ q
 

@@ -5,7 +5,7 @@ use Rattle.columns.proofs.Writes.{wrote_length}
 use Rattle.layouts.proofs.Steps.{runs_left}
 use Rattle.print.proofs.Taken.{found_sane}
 use Rattle.print.proofs.Valued.{values_refused, values_room, values_owed, given_runs, found_default, found-given, valued}
-use Rattle.print_values.proofs.put_values.Goals.{then-owed-eq0+in-Go+else-runs_on, then-owed-eq0+in-Bad, else-owed-eq0}
+use Rattle.print_values.proofs.put_values.Goals.{then-owed-eq0+in-Some+else-runs_on, then-owed-eq0+in-None, else-owed-eq0}
 use Rattle.print_values.proofs.put_values.Goals as goal
 
 pub marks_begun-g-requires : goal.marks_begun-g-requires
@@ -98,7 +98,7 @@ loop-last-preserved-then-runs_on c =
     let inv = c.loop-last.invariant in
     let pre = c.requires.values_stand in
     let sane = found_sane _ _ c.value_at-got.ensures.sane c.in-Found.is in
-    let put = given_runs _ _ _ _ _ _ _ c.if-owed-eq0.true c.in-Go.is c.runs_on.ensures c.if-runs_on.true c.with_left.ensures
+    let put = given_runs _ _ _ _ _ _ _ c.if-owed-eq0.true c.in-Some.is c.runs_on.ensures c.if-runs_on.true c.with_left.ensures
     c.is_reference-reference.ensures c.put_mostly_real-next.ensures.wrote c.put_mostly_real-next.ensures.upper_bound in (
       sane.1,
       omega (arith, inv.1, sane.0, c.put_mostly_real-next.ensures.upper_bound),
@@ -107,8 +107,8 @@ loop-last-preserved-then-runs_on c =
           c.value_at-got.ensures.value c.in-Found.is c.is_missing.ensures c.if-is_missing.false put.marks put.laid),
     )
 
-pub enum_told-in-Bad : goal.enum_told-in-Bad
-enum_told-in-Bad c = search rules
+pub enum_told-in-None : goal.enum_told-in-None
+enum_told-in-None c = search rules
 
 pub put_owed-z-requires : goal.put_owed-z-requires
 put_owed-z-requires c =
@@ -133,8 +133,8 @@ loop-last-preserved c =
     let pre = c.requires.values_stand in
     let sane = found_sane _ _ c.value_at-got.ensures.sane c.in-Found.is in
     let same : c.if-owed-eq0.g ≡ c.loop-last.g = elim c.if-owed-eq0.branch [
-      | then-owed-eq0+in-Go+else-runs_on w ↦ w.g-is ∙ sym w.in-Go.is
-      | then-owed-eq0+in-Bad w ↦ w.g-is
+      | then-owed-eq0+in-Some+else-runs_on w ↦ w.g-is ∙ sym w.in-Some.is
+      | then-owed-eq0+in-None w ↦ w.g-is
       | else-owed-eq0 w ↦ w.g-is
     ] in
     let put = rw same at c.put_owed-z.ensures in (

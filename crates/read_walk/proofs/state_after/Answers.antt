@@ -27,8 +27,8 @@ with_left-requires c = search rules
 pub returns-then-runs_on : goal.returns-then-runs_on
 returns-then-runs_on c = search (rules, states)
 
-pub with_left-requires-in-Go : goal.with_left-requires-in-Go
-with_left-requires-in-Go c = search rules
+pub with_left-requires-in-Some : goal.with_left-requires-in-Some
+with_left-requires-in-Some c = search rules
 
 pub behind_defaults-h-requires : goal.behind_defaults-h-requires
 behind_defaults-h-requires c = search rules
@@ -36,8 +36,8 @@ behind_defaults-h-requires c = search rules
 pub mark_step-requires : goal.mark_step-requires
 mark_step-requires c = search rules
 
-pub returns-in-Bad : goal.returns-in-Bad
-returns-in-Bad c = search (rules, states)
+pub returns-in-None : goal.returns-in-None
+returns-in-None c = search (rules, states)
 
 pub returns-after-owed-eq0 : goal.returns-after-owed-eq0
 returns-after-owed-eq0 c = search (rules, states)

@@ -18,5 +18,5 @@ enum_told-1 c = search (rules, globals)
 pub returns-else-is_missing : goal.returns-else-is_missing
 returns-else-is_missing c = search (rules, globals)
 
-pub returns-in-Not : goal.returns-in-Not
-returns-in-Not c = search (rules, globals)
+pub returns-in-None : goal.returns-in-None
+returns-in-None c = search (rules, globals)

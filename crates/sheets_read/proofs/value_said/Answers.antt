@@ -9,8 +9,8 @@ enum_known-v c = search (rules, values)
 pub enum_told-1 : goal.enum_told-1
 enum_told-1 c = search (rules, values)
 
-pub returns-in-Is : goal.returns-in-Is
-returns-in-Is c = search (rules, values)
+pub returns-in-Some : goal.returns-in-Some
+returns-in-Some c = search (rules, values)
 
-pub returns-in-Not : goal.returns-in-Not
-returns-in-Not c = search (rules, values)
+pub returns-in-None : goal.returns-in-None
+returns-in-None c = search (rules, values)

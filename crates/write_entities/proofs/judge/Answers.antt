@@ -67,8 +67,8 @@ right_too-right-requires c = search (rules, judging)
 pub step_at-state-requires : goal.step_at-state-requires
 step_at-state-requires c = search (rules, judging)
 
-pub overflow_add-next-in-Is : goal.overflow_add-next-in-Is
-overflow_add-next-in-Is c = search (rules, judging)
+pub overflow_add-next-in-Some : goal.overflow_add-next-in-Some
+overflow_add-next-in-Some c = search (rules, judging)
 
 pub overflow_add-lines : goal.overflow_add-lines
 overflow_add-lines c = search (rules, judging)
@@ -80,7 +80,7 @@ pub loop-next-preserved : goal.loop-next-preserved
 loop-next-preserved c =
     let inv = c.loop-next.invariant in
     let line = line-given c.args.t.now c.loop-next.next c.end_of-end.result c.is_value.result c.is_value.ensures c.if-not-is_value.false
-    c.strict_at.result c.strict_at.ensures.value c.in-Is.value c.in-Is.is (search rules) (search rules) c.end_of-end.ensures.value in (
+    c.strict_at.result c.strict_at.ensures.value c.in-Some.value c.in-Some.is (search rules) (search rules) c.end_of-end.ensures.value in (
       search rules,
       search rules,
       search rules,
@@ -91,14 +91,14 @@ loop-next-preserved c =
 pub enum_told-1 : goal.enum_told-1
 enum_told-1 c = search (rules, judging)
 
-pub values_of-requires-in-Not : goal.values_of-requires-in-Not
-values_of-requires-in-Not c = search (rules, judging)
+pub values_of-requires-in-None : goal.values_of-requires-in-None
+values_of-requires-in-None c = search (rules, judging)
 
-pub returns-in-Not : goal.returns-in-Not
-returns-in-Not c = record {
-  right_value = told-judged _ _ _ _ _ c.values_of-in-Not.ensures _
+pub returns-in-None : goal.returns-in-None
+returns-in-None c = record {
+  right_value = told-judged _ _ _ _ _ c.values_of-in-None.ensures _
       (judge_not _ _ _ _ _ _ _ c.loop-next.invariant.4 c.loop-next.invariant.2 c.end_of-end.result (search rules) (search rules) (search rules)
-      c.end_of-end.ensures.value c.if-end-size.false _ c.is_value.ensures c.if-not-is_value.false _ c.strict_at.ensures.value c.in-Not.is);
+      c.end_of-end.ensures.value c.if-end-size.false _ c.is_value.ensures c.if-not-is_value.false _ c.strict_at.ensures.value c.in-None.is);
   skipped = search (rules, told-skipped);
   lines_bound = (search (rules, told-next), search (rules, told-within));
 }

@@ -15,8 +15,8 @@ end-requires c = search (rules, verdicts)
 pub enum_told-1 : goal.enum_told-1
 enum_told-1 c = search (rules, verdicts)
 
-pub returns-in-Go : goal.returns-in-Go
-returns-in-Go c = search (rules, verdicts)
+pub returns-in-Some : goal.returns-in-Some
+returns-in-Some c = search (rules, verdicts)
 
-pub returns-in-Bad : goal.returns-in-Bad
-returns-in-Bad c = search (rules, verdicts)
+pub returns-in-None : goal.returns-in-None
+returns-in-None c = search (rules, verdicts)

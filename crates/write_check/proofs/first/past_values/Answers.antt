@@ -70,14 +70,14 @@ loop-next-preserved c =
     let inv = c.loop-next.invariant in
     let step = c.value_step.ensures ∙ ap (value_step _) c.is_missing.ensures in
     let line = line-given c.args.t.now c.loop-next.next c.end_of-end.result c.is_value.result c.is_value.ensures c.if-not-is_value.false
-    c.strict_at.result c.strict_at.ensures.value c.in-Is.value c.in-Is.is (search rules) (search rules) c.end_of-end.ensures.value in (
+    c.strict_at.result c.strict_at.ensures.value c.in-Some.value c.in-Some.is (search rules) (search rules) c.end_of-end.ensures.value in (
       search rules,
       search rules,
       search rules,
       c.behind_value-at.ensures.upper_bound,
-      next-line _ _ (Given false c.in-Is.value) _ step c.in-On.is _ _ inv.4 (search rules),
-      next-entries _ _ (Given false c.in-Is.value) _ step c.in-On.is inv.5,
-      ahead-on _ _ _ _ c.in-Is.value line _ _ _ step c.in-On.is _ _ _ _ _ c.behind_value-at.ensures.value inv.6,
+      next-line _ _ (Given false c.in-Some.value) _ step c.in-On.is _ _ inv.4 (search rules),
+      next-entries _ _ (Given false c.in-Some.value) _ step c.in-On.is inv.5,
+      ahead-on _ _ _ _ c.in-Some.value line _ _ _ step c.in-On.is _ _ _ _ _ c.behind_value-at.ensures.value inv.6,
     )
 
 pub enum_told-1 : goal.enum_told-1
@@ -86,11 +86,11 @@ enum_told-1 c = search (rules)
 pub returns-in-Off : goal.returns-in-Off
 returns-in-Off c = search (rules)
 
-pub enum_told-in-Not : goal.enum_told-in-Not
-enum_told-in-Not c = search (rules)
+pub enum_told-in-None : goal.enum_told-in-None
+enum_told-in-None c = search (rules)
 
-pub returns-in-Not : goal.returns-in-Not
-returns-in-Not c = search (rules)
+pub returns-in-None : goal.returns-in-None
+returns-in-None c = search (rules)
 
 pub returns : goal.returns
 returns c = search (rules)
