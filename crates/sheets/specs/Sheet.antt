@@ -1,5 +1,6 @@
 -- The sheet: lines that end in LF, fields parted by tabs. What a sheet carries, its spelling, and what its lines say.
-use Rattle.std.specs.Prelude.{Bool, true, false, cond, not, ◌&&◌, ◌||◌, List, [], ◌∷◌, ◌++◌, ℕ, suc, ◌+◌, ◌-◌}
+use Rattle.std.specs.Prelude.{Bool, true, false, cond, not, ◌&&◌, ◌||◌, Option, Some, None, List, [], ◌∷◌, ◌++◌, ℕ}
+use Rattle.std.specs.Prelude.{suc, ◌+◌, ◌-◌}
 use Rattle.std.specs.Prelude.{◌*◌, length}
 use Rattle.std.specs.Prelude.{get_or, take, drop, ltb, leb, eqb}
 use Rattle.columns.specs.declared.Signed.{Signed}
@@ -14,7 +15,6 @@ use Rattle.values.specs.Strict.{strict_of}
 use Rattle.records.specs.Global.{first_field, last_field}
 use Rattle.directory.specs.declared.Fields.{Fields}
 use Rattle.sheets.specs.declared.EntryLine.{EntryLine}
-use Rattle.sheets.specs.declared.EntryLine.TheVariants.{Got, Wrong}
 use Rattle.sheets.specs.declared.Said.{Said}
 use Rattle.sheets.specs.declared.Said.TheVariants.{Start, Global, Entry, Value as Given, Last, Nothing}
 use Rattle.sheets.specs.Plain.{plain_of, is_plain, sized}
@@ -130,9 +130,9 @@ unfoldable pub global_line : List ℕ → Said
 global_line t = global_of (is_numbered t) (plain_of (take (run tab t) t)) (2 + suc (run tab t)) (strict_of (drop (suc (run tab t)) t))
 
 -- E or U, tab, the numbers and the label
-abbrev pub entry_line_of : EntryLine → Said
-entry_line_of (Got known n x) = Entry known n x
-entry_line_of Wrong = Nothing false
+abbrev pub entry_line_of : Option EntryLine → Said
+entry_line_of (Some r) = Entry r.known r.number r.fields
+entry_line_of None = Nothing false
 
 -- a default, or a value
 abbrev pub value_of : Bool → Strict → Said
