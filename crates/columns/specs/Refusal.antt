@@ -1,6 +1,7 @@
 -- Refusals: the paper's number of each, and "the first refusal wins".
 use Rattle.std.specs.Prelude.{Bool, true, false, List, [], ◌∷◌, ℕ, ◌+◌}
 use Rattle.columns.specs.declared.Fault.{Fault}
+use Rattle.columns.specs.declared.Refusal.{Refusal}
 use Rattle.columns.specs.declared.Fault.TheVariants.{ListOrLength, Byte, Section, Sequence, Terminate, Spelling, Limit, Global}
 use Rattle.columns.specs.declared.Fault.TheVariants.{Directory, Reference, Ownership, FirstValue, Macro, Layout, LayoutReference}
 use Rattle.columns.specs.declared.Fault.TheVariants.{Room, SheetLine, Mark, TooLong}
@@ -26,6 +27,10 @@ number Room = 16
 number SheetLine = 17
 number Mark = 18
 number TooLong = 19
+
+-- a refusal at a line
+abbrev pub refusal_at : {L : Type 0} → Fault → L → Refusal L
+refusal_at n l = record { fault = n; line = l }
 
 -- what was asked for, or a refusal and its place
 pub data Outcome (A : Type 0) : Type 0 where

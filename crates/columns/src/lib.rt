@@ -31,6 +31,13 @@ pub enum Fault {
     TooLong,
 }
 
+// Why an input is refused, and at which of its lines.
+#[derive(Clone, Copy)]
+pub struct Refusal<L> {
+    pub fault: Fault,
+    pub line: L,
+}
+
 // Directory numbers, parameter line numbers and file line numbers are counted apart; so are the lines of a sheet.
 #[derive(Clone, Copy)]
 pub struct DirectoryNumber(pub u32);
