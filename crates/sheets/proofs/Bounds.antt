@@ -5,6 +5,7 @@ use mathlib.Core.List.{List}
 use Prim.Native.Nat.{ℕ, suc, ◌+◌, ◌-◌, ◌≤◌}
 use native.Mathlib.Omega.{arith}
 use lib.ListN.{length, take, drop, length-drop}
+use Rattle.std.proofs.Common.{Option, Some, None}
 use Rattle.columns.specs.Columns.{columns}
 use Rattle.columns.proofs.Tests.{cond_cases, both_left}
 use Rattle.columns.proofs.Columns.{length-columns}
@@ -15,7 +16,6 @@ use Rattle.values.specs.Writing.{Inside, Placed}
 use Rattle.values.specs.Strict.{strict_of}
 use Rattle.values.proofs.Backs.{strict_inside}
 use Rattle.sheets.specs.declared.EntryLine.{EntryLine}
-use Rattle.sheets.specs.declared.EntryLine.TheVariants.{Got, Wrong as WrongEntry}
 use Rattle.sheets.specs.declared.Said.{Said}
 use Rattle.sheets.specs.declared.Said.TheVariants.{Global, Nothing}
 use Rattle.sheets.specs.Plain.{plain_of}
@@ -35,9 +35,9 @@ length_label l = length-drop (length l - 8) l
 entry-within : (l : List ℕ) → Within (length l) (entry_line_of (entry_of l))
 entry-within l = pick (entry_of l) refl
   where
-    pick : (r : EntryLine) → entry_of l ≡ r → Within (length l) (entry_line_of r)
-    pick (Got known n x) h = omega (arith, label_eight (label_of l) (entry_back l known n x h).label, length_label l)
-    pick WrongEntry h = tt
+    pick : (r : Option EntryLine) → entry_of l ≡ r → Within (length l) (entry_line_of r)
+    pick (Some r) h = omega (arith, label_eight (label_of l) (entry_back l r.known r.number r.fields h).label, length_label l)
+    pick None h = tt
 
 module _ (l : List ℕ) (two : 2 ≤ length l) where
   rest : length (drop 2 l) ≡ length l - 2

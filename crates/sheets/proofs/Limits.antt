@@ -7,6 +7,7 @@ use lib.ListN.{length, take, drop}
 use lib.Seq.{drop-drop}
 use lib.Dec.{leb}
 use borrow.Author.Tests.{leb-true}
+use Rattle.std.proofs.Common.{Option, Some, None}
 use Rattle.columns.proofs.Tests.{cond_cases, both_left}
 use Rattle.std.specs.Prelude.{Option, Some, None}
 use Rattle.values.specs.declared.Value.{Value}
@@ -15,11 +16,10 @@ use Rattle.values.specs.Strict.{strict_of}
 use Rattle.records.specs.Reading.{Writable}
 use Rattle.records.proofs.Fine.{strict_writable}
 use Rattle.sheets.specs.declared.EntryLine.{EntryLine}
-use Rattle.sheets.specs.declared.EntryLine.TheVariants.{Got, Wrong}
 use Rattle.sheets.specs.declared.Said.{Said}
 use Rattle.sheets.specs.declared.Said.TheVariants.{Start, Global, Entry, Value as Given, Last, Nothing}
 use Rattle.sheets.specs.Plain.{plain_of}
-use Rattle.sheets.specs.Line.{run, entry_of}
+use Rattle.sheets.specs.Line.{run, entry_of, entry_got}
 use Rattle.sheets.specs.Sheet.{is_start, global_of, is_numbered, global_line, entry_line_of, value_of, says_of}
 use Rattle.sheets.proofs.Marks.{says_each}
 
@@ -27,7 +27,7 @@ use Rattle.sheets.proofs.Marks.{says_each}
 abbrev pub Can : List ℕ → Said → Type 0
 Can l Start = length (drop 2 l) ≤ 72
 Can l (Global n at v) = Writable (length (drop at l)) v
-Can l (Entry known n f) = entry_of l ≡ Got known n f
+Can l (Entry known n f) = entry_of l ≡ entry_got known n f
 Can l (Given reference v) = Writable (length (drop 2 l)) v
 Can l (Last n) = Unit {0}
 Can l (Nothing b) = Unit {0}
@@ -57,9 +57,9 @@ module _ (l : List ℕ) where
   entry_can : Can l (entry_line_of (entry_of l))
   entry_can = pick (entry_of l) refl
     where
-      pick : (r : EntryLine) → entry_of l ≡ r → Can l (entry_line_of r)
-      pick (Got known n x) e = e
-      pick Wrong e = tt
+      pick : (r : Option EntryLine) → entry_of l ≡ r → Can l (entry_line_of r)
+      pick (Some r) e = e
+      pick None e = tt
 
   start_can : is_start (drop 2 l) ≡ true → length (drop 2 l) ≤ 72
   unfolding is_start

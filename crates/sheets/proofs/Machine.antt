@@ -7,6 +7,7 @@ use native.Mathlib.Omega.{arith}
 use lib.ListN.{length, get_or, take, drop}
 use lib.Dec.{ltb, leb, eqb}
 use borrow.Author.Tests.{le-leb, lt-leb, lt-ltb, le-ltb, eq-eqb, ne_eqb, ltb-true, leb-true}
+use Rattle.std.proofs.Common.{Option, Some, None}
 use Rattle.columns.specs.declared.Signed.{Signed}
 use Rattle.columns.specs.Columns.{columns, printable}
 use Rattle.columns.specs.Decimal.{dec}
@@ -19,7 +20,6 @@ use Rattle.values.specs.Strict.{strict_of}
 use Rattle.values.specs.Value.{is_missing}
 use Rattle.directory.specs.declared.Fields.{Fields}
 use Rattle.sheets.specs.declared.EntryLine.{EntryLine}
-use Rattle.sheets.specs.declared.EntryLine.TheVariants.{Got, Wrong}
 use Rattle.sheets.specs.declared.Said.{Said}
 use Rattle.sheets.specs.declared.Said.TheVariants.{Start, Global, Entry, Value as Given, Last, Nothing}
 use Rattle.sheets.specs.Plain.{plain_of, is_plain}
@@ -186,10 +186,10 @@ module _ (t : List ℕ) (n : ℕ) (m : n ≡ plain_fold t) where
   unfolding last_line
   last_no h = rw (tells_bad (plain-fold t) (omega arith))
 
-pub entry_yes : (x : EntryLine) (known : Bool) (n : Signed) (d : Fields) → x ≡ Got known n d → Entry known n d ≡ entry_line_of x
-entry_yes x known n d p = rw p
+pub entry_yes : (x : Option EntryLine) (r : EntryLine) → x ≡ Some r → Entry r.known r.number r.fields ≡ entry_line_of x
+entry_yes x r p = rw p
 
-pub entry_no : (x : EntryLine) → x ≡ Wrong → Nothing false ≡ entry_line_of x
+pub entry_no : (x : Option EntryLine) → x ≡ None → Nothing false ≡ entry_line_of x
 entry_no x p = rw p
 
 pub ruleset lines = (last_yes, last_no, entry_yes, entry_no)
@@ -230,11 +230,11 @@ module _ (s : List ℕ) (at end : ℕ) (lo : at ≤ end) (le : end ≤ length s)
           unfolding by_mark
           mark-g h q = q ∙ rw (marked, h)
 
-          pub mark_e : (x : EntryLine) → get_or s at 0 ≡ 69 → x ≡ entry_of (columns s at end) → r ≡ entry_line_of x → r ≡ says_of (columns s at end)
+          pub mark_e : (x : Option EntryLine) → get_or s at 0 ≡ 69 → x ≡ entry_of (columns s at end) → r ≡ entry_line_of x → r ≡ says_of (columns s at end)
           unfolding by_mark
           mark_e x h p q = q ∙ rw (marked, h, p)
 
-          pub mark-u : (x : EntryLine) → get_or s at 0 ≡ 85 → x ≡ entry_of (columns s at end) → r ≡ entry_line_of x → r ≡ says_of (columns s at end)
+          pub mark-u : (x : Option EntryLine) → get_or s at 0 ≡ 85 → x ≡ entry_of (columns s at end) → r ≡ entry_line_of x → r ≡ says_of (columns s at end)
           unfolding by_mark
           mark-u x h p q = q ∙ rw (marked, h, p)
 

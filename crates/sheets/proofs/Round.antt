@@ -10,6 +10,7 @@ use lib.ListN.{length, get_or, take, drop, length-append, drop_of_length-le}
 use lib.Seq.{take-append_seam, drop-append-add, drop-cons, drop_at}
 use lib.Dec.{ltb, leb, eqb}
 use borrow.Author.Tests.{lt-ltb, ne_eqb, eqb-true, ltb-true, leb-true}
+use Rattle.std.proofs.Common.{Option, None}
 use Rattle.columns.specs.Decimal.{dec, signed_dec, zero_filled}
 use Rattle.columns.specs.Columns.{printable}
 use Rattle.values.specs.Number.{value}
@@ -17,10 +18,9 @@ use Rattle.columns.proofs.Decimals.{print_dec, print_signed, print_right}
 use Rattle.columns.specs.declared.Signed.{Signed}
 use Rattle.directory.specs.declared.Fields.{Fields}
 use Rattle.sheets.specs.declared.EntryLine.{EntryLine}
-use Rattle.sheets.specs.declared.EntryLine.TheVariants.{Got, Wrong}
 use Rattle.directory.specs.Fields.{nought, in_order, fields_of}
 use Rattle.sheets.specs.Plain.{sized, is_signed, signed_number, status_number}
-use Rattle.sheets.specs.Line.{is_entry_number, entry_number, spell, spells, run, is_label, entry_from, numbers_of, entry_of, label_of, entry_line}
+use Rattle.sheets.specs.Line.{is_entry_number, entry_number, spell, spells, run, is_label, entry_from, numbers_of, entry_of, label_of, entry_line, entry_got}
 use Rattle.sheets.specs.WellFormed.{Proper}
 use Rattle.columns.proofs.Tests.{both, both_left, both_right}
 use Rattle.sheets.proofs.Plains.{run-here, run_on}
@@ -126,7 +126,7 @@ numbers_round known label l (cons {left} {x} {xs} f a) acc =
     ∙ numbers_round known label l a (acc ++ (x ∷ [])) ∙ rw append_assoc)
 
 -- what is known of a text that was read
-pub record Back (known : Bool) (left : ℕ) (acc : List Signed) (t : List ℕ) (r : EntryLine) : Type 0 where
+pub record Back (known : Bool) (left : ℕ) (acc : List Signed) (t : List ℕ) (r : Option EntryLine) : Type 0 where
   pub xs : List Signed
   pub label : List ℕ
   pub fit : AllFit left xs
@@ -134,11 +134,11 @@ pub record Back (known : Bool) (left : ℕ) (acc : List Signed) (t : List ℕ) (
   pub text : spells left xs ++ label ≡ t
   pub entry : r ≡ entry_from known (acc ++ xs)
 
-numbers_back : (known : Bool) (left : ℕ) (acc : List Signed) (t : List ℕ) (r : EntryLine) → (r ≡ Wrong → ⊥) → numbers_of known left acc t ≡ r → Back known left acc t r
+numbers_back : (known : Bool) (left : ℕ) (acc : List Signed) (t : List ℕ) (r : Option EntryLine) → (r ≡ None → ⊥) → numbers_of known left acc t ≡ r → Back known left acc t r
 unfolding numbers_of spells
 numbers_back known zero acc t r n e = pick (is_label t) refl e
   where
-    pick : (b : Bool) → is_label t ≡ b → elim b [ true ↦ entry_from known acc | false ↦ Wrong ] ≡ r → Back known 0 acc t r
+    pick : (b : Bool) → is_label t ≡ b → elim b [ true ↦ entry_from known acc | false ↦ None ] ≡ r → Back known 0 acc t r
     pick true l e = record { xs = []; label = t; fit = nil; good = l; text = refl; entry = rw append-nil (sym e) }
     pick false l e = absurd (n (sym e))
 numbers_back known (suc left) acc t r n e = pick (ltb (run 9 t) (length t)) refl (is_entry_number left (take (run 9 t) t)) refl e (numbers_back known left (acc ++ (entry_number left (take (run 9 t) t) ∷ [])) (drop (suc (run 9 t)) t) r n)
@@ -147,7 +147,7 @@ numbers_back known (suc left) acc t r n e = pick (ltb (run 9 t) (length t)) refl
     x = entry_number left (take (run 9 t) t)
 
     pick : (b : Bool) → ltb (run 9 t) (length t) ≡ b → (c : Bool) → is_entry_number left (take (run 9 t) t) ≡ c
-        → elim (b && c) [ true ↦ numbers_of known left (acc ++ (x ∷ [])) (drop (suc (run 9 t)) t) | false ↦ Wrong ] ≡ r
+        → elim (b && c) [ true ↦ numbers_of known left (acc ++ (x ∷ [])) (drop (suc (run 9 t)) t) | false ↦ None ] ≡ r
         → (numbers_of known left (acc ++ (x ∷ [])) (drop (suc (run 9 t)) t) ≡ r → Back known left (acc ++ (x ∷ [])) (drop (suc (run 9 t)) t) r)
         → Back known (suc left) acc t r
     pick true eb true ec e ih =
@@ -185,7 +185,7 @@ thirteen [] a = absurd (omega (arith, fit_length a))
 thirteen (x ∷ xs) a = ap (λ (l : List Signed). x ∷ l) (sym (listed_all 12 0 xs (omega (arith, fit_length a))))
 
 pub entry_round : (known : Bool) (n : ℕ) (e : Fields) (label : List ℕ) → AllFit 13 (sized false n ∷ in_order e) → is_label label ≡ true
-    → entry_of (entry_line known n e label) ≡ Got known (sized false n) e
+    → entry_of (entry_line known n e label) ≡ entry_got known (sized false n) e
 unfolding entry_of entry_line
 entry_round true n e label a l = numbers_round true label l a []
 entry_round false n e label a l = numbers_round false label l a []
@@ -212,22 +212,29 @@ pub record Spelt (t : List ℕ) (known : Bool) (n : Signed) (e : Fields) : Type 
   pub fit : AllFit 13 (n ∷ in_order e)
   pub label : is_label (label_of t) ≡ true
 
-numbers_spelt : (known : Bool) (t : List ℕ) (k : Bool) (n : Signed) (e : Fields) → numbers_of known 13 [] t ≡ Got k n e
-    → (known ≡ k) × AllFit 13 (n ∷ in_order e) × ((label : List ℕ) × (is_label label ≡ true) × (spells 13 (n ∷ in_order e) ++ label ≡ t))
-numbers_spelt known t k n e h = whole (numbers_back known 13 [] t (Got k n e) (λ w. let z : ◌≡◌ {A = ℕ} 0 1 = cc in omega arith) h)
-  where
-    named : (xs : List Signed) → AllFit 13 xs → Got k n e ≡ Got known (get_or xs 0 nought) (fields_of (drop 1 xs)) → (known ≡ k) × (n ∷ in_order e ≡ xs)
-    named xs a g =
-        let gn : n ≡ get_or xs 0 nought = cc in
-        let ge : e ≡ fields_of (drop 1 xs) = cc in
-        (cc, rw (gn, ge) (thirteen xs a))
+-- two lines that say the same
+pub same_line : {a b : Bool} {n m : Signed} {x y : Fields} → entry_got a n x ≡ entry_got b m y → (a ≡ b) × (n ≡ m) × (x ≡ y)
+same_line {a} {b} {n} {m} {x} {y} g =
+    let one : EntryLine = record { known = a; number = n; fields = x } in
+    let two : EntryLine = record { known = b; number = m; fields = y } in
+    let e : one ≡ two = cc in
+    (ap (λ (r : EntryLine). r.known) e, ap (λ (r : EntryLine). r.number) e, ap (λ (r : EntryLine). r.fields) e)
 
-    whole : Back known 13 [] t (Got k n e) → (known ≡ k) × AllFit 13 (n ∷ in_order e) × ((label : List ℕ) × (is_label label ≡ true) × (spells 13 (n ∷ in_order e) ++ label ≡ t))
+numbers_spelt : (known : Bool) (t : List ℕ) (k : Bool) (n : Signed) (e : Fields) → numbers_of known 13 [] t ≡ entry_got k n e
+    → (known ≡ k) × AllFit 13 (n ∷ in_order e) × ((label : List ℕ) × (is_label label ≡ true) × (spells 13 (n ∷ in_order e) ++ label ≡ t))
+numbers_spelt known t k n e h = whole (numbers_back known 13 [] t (entry_got k n e) (λ w. let z : ◌≡◌ {A = ℕ} 0 1 = cc in omega arith) h)
+  where
+    named : (xs : List Signed) → AllFit 13 xs → entry_got k n e ≡ entry_got known (get_or xs 0 nought) (fields_of (drop 1 xs)) → (known ≡ k) × (n ∷ in_order e ≡ xs)
+    named xs a g =
+        let s = same_line g in
+        (sym s.0, rw (s.1, s.2) (thirteen xs a))
+
+    whole : Back known 13 [] t (entry_got k n e) → (known ≡ k) × AllFit 13 (n ∷ in_order e) × ((label : List ℕ) × (is_label label ≡ true) × (spells 13 (n ∷ in_order e) ++ label ≡ t))
     whole b =
         let o = named b.xs b.fit b.entry in
         (o.0, rw o.1 b.fit, (b.label, b.good, rw o.1 b.text))
 
-pub entry_back : (t : List ℕ) (known : Bool) (n : Signed) (e : Fields) → entry_of t ≡ Got known n e → Spelt t known n e
+pub entry_back : (t : List ℕ) (known : Bool) (n : Signed) (e : Fields) → entry_of t ≡ entry_got known n e → Spelt t known n e
 unfolding entry_of entry_line
 entry_back t known n e h = pick (eqb (get_or t 1 0) 9) refl (eqb (get_or t 0 0) 69) refl (eqb (get_or t 0 0) 85) refl h
   where
@@ -246,13 +253,13 @@ entry_back t known n e h = pick (eqb (get_or t 1 0) 9) refl (eqb (get_or t 0 0) 
           label = rw o l;
         }
 
-    spelt : (m : ℕ) (k : Bool) → get_or t 0 0 ≡ m → get_or t 1 0 ≡ 9 → cond k 69 85 ≡ m → numbers_of k 13 [] (drop 2 t) ≡ Got known n e → Spelt t known n e
+    spelt : (m : ℕ) (k : Bool) → get_or t 0 0 ≡ m → get_or t 1 0 ≡ 9 → cond k 69 85 ≡ m → numbers_of k 13 [] (drop 2 t) ≡ entry_got known n e → Spelt t known n e
     spelt m k p q c h =
         let b = numbers_spelt k (drop 2 t) known n e h in
         whole m p q (rw b.0 at c) b.1 b.2.0 b.2.1 b.2.2
 
     pick : (a : Bool) → eqb (get_or t 1 0) 9 ≡ a → (b : Bool) → eqb (get_or t 0 0) 69 ≡ b → (c : Bool) → eqb (get_or t 0 0) 85 ≡ c
-        → cond a (cond b (numbers_of true 13 [] (drop 2 t)) (cond c (numbers_of false 13 [] (drop 2 t)) Wrong)) Wrong ≡ Got known n e → Spelt t known n e
+        → cond a (cond b (numbers_of true 13 [] (drop 2 t)) (cond c (numbers_of false 13 [] (drop 2 t)) None)) None ≡ entry_got known n e → Spelt t known n e
     pick true ea true eb c ec h = spelt 69 true (eqb-true _ _ eb) (eqb-true _ _ ea) refl h
     pick true ea false eb true ec h = spelt 85 false (eqb-true _ _ ec) (eqb-true _ _ ea) refl h
     pick true ea false eb false ec h = absurd (let z : ◌≡◌ {A = ℕ} 0 1 = cc in omega arith)

@@ -10,6 +10,7 @@ use lib.ListN.{length, get_or, take, drop, length-append}
 use lib.Seq.{take-append_seam, drop-append-add}
 use lib.Dec.{leb, eqb}
 use borrow.Author.Tests.{le-leb, lt-ltb, eq-eqb, ne_eqb}
+use Rattle.std.proofs.Common.{Option, Some, None}
 use Rattle.columns.specs.declared.Signed.{Signed}
 use Rattle.columns.specs.Columns.{printable}
 use Rattle.columns.specs.Decimal.{dec}
@@ -24,7 +25,6 @@ use Rattle.values.proofs.Sizes.{print_spelled}
 use Rattle.directory.specs.declared.Fields.{Fields}
 use Rattle.directory.specs.Fields.{in_order}
 use Rattle.sheets.specs.declared.EntryLine.{EntryLine}
-use Rattle.sheets.specs.declared.EntryLine.TheVariants.{Got, Wrong}
 use Rattle.sheets.specs.declared.Said.{Said}
 use Rattle.sheets.specs.declared.Said.TheVariants.{Global, Nothing}
 use Rattle.sheets.specs.Plain.{plain_of, is_plain, sized}
@@ -316,9 +316,9 @@ entry-spelt s z = (w_entry z s.fit s.label, s.text z)
 entry-told : (l : List ℕ) → Told l (line_from l (entry_line_of (entry_of l)))
 entry-told l = pick (entry_of l) refl
   where
-    pick : (r : EntryLine) → entry_of l ≡ r → Told l (line_from l (entry_line_of r))
-    pick (Got known n e) h = entry-spelt (entry_back l known n e h)
-    pick Wrong h = untold l false
+    pick : (r : Option EntryLine) → entry_of l ≡ r → Told l (line_from l (entry_line_of r))
+    pick (Some r) h = entry-spelt (entry_back l r.known r.number r.fields h)
+    pick None h = untold l false
 
 value-told : (reference : Bool) (m : ℕ) (t : List ℕ) → cond reference 82 86 ≡ m → Told (m ∷ (9 ∷ t)) (line_from (m ∷ (9 ∷ t)) (value_of reference (strict_of t)))
 unfolding line_of

@@ -6,6 +6,7 @@ use Prim.Native.Nat.{ℕ, zero, suc, ◌+◌, ◌-◌, ◌*◌, ◌≤◌, ◌<�
 use native.Mathlib.Omega.{arith}
 use native.Mathlib.Decide.{ℕ_discrete}
 use lib.ListN.{length, get_or}
+use Rattle.std.proofs.Common.{Err, Ok}
 use Rattle.columns.specs.declared.Fault.TheVariants.{SheetLine as WrongSheet}
 use Rattle.columns.specs.declared.Signed.{Signed}
 use Rattle.columns.specs.declared.SheetLine.{SheetLine}
@@ -13,11 +14,9 @@ use Rattle.columns.specs.Refusal.{accepted, refused}
 use Rattle.values.specs.Value.{Item}
 use Rattle.directory.specs.declared.Fields.{Fields}
 use Rattle.directory.specs.Fields.{nought, in_order}
-use Rattle.sheets.specs.declared.SheetVerdict.{SheetVerdict}
-use Rattle.sheets.specs.declared.SheetVerdict.TheVariants.{Good, Wrong}
 use Rattle.sheets.specs.Plain.{sized}
 use Rattle.sheets.specs.Sheet.{Line, is_start, pieces_of, said_by_all, lines_in, Row, Sheet, start_lines, global_lines, value_lines, row_lines, lines_of, sheet_text, parts, parts_of, sheet_of}
-use Rattle.sheets.specs.Order.{begin, go_lines, verdict_of, outcome, read_sheet}
+use Rattle.sheets.specs.Order.{begin, go_lines, verdict_of, outcome, read_sheet, SheetVerdict}
 use Rattle.sheets.specs.WellFormed.{Each, none as no-each, one as an-each, Proper, Numbered, Held, Filled, RowSpelt, Spelt, WellFormed}
 use Rattle.sheets.proofs.Round.{Fits, eight, plain, AllFit, nil, cons}
 use Rattle.sheets.proofs.Says.{own, w_start, w_global, w_entry, w_value, w_last, AllWell, no_lines, a-line, text_round, text_back}
@@ -184,7 +183,7 @@ pub lines-written : {s : Sheet} → Spelt s → lines_in (sheet_text s) ≡ line
 unfolding lines_in sheet_text
 lines-written p = text_round (all_well p)
 
-pub verdict-written : (s : Sheet) → WellFormed s → verdict_of (sheet_text s) ≡ Good (length s.rows)
+pub verdict-written : (s : Sheet) → WellFormed s → verdict_of (sheet_text s) ≡ Ok (length s.rows)
 unfolding verdict_of
 verdict-written s w = ap (go_lines begin) (lines-written w.spelt) ∙ sheet-on s w.ordered
 
@@ -200,7 +199,7 @@ pub record Written (t : List ℕ) (n : ℕ) (s : Sheet) : Type 0 where
   pub lines : lines_in t ≡ lines_of s
   pub count : n ≡ length s.rows
 
-pub good_written : (t : List ℕ) (n : ℕ) → verdict_of t ≡ Good n → Written t n (sheet_of (lines_in t))
+pub good_written : (t : List ℕ) (n : ℕ) → verdict_of t ≡ Ok n → Written t n (sheet_of (lines_in t))
 unfolding verdict_of lines_in sheet_text
 good_written t n h =
     let o = order_back (said_by_all (pieces_of t)) n h in
@@ -218,18 +217,18 @@ unfolding read_sheet
 written_read t s h = pick (verdict_of t) refl h
   where
     pick : (v : SheetVerdict) → verdict_of t ≡ v → outcome (sheet_of (lines_in t)) v ≡ accepted s → Written t (length s.rows) s
-    pick (Good n) e h =
+    pick (Ok n) e h =
         let g : sheet_of (lines_in t) ≡ s = cc in
         let w = good_written t n e in
         rw g at (rw w.count at w)
-    pick (Wrong n) e h = absurd (let z : ◌≡◌ {A = ℕ} 0 1 = cc in omega arith)
+    pick (Err n) e h = absurd (let z : ◌≡◌ {A = ℕ} 0 1 = cc in omega arith)
 
 -- the outcome by the verdict
-pub read_good : (t : List ℕ) (n : ℕ) → verdict_of t ≡ Good n → read_sheet t ≡ accepted (sheet_of (lines_in t))
+pub read_good : (t : List ℕ) (n : ℕ) → verdict_of t ≡ Ok n → read_sheet t ≡ accepted (sheet_of (lines_in t))
 unfolding read_sheet
 read_good t n e = rw e
 
-pub read-wrong : (t : List ℕ) (w : SheetLine) → verdict_of t ≡ Wrong w → read_sheet t ≡ refused WrongSheet w.0
+pub read-wrong : (t : List ℕ) (w : SheetLine) → verdict_of t ≡ Err w → read_sheet t ≡ refused WrongSheet w.0
 unfolding read_sheet
 read-wrong t w e = rw e
 

@@ -7,49 +7,47 @@ use native.Mathlib.Omega.{arith}
 use lib.ListN.{length}
 use lib.Dec.{ltb, leb, eqb}
 use borrow.Author.Tests.{eq-eqb, ne_eqb, eqb-true, leb-true, ltb-true}
+use Rattle.std.proofs.Common.{Err, Ok}
 use Rattle.columns.specs.declared.Signed.{Signed}
 use Rattle.directory.specs.declared.Fields.{Fields}
 use Rattle.sheets.specs.declared.SheetState.{SheetState}
-use Rattle.sheets.specs.declared.SheetStep.{SheetStep}
-use Rattle.sheets.specs.declared.SheetStep.TheVariants.{On, Off}
-use Rattle.sheets.specs.declared.SheetVerdict.TheVariants.{Good, Wrong}
 use Rattle.sheets.specs.Plain.{sized}
 use Rattle.values.specs.Value.{Item, is_default}
 use Rattle.sheets.specs.Sheet.{Line, start, global, entry, value, last, none, start_lines, global_lines, value_lines, row_lines, lines_of, Parts, parts, with, parts_of, sheet_of}
-use Rattle.sheets.specs.Order.{sheet_line, begin, next, closed, start_step, global_step, entry_step, value_step, last_step, none_step, step_line, verdict, finish, go_lines}
+use Rattle.sheets.specs.Order.{sheet_line, begin, next, closed, start_step, global_step, entry_step, value_step, last_step, none_step, step_line, verdict, finish, go_lines, SheetStep, SheetVerdict}
 use Rattle.sheets.specs.WellFormed.{ends_default, Rising, no_more, higher, Closed, no_rows, a-row, Ordered}
 use Rattle.sheets.proofs.Says.{Says, AllSaid, none_said, one-said}
 use Rattle.columns.proofs.Tests.{both_left, both_right}
 use Rattle.columns.specs.declared.SheetLine.{SheetLine}
 
 -- ---- a step that goes on, taken back
-never_on : {A : Type 0} {n : SheetLine} {st : SheetState} → Off n ≡ On st → A
+never_on : {A : Type 0} {n : SheetLine} {st : SheetState} → Err n ≡ Ok st → A
 never_on e = absurd (let z : ◌≡◌ {A = ℕ} 0 1 = cc in omega arith)
 
-never_good : {A : Type 0} {n : SheetLine} {k : ℕ} → Wrong n ≡ Good k → A
+never_good : {A : Type 0} {n : SheetLine} {k : ℕ} → Err n ≡ Ok k → A
 never_good e = absurd (let z : ◌≡◌ {A = ℕ} 0 1 = cc in omega arith)
 
-closed_inv : (st st' : SheetState) (x : SheetStep) → closed st x ≡ On st' → (st.run.0 ≡ 0) × (x ≡ On st')
+closed_inv : (st st' : SheetState) (x : SheetStep) → closed st x ≡ Ok st' → (st.run.0 ≡ 0) × (x ≡ Ok st')
 unfolding closed
 closed_inv st st' x h = pick (eqb st.run.0 0) refl h
   where
-    pick : (b : Bool) → eqb st.run.0 0 ≡ b → cond b x (Off st.run) ≡ On st' → (st.run.0 ≡ 0) × (x ≡ On st')
+    pick : (b : Bool) → eqb st.run.0 0 ≡ b → cond b x (Err st.run) ≡ Ok st' → (st.run.0 ≡ 0) × (x ≡ Ok st')
     pick true e h = (eqb-true st.run.0 0 e, h)
     pick false e h = never_on h
 
-cond_inv : (c : Bool) (a st' : SheetState) (n : SheetLine) → cond c (On a) (Off n) ≡ On st' → (c ≡ true) × (st' ≡ a)
+cond_inv : (c : Bool) (a st' : SheetState) (n : SheetLine) → cond c (Ok a) (Err n) ≡ Ok st' → (c ≡ true) × (st' ≡ a)
 cond_inv true a st' n h = (refl, cc)
 cond_inv false a st' n h = never_on h
 
 module _ (st st' : SheetState) where
-  pub start_inv : start_step st ≡ On st' → (st.run.0 ≡ 0) × (st.section ≤ 1) × (st' ≡ next st 1 st.field st.entries 0)
+  pub start_inv : start_step st ≡ Ok st' → (st.run.0 ≡ 0) × (st.section ≤ 1) × (st' ≡ next st 1 st.field st.entries 0)
   unfolding start_step
   start_inv h =
       let c = closed_inv st st' _ h in
       let d = cond_inv (leb st.section 1) _ st' _ c.1 in
       (c.0, leb-true _ _ d.0, d.1)
 
-  pub global_inv : (n : ℕ) → global_step st n ≡ On st' → (st.run.0 ≡ 0) × (1 ≤ st.section) × (st.section ≤ 2) × (st.field < n) × (st' ≡ next st 2 n st.entries 0)
+  pub global_inv : (n : ℕ) → global_step st n ≡ Ok st' → (st.run.0 ≡ 0) × (1 ≤ st.section) × (st.section ≤ 2) × (st.field < n) × (st' ≡ next st 2 n st.entries 0)
   unfolding global_step
   global_inv n h =
       let c = closed_inv st st' _ h in
@@ -57,7 +55,7 @@ module _ (st st' : SheetState) where
       let e = both_right (leb 1 st.section) (leb st.section 2 && ltb st.field n) d.0 in
       (c.0, leb-true _ _ (both_left (leb 1 st.section) (leb st.section 2 && ltb st.field n) d.0), leb-true _ _ (both_left (leb st.section 2) (ltb st.field n) e), ltb-true _ _ (both_right (leb st.section 2) (ltb st.field n) e), d.1)
 
-  pub entry_inv : (x : Signed) → entry_step st x ≡ On st' → (st.run.0 ≡ 0) × (1 ≤ st.section) × (st.section ≤ 3) × (x ≡ sized false (2 * st.entries + 1)) × (st' ≡ next st 3 st.field (st.entries + 1) 0)
+  pub entry_inv : (x : Signed) → entry_step st x ≡ Ok st' → (st.run.0 ≡ 0) × (1 ≤ st.section) × (st.section ≤ 3) × (x ≡ sized false (2 * st.entries + 1)) × (st' ≡ next st 3 st.field (st.entries + 1) 0)
   unfolding entry_step
   entry_inv x h =
       let c = closed_inv st st' _ h in
@@ -70,13 +68,13 @@ module _ (st st' : SheetState) where
       number true m e = absurd (let z : ◌≡◌ {A = ℕ} 0 1 = cc in omega arith)
       number false m e = ap (sized false) (eqb-true m (2 * st.entries + 1) e)
 
-  pub value_inv : (b : Bool) → value_step st b ≡ On st' → (st.section ≡ 3) × (st' ≡ next st 3 st.field st.entries (cond b (cond (eqb st.run.0 0) (st.line + 1) st.run.0) 0))
+  pub value_inv : (b : Bool) → value_step st b ≡ Ok st' → (st.section ≡ 3) × (st' ≡ next st 3 st.field st.entries (cond b (cond (eqb st.run.0 0) (st.line + 1) st.run.0) 0))
   unfolding value_step
   value_inv b h =
       let d = cond_inv (eqb st.section 3) _ st' _ h in
       (eqb-true _ _ d.0, d.1)
 
-  pub last_inv : (n : ℕ) → last_step st n ≡ On st' → (st.run.0 ≡ 0) × (1 ≤ st.section) × (st.section ≤ 3) × (n ≡ st.entries) × (st' ≡ next st 4 st.field st.entries 0)
+  pub last_inv : (n : ℕ) → last_step st n ≡ Ok st' → (st.run.0 ≡ 0) × (1 ≤ st.section) × (st.section ≤ 3) × (n ≡ st.entries) × (st' ≡ next st 4 st.field st.entries 0)
   unfolding last_step
   last_inv n h =
       let c = closed_inv st st' _ h in
@@ -84,29 +82,29 @@ module _ (st st' : SheetState) where
       let e = both_right (leb 1 st.section) (leb st.section 3 && eqb n st.entries) d.0 in
       (c.0, leb-true _ _ (both_left (leb 1 st.section) (leb st.section 3 && eqb n st.entries) d.0), leb-true _ _ (both_left (leb st.section 3) (eqb n st.entries) e), eqb-true _ _ (both_right (leb st.section 3) (eqb n st.entries) e), d.1)
 
-  pub none_inv : (b : Bool) → none_step st b ≡ On st' → ⊥
+  pub none_inv : (b : Bool) → none_step st b ≡ Ok st' → ⊥
   unfolding none_step
   none_inv true h = never_on h
   none_inv false h = never_on (closed_inv st st' _ h).1
 
-pub go_inv : (st : SheetState) (i : Line) (is : List Line) (n : ℕ) → go_lines st (i ∷ is) ≡ Good n → (st' : SheetState) × (step_line st i ≡ On st') × (go_lines st' is ≡ Good n)
+pub go_inv : (st : SheetState) (i : Line) (is : List Line) (n : ℕ) → go_lines st (i ∷ is) ≡ Ok n → (st' : SheetState) × (step_line st i ≡ Ok st') × (go_lines st' is ≡ Ok n)
 unfolding go_lines
 go_inv st i is n h = pick (step_line st i) refl h
   where
-    pick : (x : SheetStep) → step_line st i ≡ x → elim x [ On st' ↦ go_lines st' is | Off m ↦ Wrong m ] ≡ Good n → (st' : SheetState) × (step_line st i ≡ On st') × (go_lines st' is ≡ Good n)
-    pick (On st') e h = (st', e, h)
-    pick (Off m) e h = never_good h
+    pick : (x : SheetStep) → step_line st i ≡ x → ◌≡◌ {A = SheetVerdict} (elim x [ Ok st' ↦ go_lines st' is | Err m ↦ Err m ]) (Ok n) → (st' : SheetState) × (step_line st i ≡ Ok st') × (go_lines st' is ≡ Ok n)
+    pick (Ok st') e h = (st', e, h)
+    pick (Err m) e h = never_good h
 
-end_inv : (st : SheetState) (n : ℕ) → go_lines st [] ≡ Good n → (st.section ≡ 4) × (n ≡ st.entries)
+end_inv : (st : SheetState) (n : ℕ) → go_lines st [] ≡ Ok n → (st.section ≡ 4) × (n ≡ st.entries)
 unfolding go_lines finish closed
 end_inv st n h = pick (eqb st.section 4) refl (eqb st.run.0 0) h
   where
-    pick : (a : Bool) → eqb st.section 4 ≡ a → (b : Bool) → cond a (Good st.entries) (verdict (cond b (Off (sheet_line (st.line + 1))) (Off st.run))) ≡ Good n → (st.section ≡ 4) × (n ≡ st.entries)
+    pick : (a : Bool) → eqb st.section 4 ≡ a → (b : Bool) → cond a (Ok st.entries) (verdict (cond b (Err (sheet_line (st.line + 1))) (Err st.run))) ≡ Ok n → (st.section ≡ 4) × (n ≡ st.entries)
     pick true e b h = (eqb-true _ _ e, cc)
     pick false e true h = never_good h
     pick false e false h = never_good h
 
-says : (st : SheetState) (i : Line) (st' : SheetState) → step_line st i ≡ On st' → Says i
+says : (st : SheetState) (i : Line) (st' : SheetState) → step_line st i ≡ Ok st' → Says i
 says st (start t) st' e = tt
 says st (global m v) st' e = tt
 says st (entry known x d label) st' e = ap (λ (y : Signed). y.neg) (entry_inv st st' x e).3
@@ -115,20 +113,20 @@ says st (last m) st' e = tt
 says st (none b) st' e = none_inv st st' b e
 
 -- every line says something
-pub all_said : (is : List Line) (st : SheetState) (n : ℕ) → go_lines st is ≡ Good n → AllSaid is
+pub all_said : (is : List Line) (st : SheetState) (n : ℕ) → go_lines st is ≡ Ok n → AllSaid is
 all_said [] st n h = none_said
 all_said (i ∷ is) st n h =
     let g = go_inv st i is n h in
     one-said (says st i g.0 g.1) (all_said is g.0 n g.2)
 
 -- after Z nothing comes
-four : (is : List Line) (st : SheetState) (n : ℕ) → go_lines st is ≡ Good n → st.section ≡ 4 → (is ≡ []) × (n ≡ st.entries)
+four : (is : List Line) (st : SheetState) (n : ℕ) → go_lines st is ≡ Ok n → st.section ≡ 4 → (is ≡ []) × (n ≡ st.entries)
 four [] st n h s = (refl, (end_inv st n h).1)
 four (i ∷ is) st n h s =
     let g = go_inv st i is n h in
     pick i g.0 g.1
   where
-    pick : (i : Line) (st' : SheetState) → step_line st i ≡ On st' → (i ∷ is ≡ []) × (n ≡ st.entries)
+    pick : (i : Line) (st' : SheetState) → step_line st i ≡ Ok st' → (i ∷ is ≡ []) × (n ≡ st.entries)
     pick (start t) st' e = absurd (omega (arith, (start_inv st st' e).1))
     pick (global m v) st' e = absurd (omega (arith, (global_inv st st' m e).2))
     pick (entry known x d label) st' e = absurd (omega (arith, (entry_inv st st' x e).2))
@@ -246,14 +244,14 @@ last_whole st n m r s e d = record {
   rows = no_rows;
 }
 
-whole : (is : List Line) (st : SheetState) (n : ℕ) → go_lines st is ≡ Good n → st.section ≤ 3 → Whole st is n (parts_of is)
+whole : (is : List Line) (st : SheetState) (n : ℕ) → go_lines st is ≡ Ok n → st.section ≤ 3 → Whole st is n (parts_of is)
 unfolding parts_of
 whole [] st n h s = absurd (omega (arith, (end_inv st n h).0))
 whole (i ∷ is) st n h s =
     let g = go_inv st i is n h in
     pick i g.0 g.1 g.2 (λ a. whole is a n)
   where
-    pick : (i : Line) (st' : SheetState) → step_line st i ≡ On st' → go_lines st' is ≡ Good n → ((a : SheetState) → go_lines a is ≡ Good n → a.section ≤ 3 → Whole a is n (parts_of is)) → Whole st (i ∷ is) n (with i (parts_of is))
+    pick : (i : Line) (st' : SheetState) → step_line st i ≡ Ok st' → go_lines st' is ≡ Ok n → ((a : SheetState) → go_lines a is ≡ Ok n → a.section ≤ 3 → Whole a is n (parts_of is)) → Whole st (i ∷ is) n (with i (parts_of is))
     pick (start t) st' e q ih =
         let v = start_inv st st' e in
         start_whole st is n (parts_of is) t v.0 v.1 (ih _ (rw v.2 at q) (omega arith))
@@ -273,7 +271,7 @@ whole (i ∷ is) st n h s =
     pick (none b) st' e q ih = absurd (none_inv st st' b e)
 
 -- what is taken from the start is the lines of its model
-pub order_back : (is : List Line) (n : ℕ) → go_lines begin is ≡ Good n → (lines_of (sheet_of is) ≡ is) × Ordered (sheet_of is) × (n ≡ length (sheet_of is).rows)
+pub order_back : (is : List Line) (n : ℕ) → go_lines begin is ≡ Ok n → (lines_of (sheet_of is) ≡ is) × Ordered (sheet_of is) × (n ≡ length (sheet_of is).rows)
 unfolding lines_of sheet_of value_lines
 order_back is n h = named (parts_of is) (whole is begin n h (omega arith))
   where

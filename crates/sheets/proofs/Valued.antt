@@ -8,6 +8,7 @@ use native.Mathlib.Decide.{ℕ_discrete, dec_le}
 use lib.ListN.{length, get_or, take, drop}
 use lib.Dec.{eqb}
 use borrow.Author.Tests.{eqb-true, ne_eqb}
+use Rattle.std.proofs.Common.{Option, Some, None}
 use Rattle.columns.specs.Columns.{columns}
 use Rattle.columns.proofs.Columns.{byte_of}
 use Rattle.columns.proofs.Tests.{cond_cases, both_left, both_right, true_false}
@@ -16,7 +17,6 @@ use Rattle.std.specs.Prelude.{Option, Some, None}
 use Rattle.values.specs.Strict.{strict_of}
 use Rattle.values.specs.Value.{is_missing}
 use Rattle.sheets.specs.declared.EntryLine.{EntryLine}
-use Rattle.sheets.specs.declared.EntryLine.TheVariants.{Got, Wrong}
 use Rattle.sheets.specs.declared.Said.TheVariants.{Global, Value as Given, Nothing}
 use Rattle.sheets.specs.Plain.{plain_of}
 use Rattle.sheets.specs.Line.{run, entry_of}
@@ -78,9 +78,9 @@ no_globals : (t : List ℕ) → NoValue (global_line t)
 unfolding global_line
 no_globals t = no_global (is_numbered t) (plain_of (take (run 9 t) t)) (2 + suc (run 9 t)) (strict_of (drop (suc (run 9 t)) t))
 
-no_entry_lem : (x : EntryLine) → NoValue (entry_line_of x)
-no_entry_lem (Got known n x) = tt
-no_entry_lem Wrong = tt
+no_entry_lem : (x : Option EntryLine) → NoValue (entry_line_of x)
+no_entry_lem (Some r) = tt
+no_entry_lem None = tt
 
 -- a line with a value line's mark
 marked-value : (l : List ℕ) (reference : Bool) → Marked l (cond reference 82 86) → is_value l ≡ true

@@ -9,11 +9,9 @@ use lib.ListN.{length, take, drop, length-drop}
 use lib.Seq.{drop-drop}
 use lib.Dec.{eqb}
 use borrow.Author.Tests.{eq-eqb, ne_eqb}
+use Rattle.std.proofs.Common.{Err, Ok}
 use Rattle.columns.specs.Columns.{columns}
 use Rattle.sheets.specs.declared.SheetState.{SheetState}
-use Rattle.sheets.specs.declared.SheetStep.{SheetStep}
-use Rattle.sheets.specs.declared.SheetStep.TheVariants.{On, Off}
-use Rattle.sheets.specs.declared.SheetVerdict.TheVariants.{Good, Wrong}
 use Rattle.sheets.specs.Line.{run}
 use Rattle.values.specs.Value.{is_default}
 use Rattle.values.proofs.OneSpelling.{missing}
@@ -21,7 +19,7 @@ use Rattle.columns.specs.declared.SheetLine.{SheetLine}
 use Rattle.sheets.specs.declared.Said.{Said}
 use Rattle.sheets.specs.declared.Said.TheVariants.{Start, Global, Entry, Value as Given, Last, Nothing}
 use Rattle.sheets.specs.Sheet.{Line, start, global, entry, value, last, none, line_from, into, pieces_of, says_of, said_by, said_by_all, lines_in}
-use Rattle.sheets.specs.Order.{sheet_line, closed, value_step, none_step, step_line, finish}
+use Rattle.sheets.specs.Order.{sheet_line, closed, value_step, none_step, step_line, finish, SheetStep}
 use Rattle.sheets.specs.Reading.{step_said, piece_verdict}
 use Rattle.sheets.proofs.Plains.{run-here, run_on}
 use Rattle.sheets.proofs.Says.{pieces_lf, pieces_on, pieces_none, pieces_some, lines_more}
@@ -29,24 +27,24 @@ use Rattle.sheets.proofs.Takes.{start_inv, global_inv, entry_inv, value_inv, las
 
 -- ---- the end
 module _ (st : SheetState) where
-  pub finish_good : st.section ≡ 4 → Good st.entries ≡ finish st
+  pub finish_good : st.section ≡ 4 → Ok st.entries ≡ finish st
   unfolding finish
   finish_good h = simp (eq-eqb _ _ h)
 
   module _ (h : st.section ≡ 4 → ⊥) where
-    pub finish-run : (st.run.0 ≡ 0 → ⊥) → Wrong st.run ≡ finish st
+    pub finish-run : (st.run.0 ≡ 0 → ⊥) → Err st.run ≡ finish st
     unfolding finish closed
     finish-run k = simp (ne_eqb _ _ h, ne_eqb _ _ k)
 
-    pub finish_soon : st.run.0 ≡ 0 → Wrong (sheet_line (st.line + 1)) ≡ finish st
+    pub finish_soon : st.run.0 ≡ 0 → Err (sheet_line (st.line + 1)) ≡ finish st
     unfolding finish closed
     finish_soon k = simp (ne_eqb _ _ h, eq-eqb _ _ k)
 
   module _ (b : Bool) (x : SheetStep) (q : x ≡ none_step st b) where
-    pub piece-on : (y : SheetState) → x ≡ On y → Good y.entries ≡ piece_verdict st b
+    pub piece-on : (y : SheetState) → x ≡ Ok y → Ok y.entries ≡ piece_verdict st b
     piece-on y e = rw (← q, e)
 
-    pub piece-off : (w : SheetLine) → x ≡ Off w → Wrong w ≡ piece_verdict st b
+    pub piece-off : (w : SheetLine) → x ≡ Err w → Err w ≡ piece_verdict st b
     piece-off w e = rw (← q, e)
 
 pub ruleset ends = (finish_good, finish-run, finish_soon, piece-on, piece-off)
@@ -71,12 +69,12 @@ pieces_whole (b ∷ bs) h = pick (ℕ_discrete b 10) (pieces_whole bs)
     pick (yes e) ih = absurd (omega (arith, run-here 10 b bs e))
     pick (no e) ih = pieces_on b bs e ∙ rw (ih (omega (arith, run_on 10 b bs e)))
 
-pub none-off : (st : SheetState) (b : Bool) → (w : SheetLine) × (none_step st b ≡ Off w)
+pub none-off : (st : SheetState) (b : Bool) → (w : SheetLine) × (none_step st b ≡ Err w)
 unfolding none_step closed
 none-off st true = (sheet_line (st.line + 1), refl)
 none-off st false = pick (eqb st.run.0 0)
   where
-    pick : (c : Bool) → (w : SheetLine) × (cond c (Off (sheet_line (st.line + 1))) (Off st.run) ≡ Off w)
+    pick : (c : Bool) → (w : SheetLine) × ◌≡◌ {A = SheetStep} (cond c (Err (sheet_line (st.line + 1))) (Err st.run)) (Err w)
     pick true = (sheet_line (st.line + 1), refl)
     pick false = (st.run, refl)
 
@@ -110,7 +108,7 @@ lines_first t at e lo hi en =
     ap said_by_all (pieces_first (drop at t) w) ∙ rw (r, c, drop-drop (suc (e - at)) at t, k) (lines_more (columns t at e) (pieces_of (drop (e + 1) t)) (pieces_some (drop (e + 1) t)))
 
 -- one line more, and at most one entry more
-sizes : (st y : SheetState) (i : Line) → step_line st i ≡ On y → (y.line ≡ st.line + 1) × (y.entries ≤ st.entries + 1)
+sizes : (st y : SheetState) (i : Line) → step_line st i ≡ Ok y → (y.line ≡ st.line + 1) × (y.entries ≤ st.entries + 1)
 sizes st y (start t) e = rw (start_inv st y e).2 (omega arith)
 sizes st y (global m v) e = rw (global_inv st y m e).4 (omega arith)
 sizes st y (entry known x d label) e = rw (entry_inv st y x e).4 (omega arith)
@@ -118,5 +116,5 @@ sizes st y (value b v) e = rw (value_inv st y (is_default v) e).1 (omega arith)
 sizes st y (last m) e = rw (last_inv st y m e).4 (omega arith)
 sizes st y (none b) e = absurd (none_inv st y b e)
 
-pub line_sizes : (st y : SheetState) (d : Said) → step_said st d ≡ On y → (y.line ≡ st.line + 1) × (y.entries ≤ st.entries + 1)
+pub line_sizes : (st y : SheetState) (d : Said) → step_said st d ≡ Ok y → (y.line ≡ st.line + 1) × (y.entries ≤ st.entries + 1)
 line_sizes st y d e = sizes st y (line_from [] d) (sym (step-said st d []) ∙ e)

@@ -1,5 +1,5 @@
 -- Worked examples: sheets, in whose texts > is a tab and | is LF.
-use Rattle.std.specs.Prelude.{◌≡◌, refl, true, false, cond, List, [], ◌∷◌, map, ℕ, eqb}
+use Rattle.std.specs.Prelude.{◌≡◌, refl, true, false, cond, List, [], ◌∷◌, map, ℕ, eqb, Err, Ok}
 use Prim.Native.Char.{code}
 use Prim.Native.String.{String, [] as []ˢ, ◌∷◌ as ◌∷ˢ◌}
 use Rattle.columns.specs.Columns.{printable, same_bytes}
@@ -10,15 +10,14 @@ use Rattle.values.specs.Head.{head_of}
 use Rattle.values.specs.Value.{real, text, spelled}
 use Rattle.values.specs.Strict.{strict_of}
 use Rattle.directory.specs.Fields.{nought, fields_of}
-use Rattle.sheets.specs.declared.SheetVerdict.{SheetVerdict}
-use Rattle.sheets.specs.declared.SheetVerdict.TheVariants.{Good, Wrong}
 use Rattle.sheets.specs.Plain.{sized, is_plain, is_signed, signed_number, all_digits, is_status, status_number}
 use Rattle.sheets.specs.Line.{run, is_label, is_entry_number, entry_number, numbers_of, entry_of, label_of, spell, spells, entry_line}
 use Rattle.sheets.specs.Sheet.{row, Sheet, start_lines, global_lines, value_lines, row_lines, lines_of, line_of, text_of, sheet_text}
 use Rattle.sheets.specs.Sheet.{is_mark, is_start, start_line, is_field_number, is_numbered, global_line, last_line, by_mark}
 use Rattle.sheets.specs.Sheet.{says_of, said_by}
 use Rattle.sheets.specs.Sheet.{into, pieces_of, last_piece, said_by_all, lines_in, parts_of, sheet_of}
-use Rattle.sheets.specs.Order.{sheet_line, closed, start_step, global_step, entry_step, value_step, last_step, none_step, finish, go_lines}
+use Rattle.sheets.specs.Order.{sheet_line, closed, start_step, global_step, entry_step, value_step, last_step, none_step, finish}
+use Rattle.sheets.specs.Order.{go_lines, SheetVerdict}
 use Rattle.sheets.specs.Order.{verdict_of, read_sheet}
 
 abbrev byte : ℕ → ℕ
@@ -33,7 +32,7 @@ plain []ˢ = []
 plain (c ∷ˢ s) = code c ∷ plain s
 
 abbrev wrong : ℕ → SheetVerdict
-wrong n = Wrong (sheet_line n)
+wrong n = Err (sheet_line n)
 
 abbrev chair_text : String
 chair_text = "S>SET PIECE|G>3>5HCHAIR|G>4>7Hset.igs|E>1>116>0>0>0>0>0>0>0>01000000>0>0>0>   PIN01|V>15.E-1|V>0.|V>2.|Z>1|"
@@ -41,9 +40,9 @@ chair_text = "S>SET PIECE|G>3>5HCHAIR|G>4>7Hset.igs|E>1>116>0>0>0>0>0>0>0>010000
 -- a text and its verdict: the entry count, or the first wrong line
 abbrev table : List (String × SheetVerdict)
 table =
-    (chair_text, Good 1)
+    (chair_text, Ok 1)
     -- at least one S line; S, tab, nothing is good; a trailing blank is wrong; one past the last if the sheet ends too soon
-    ∷ ("S>|Z>0|", Good 0)
+    ∷ ("S>|Z>0|", Ok 0)
     ∷ ("", wrong 1)
     ∷ ("S>A|", wrong 2)
     ∷ ("Z>0|", wrong 1)
@@ -68,11 +67,11 @@ table =
     ∷ ("S>A|G>7>2147483648|Z>0|", wrong 2)
     ∷ ("S>A|G>3>2HABC|Z>0|", wrong 2)
     -- the numbers of an entry line
-    ∷ ("S>A|U>1>116>-1>0>0>0>0>0>0>00000000>0>0>-7>        |V>|R>1|Z>1|", Good 1)
+    ∷ ("S>A|U>1>116>-1>0>0>0>0>0>0>00000000>0>0>-7>        |V>|R>1|Z>1|", Ok 1)
     ∷ ("S>A|U>1>116>-0>0>0>0>0>0>0>00000000>0>0>0>        |Z>1|", wrong 2)
     ∷ ("S>A|U>1>116>00>0>0>0>0>0>0>00000000>0>0>0>        |Z>1|", wrong 2)
     ∷ ("S>A|U>1>116>+1>0>0>0>0>0>0>00000000>0>0>0>        |Z>1|", wrong 2)
-    ∷ ("S>A|U>1>2147483647>0>0>0>0>0>0>0>00000000>0>0>0>        |Z>1|", Good 1)
+    ∷ ("S>A|U>1>2147483647>0>0>0>0>0>0>0>00000000>0>0>0>        |Z>1|", Ok 1)
     ∷ ("S>A|U>1>2147483648>0>0>0>0>0>0>0>00000000>0>0>0>        |Z>1|", wrong 2)
     ∷ ("S>A|U>1>116>0>0>0>0>0>0>0>0000000>0>0>0>        |Z>1|", wrong 2)
     ∷ ("S>A|U>1>116>0>0>0>0>0>0>0>000000000>0>0>0>        |Z>1|", wrong 2)

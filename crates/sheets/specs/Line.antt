@@ -1,5 +1,6 @@
 -- An entry line: its spelling, and what is read of a line.
-use Rattle.std.specs.Prelude.{Bool, true, false, cond, ◌&&◌, List, [], ◌∷◌, ◌++◌, ℕ, zero, suc, ◌+◌, ◌-◌, length}
+use Rattle.std.specs.Prelude.{Bool, true, false, cond, ◌&&◌, Option, Some, None, List, [], ◌∷◌, ◌++◌, ℕ, zero, suc}
+use Rattle.std.specs.Prelude.{◌+◌, ◌-◌, length}
 use Rattle.std.specs.Prelude.{get_or, take}
 use Rattle.std.specs.Prelude.{drop, ltb, eqb}
 use Rattle.columns.specs.declared.Signed.{Signed}
@@ -10,7 +11,6 @@ use Rattle.columns.specs.Letters.{tab, letter_e, letter_u}
 use Rattle.directory.specs.declared.Fields.{Fields}
 use Rattle.directory.specs.Fields.{field_count, status_at, in_order, fields_of, nought}
 use Rattle.sheets.specs.declared.EntryLine.{EntryLine}
-use Rattle.sheets.specs.declared.EntryLine.TheVariants.{Got, Wrong}
 use Rattle.sheets.specs.Plain.{sized, is_signed, signed_number, is_status, status_number}
 
 -- how many bytes come before the first c
@@ -37,23 +37,27 @@ is_entry_number left t = cond (eqb left behind_status) (is_status t) (is_signed 
 unfoldable pub entry_number : ℕ → List ℕ → Signed
 entry_number left t = cond (eqb left behind_status) (status_number t) (signed_number t)
 
-abbrev pub entry_from : Bool → List Signed → EntryLine
-entry_from known ns = Got known (get_or ns 0 nought) (fields_of (drop 1 ns))
+-- a line that says this
+abbrev pub entry_got : Bool → Signed → Fields → Option EntryLine
+entry_got known n x = Some (record { known = known; number = n; fields = x })
+
+abbrev pub entry_from : Bool → List Signed → Option EntryLine
+entry_from known ns = entry_got known (get_or ns 0 nought) (fields_of (drop 1 ns))
 
 -- so many numbers, a tab behind each, then the label; ns are the numbers read already
-unfoldable pub numbers_of : Bool → ℕ → List Signed → List ℕ → EntryLine
-numbers_of known zero ns t = elim (is_label t) [ true ↦ entry_from known ns | false ↦ Wrong ]
+unfoldable pub numbers_of : Bool → ℕ → List Signed → List ℕ → Option EntryLine
+numbers_of known zero ns t = elim (is_label t) [ true ↦ entry_from known ns | false ↦ None ]
 numbers_of known (suc left) ns t = elim (ltb (run tab t) (length t) && is_entry_number left (take (run tab t) t)) [
   | true ↦ numbers_of known left (ns ++ (entry_number left (take (run tab t) t) ∷ [])) (drop (suc (run tab t)) t)
-  | false ↦ Wrong
+  | false ↦ None
 ]
 
 -- what is read of an entry line: E or U, a tab, the numbers and the label
-unfoldable pub entry_of : List ℕ → EntryLine
+unfoldable pub entry_of : List ℕ → Option EntryLine
 entry_of l = cond (eqb (get_or l 1 0) tab)
     (cond (eqb (get_or l 0 0) letter_e) (numbers_of true number_count [] (drop 2 l))
-    (cond (eqb (get_or l 0 0) letter_u) (numbers_of false number_count [] (drop 2 l)) Wrong))
-    Wrong
+    (cond (eqb (get_or l 0 0) letter_u) (numbers_of false number_count [] (drop 2 l)) None))
+    None
 
 -- a line ends with its label
 unfoldable pub label_of : List ℕ → List ℕ

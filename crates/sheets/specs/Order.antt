@@ -1,5 +1,6 @@
 -- The order of a sheet's lines, and the first wrong line.
-use Rattle.std.specs.Prelude.{Bool, cond, not, ◌&&◌, List, [], ◌∷◌, ℕ, ◌+◌, ◌-◌, ◌*◌, ltb, leb, eqb}
+use Rattle.std.specs.Prelude.{Bool, cond, not, ◌&&◌, List, [], ◌∷◌, ℕ, ◌+◌, ◌-◌, ◌*◌, ltb, leb, eqb, Result, Ok}
+use Rattle.std.specs.Prelude.{Err}
 use Rattle.columns.specs.declared.Fault.TheVariants.{SheetLine as WrongSheet}
 use Rattle.columns.specs.declared.Signed.{Signed}
 use Rattle.columns.specs.declared.SheetLine.{SheetLine}
@@ -7,10 +8,6 @@ use Rattle.columns.specs.Refusal.{Outcome, accepted, refused}
 use Rattle.values.specs.Value.{is_default}
 use Rattle.records.specs.Global.{first_field}
 use Rattle.sheets.specs.declared.SheetState.{SheetState}
-use Rattle.sheets.specs.declared.SheetStep.{SheetStep}
-use Rattle.sheets.specs.declared.SheetStep.TheVariants.{On, Off}
-use Rattle.sheets.specs.declared.SheetVerdict.{SheetVerdict}
-use Rattle.sheets.specs.declared.SheetVerdict.TheVariants.{Good, Wrong}
 use Rattle.sheets.specs.Sheet.{Line, start, global, entry, value, last, none, Sheet, lines_in, sheet_of}
 
 abbrev pub sheet_line : ℕ → SheetLine
@@ -51,35 +48,43 @@ next st section field entries run = record { section = section; field = field; e
 
 -- ---- what a line does
 
+-- the state after it, or the first wrong line
+abbrev pub SheetStep : Type 0
+SheetStep = Result SheetState SheetLine
+
+-- the entry count, or the first wrong line
+abbrev pub SheetVerdict : Type 0
+SheetVerdict = Result ℕ SheetLine
+
 -- this line is the first wrong one
 abbrev pub off : SheetState → SheetStep
-off st = Off (sheet_line (st.line + 1))
+off st = Err (sheet_line (st.line + 1))
 
 -- a line that is no value line ends the values before it: they may not end with a default
 unfoldable pub closed : SheetState → SheetStep → SheetStep
-closed st x = cond (eqb st.run.0 no_run) x (Off st.run)
+closed st x = cond (eqb st.run.0 no_run) x (Err st.run)
 
 unfoldable pub start_step : SheetState → SheetStep
-start_step st = closed st (cond (leb st.section in_starts) (On (next st in_starts st.field st.entries no_run)) (off st))
+start_step st = closed st (cond (leb st.section in_starts) (Ok (next st in_starts st.field st.entries no_run)) (off st))
 
 -- G numbers rise
 unfoldable pub global_step : SheetState → ℕ → SheetStep
 global_step st n =
     closed st
     (cond (leb in_starts st.section && (leb st.section in_globals && ltb st.field n))
-    (On (next st in_globals n st.entries no_run)) (off st))
+    (Ok (next st in_globals n st.entries no_run)) (off st))
 
 -- directory numbers are 1, 3, 5 on
 unfoldable pub entry_step : SheetState → Signed → SheetStep
 entry_step st x =
     closed st
     (cond (leb in_starts st.section && (leb st.section in_entries && (not x.neg && eqb x.size (2 * st.entries + 1))))
-    (On (next st in_entries st.field (st.entries + 1) no_run)) (off st))
+    (Ok (next st in_entries st.field (st.entries + 1) no_run)) (off st))
 
 unfoldable pub value_step : SheetState → Bool → SheetStep
 value_step st default =
     cond (eqb st.section in_entries)
-    (On (next st in_entries st.field st.entries (cond default (cond (eqb st.run.0 no_run) (st.line + 1) st.run.0) no_run)))
+    (Ok (next st in_entries st.field st.entries (cond default (cond (eqb st.run.0 no_run) (st.line + 1) st.run.0) no_run)))
     (off st)
 
 -- the entry count
@@ -87,7 +92,7 @@ unfoldable pub last_step : SheetState → ℕ → SheetStep
 last_step st n =
     closed st
     (cond (leb in_starts st.section && (leb st.section in_entries && eqb n st.entries))
-    (On (next st at_end st.field st.entries no_run)) (off st))
+    (Ok (next st at_end st.field st.entries no_run)) (off st))
 
 unfoldable pub none_step : SheetState → Bool → SheetStep
 none_step st b = cond b (off st) (closed st (off st))
@@ -101,25 +106,25 @@ step_line st (last n) = last_step st n
 step_line st (none b) = none_step st b
 
 abbrev pub verdict : SheetStep → SheetVerdict
-verdict (On st) = Good st.entries
-verdict (Off n) = Wrong n
+verdict (Ok st) = Ok st.entries
+verdict (Err n) = Err n
 
 -- the sheet has ended: after Z it is good, else the line after the last is wrong
 unfoldable pub finish : SheetState → SheetVerdict
-finish st = cond (eqb st.section at_end) (Good st.entries) (verdict (closed st (off st)))
+finish st = cond (eqb st.section at_end) (Ok st.entries) (verdict (closed st (off st)))
 
 -- the entry count, or the first wrong line
 unfoldable pub go_lines : SheetState → List Line → SheetVerdict
 go_lines st [] = finish st
-go_lines st (l ∷ ls) = elim (step_line st l) [ On st' ↦ go_lines st' ls | Off n ↦ Wrong n ]
+go_lines st (l ∷ ls) = elim (step_line st l) [ Ok st' ↦ go_lines st' ls | Err n ↦ Err n ]
 
 unfoldable pub verdict_of : List ℕ → SheetVerdict
 verdict_of t = go_lines begin (lines_in t)
 
 -- 17, at the first wrong line, one past the last if it ends too soon
 abbrev pub outcome : Sheet → SheetVerdict → Outcome Sheet
-outcome s (Good n) = accepted s
-outcome s (Wrong n) = refused WrongSheet n.0
+outcome s (Ok n) = accepted s
+outcome s (Err n) = refused WrongSheet n.0
 
 -- what a text carries as a sheet
 unfoldable pub read_sheet : List ℕ → Outcome Sheet

@@ -6,9 +6,7 @@ use Rattle.records.specs.Global.{first_field, last_field}
 use Rattle.sheets.specs.declared.Said.{Said}
 use Rattle.sheets.specs.declared.Said.TheVariants.{Start, Global, Entry, Value as Given, Last, Nothing}
 use Rattle.sheets.specs.declared.SheetState.{SheetState}
-use Rattle.sheets.specs.declared.SheetStep.{SheetStep}
-use Rattle.sheets.specs.declared.SheetVerdict.{SheetVerdict}
-use Rattle.sheets.specs.Order.{start_step, global_step, entry_step, value_step, last_step, none_step, verdict}
+use Rattle.sheets.specs.Order.{start_step, global_step, entry_step, value_step, last_step, none_step, verdict, SheetStep, SheetVerdict}
 
 -- the step of a line, without the line
 abbrev pub step_said : SheetState → Said → SheetStep

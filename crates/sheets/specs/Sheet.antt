@@ -13,7 +13,6 @@ use Rattle.values.specs.Strict.{strict_of}
 use Rattle.records.specs.Global.{first_field, last_field}
 use Rattle.directory.specs.declared.Fields.{Fields}
 use Rattle.sheets.specs.declared.EntryLine.{EntryLine}
-use Rattle.sheets.specs.declared.EntryLine.TheVariants.{Got, Wrong}
 use Rattle.sheets.specs.declared.Said.{Said}
 use Rattle.sheets.specs.declared.Said.TheVariants.{Start, Global, Entry, Value as Given, Last, Nothing}
 use Rattle.sheets.specs.Plain.{plain_of, is_plain, sized}
@@ -129,9 +128,9 @@ unfoldable pub global_line : List ℕ → Said
 global_line t = global_of (is_numbered t) (plain_of (take (run tab t) t)) (2 + suc (run tab t)) (strict_of (drop (suc (run tab t)) t))
 
 -- E or U, tab, the numbers and the label
-abbrev pub entry_line_of : EntryLine → Said
-entry_line_of (Got known n x) = Entry known n x
-entry_line_of Wrong = Nothing false
+abbrev pub entry_line_of : Option EntryLine → Said
+entry_line_of (Some r) = Entry r.known r.number r.fields
+entry_line_of None = Nothing false
 
 -- a default, or a value
 abbrev pub value_of : Bool → Option Value → Said

@@ -8,11 +8,12 @@ use values::Value;
 
 pub mod order;
 
-// What an entry line says: whether it is marked E, the directory number, and the entry's numbers; or a wrong line.
+// What an entry line says: whether it is marked E, the directory number, and the entry's numbers.
 #[derive(Clone, Copy)]
-pub enum EntryLine {
-    Got(bool, Signed, Fields),
-    Wrong,
+pub struct EntryLine {
+    pub known: bool,
+    pub number: Signed,
+    pub fields: Fields,
 }
 
 // What a line says. A value is told with where a string stands in what follows the line's tabs: for a Global field that is from `at` on.
@@ -64,18 +65,4 @@ pub struct SheetState {
     pub entries: usize,
     pub run: SheetLine,
     pub line: usize,
-}
-
-// What a line does: the state after it, or the first wrong line.
-#[derive(Clone, Copy)]
-pub enum SheetStep {
-    On(SheetState),
-    Off(SheetLine),
-}
-
-// The entry count, or the first wrong line.
-#[derive(Clone, Copy)]
-pub enum SheetVerdict {
-    Good(usize),
-    Wrong(SheetLine),
 }

@@ -3,24 +3,23 @@ ghost use Rattle.std.specs.Prelude.{◌≡◌, ◌+◌, ◌*◌, ◌^◌, ◌≤
 ghost use Rattle.sheets.specs.Order.{start_step, global_step, entry_step, value_step, last_step, none_step, finish};
 ghost use Rattle.sheets.specs.Reading.{step_said, piece_verdict};
 
-use crate::{
-    AT_END, IN_ENTRIES, IN_GLOBALS, IN_STARTS, NO_RUN, Said, SheetState, SheetStep, SheetVerdict,
-};
+use crate::{AT_END, IN_ENTRIES, IN_GLOBALS, IN_STARTS, NO_RUN, Said, SheetState};
 use columns::{SheetLine, Signed};
 use values::{Value, is_missing};
 
-fn start_step(st: SheetState) -> SheetStep
+#[tactic(auto, using(crate::proofs::Steps::starts))]
+fn start_step(st: SheetState) -> Result<SheetState, SheetLine>
     requires { st.line < 2 ^ 63 }
     ensures { result ≡ start_step st }
 {
     let run = st.run;
     if run.0 != NO_RUN {
-        return SheetStep::Off(run);
+        return Err(run);
     }
     if IN_STARTS < st.section {
-        return SheetStep::Off(SheetLine(st.line + 1));
+        return Err(SheetLine(st.line + 1));
     }
-    SheetStep::On(SheetState {
+    Ok(SheetState {
         section: IN_STARTS,
         field: st.field,
         entries: st.entries,
@@ -30,24 +29,25 @@ fn start_step(st: SheetState) -> SheetStep
 }
 
 // G numbers rise.
-fn global_step(st: SheetState, n: u32) -> SheetStep
+#[tactic(auto, using(crate::proofs::Steps::globals))]
+fn global_step(st: SheetState, n: u32) -> Result<SheetState, SheetLine>
     requires { st.line < 2 ^ 63 }
     ensures { result ≡ global_step st n }
 {
     let run = st.run;
     if run.0 != NO_RUN {
-        return SheetStep::Off(run);
+        return Err(run);
     }
     if st.section < IN_STARTS {
-        return SheetStep::Off(SheetLine(st.line + 1));
+        return Err(SheetLine(st.line + 1));
     }
     if IN_GLOBALS < st.section {
-        return SheetStep::Off(SheetLine(st.line + 1));
+        return Err(SheetLine(st.line + 1));
     }
     if n <= st.field {
-        return SheetStep::Off(SheetLine(st.line + 1));
+        return Err(SheetLine(st.line + 1));
     }
-    SheetStep::On(SheetState {
+    Ok(SheetState {
         section: IN_GLOBALS,
         field: n,
         entries: st.entries,
@@ -57,28 +57,29 @@ fn global_step(st: SheetState, n: u32) -> SheetStep
 }
 
 // Directory numbers are 1, 3, 5 on.
-fn entry_step(st: SheetState, x: Signed) -> SheetStep
+#[tactic(auto, using(crate::proofs::Steps::entries))]
+fn entry_step(st: SheetState, x: Signed) -> Result<SheetState, SheetLine>
     requires line_bound { st.line < 2 ^ 63 }
     requires entries_le_line { st.entries ≤ st.line }
     ensures { result ≡ entry_step st x }
 {
     let run = st.run;
     if run.0 != NO_RUN {
-        return SheetStep::Off(run);
+        return Err(run);
     }
     if st.section < IN_STARTS {
-        return SheetStep::Off(SheetLine(st.line + 1));
+        return Err(SheetLine(st.line + 1));
     }
     if IN_ENTRIES < st.section {
-        return SheetStep::Off(SheetLine(st.line + 1));
+        return Err(SheetLine(st.line + 1));
     }
     if x.neg {
-        return SheetStep::Off(SheetLine(st.line + 1));
+        return Err(SheetLine(st.line + 1));
     }
     if x.size as usize != 2 * st.entries + 1 {
-        return SheetStep::Off(SheetLine(st.line + 1));
+        return Err(SheetLine(st.line + 1));
     }
-    SheetStep::On(SheetState {
+    Ok(SheetState {
         section: IN_ENTRIES,
         field: st.field,
         entries: st.entries + 1,
@@ -88,18 +89,19 @@ fn entry_step(st: SheetState, x: Signed) -> SheetStep
 }
 
 // Values may not end with a default: the first of such a run is remembered.
-pub fn value_step(st: SheetState, default: bool) -> SheetStep
+#[tactic(auto, using(crate::proofs::Steps::values))]
+pub fn value_step(st: SheetState, default: bool) -> Result<SheetState, SheetLine>
     requires { st.line < 2 ^ 63 }
     ensures { result ≡ value_step st default }
 {
     let run = st.run;
     let line = st.line + 1;
     if st.section != IN_ENTRIES {
-        return SheetStep::Off(SheetLine(line));
+        return Err(SheetLine(line));
     }
     if default {
         if run.0 == NO_RUN {
-            return SheetStep::On(SheetState {
+            return Ok(SheetState {
                 section: IN_ENTRIES,
                 field: st.field,
                 entries: st.entries,
@@ -107,7 +109,7 @@ pub fn value_step(st: SheetState, default: bool) -> SheetStep
                 line,
             });
         }
-        return SheetStep::On(SheetState {
+        return Ok(SheetState {
             section: IN_ENTRIES,
             field: st.field,
             entries: st.entries,
@@ -115,7 +117,7 @@ pub fn value_step(st: SheetState, default: bool) -> SheetStep
             line,
         });
     }
-    SheetStep::On(SheetState {
+    Ok(SheetState {
         section: IN_ENTRIES,
         field: st.field,
         entries: st.entries,
@@ -125,24 +127,25 @@ pub fn value_step(st: SheetState, default: bool) -> SheetStep
 }
 
 // The Z line counts the entries.
-fn last_step(st: SheetState, n: usize) -> SheetStep
+#[tactic(auto, using(crate::proofs::Steps::lasts))]
+fn last_step(st: SheetState, n: usize) -> Result<SheetState, SheetLine>
     requires { st.line < 2 ^ 63 }
     ensures { result ≡ last_step st n }
 {
     let run = st.run;
     if run.0 != NO_RUN {
-        return SheetStep::Off(run);
+        return Err(run);
     }
     if st.section < IN_STARTS {
-        return SheetStep::Off(SheetLine(st.line + 1));
+        return Err(SheetLine(st.line + 1));
     }
     if IN_ENTRIES < st.section {
-        return SheetStep::Off(SheetLine(st.line + 1));
+        return Err(SheetLine(st.line + 1));
     }
     if n != st.entries {
-        return SheetStep::Off(SheetLine(st.line + 1));
+        return Err(SheetLine(st.line + 1));
     }
-    SheetStep::On(SheetState {
+    Ok(SheetState {
         section: AT_END,
         field: st.field,
         entries: st.entries,
@@ -151,23 +154,25 @@ fn last_step(st: SheetState, n: usize) -> SheetStep
     })
 }
 
-fn none_step(st: SheetState, b: bool) -> SheetStep
+#[tactic(auto, using(crate::proofs::Steps::nones))]
+fn none_step(st: SheetState, b: bool) -> Result<SheetState, SheetLine>
     requires { st.line < 2 ^ 63 }
     ensures { result ≡ none_step st b }
 {
     let line = st.line + 1;
     if b {
-        return SheetStep::Off(SheetLine(line));
+        return Err(SheetLine(line));
     }
     let run = st.run;
     if run.0 != NO_RUN {
-        return SheetStep::Off(run);
+        return Err(run);
     }
-    SheetStep::Off(SheetLine(line))
+    Err(SheetLine(line))
 }
 
 // What a line does.
-pub fn step_line(st: SheetState, x: Said) -> SheetStep
+#[tactic(auto, using(crate::proofs::Steps::steps))]
+pub fn step_line(st: SheetState, x: Said) -> Result<SheetState, SheetLine>
     requires line_bound { st.line < 2 ^ 63 }
     requires entries_le_line { st.entries ≤ st.line }
     ensures { result ≡ step_said st x }
@@ -183,27 +188,27 @@ pub fn step_line(st: SheetState, x: Said) -> SheetStep
 }
 
 // The verdict where the sheet has ended.
-pub fn finish_of(st: SheetState) -> SheetVerdict
+#[tactic(auto, using(crate::proofs::Walk::ends))]
+pub fn finish_of(st: SheetState) -> Result<usize, SheetLine>
     requires { st.line < 2 ^ 63 }
     ensures { result ≡ finish st }
 {
     if st.section == AT_END {
-        return SheetVerdict::Good(st.entries);
+        return Ok(st.entries);
     }
     let run = st.run;
     if run.0 != NO_RUN {
-        return SheetVerdict::Wrong(run);
+        return Err(run);
     }
-    SheetVerdict::Wrong(SheetLine(st.line + 1))
+    Err(SheetLine(st.line + 1))
 }
 
 // The verdict where a piece with no LF stands behind the last line; b tells whether it begins as a value line does.
-pub fn wrong_piece(st: SheetState, b: bool) -> SheetVerdict
+#[tactic(auto, using(crate::proofs::Walk::ends))]
+pub fn wrong_piece(st: SheetState, b: bool) -> Result<usize, SheetLine>
     requires { st.line < 2 ^ 63 }
     ensures { result ≡ piece_verdict st b }
 {
-    match none_step(st, b) {
-        SheetStep::On(x) => SheetVerdict::Good(x.entries),
-        SheetStep::Off(w) => SheetVerdict::Wrong(w),
-    }
+    let x = none_step(st, b)?;
+    Ok(x.entries)
 }

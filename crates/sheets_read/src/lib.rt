@@ -27,7 +27,8 @@ pub fn end_of(t: &[u8], at: usize) -> usize
 }
 
 // What the numbers of an entry line are: its directory number, and those of the entry.
-fn entry_from(known: bool, x: [Signed; 13]) -> EntryLine
+#[tactic(auto, using(crate::proofs::Entries::rows))]
+fn entry_from(known: bool, x: [Signed; 13]) -> Option<EntryLine>
     ensures { result ≡ entry_from known x }
 {
     let fields = Fields {
@@ -44,11 +45,16 @@ fn entry_from(known: bool, x: [Signed; 13]) -> EntryLine
         colour: x[1 + order::COLOUR],
         subscript: x[1 + order::SUBSCRIPT],
     };
-    EntryLine::Got(known, x[0], fields)
+    Some(EntryLine {
+        known,
+        number: x[0],
+        fields,
+    })
 }
 
 // The numbers and the label of an entry line.
-fn numbers(s: &[u8], at: usize, end: usize, known: bool) -> EntryLine
+#[tactic(auto, using(crate::proofs::Entries::rows))]
+fn numbers(s: &[u8], at: usize, end: usize, known: bool) -> Option<EntryLine>
     requires at_le_end { at ≤ end }
     requires end_in_bounds { end ≤ length s.now }
     ensures { result ≡ numbers_of known number_count [] (columns s.now at end) }
@@ -58,44 +64,41 @@ fn numbers(s: &[u8], at: usize, end: usize, known: bool) -> EntryLine
         size: 0,
     };
     let mut xs = [z; 13];
-    let mut left = 13;
-    let mut k = 0;
     let mut i = at;
-    while 0 < left {
-        left -= 1;
-        let f = sheets_numbers::tabbed_at(s, left, i, end);
+    for k in 0..13 {
+        let f = sheets_numbers::tabbed_at(s, 12 - k, i, end);
         let e = f.end;
         if e == end {
-            return EntryLine::Wrong;
+            return None;
         }
         let x = f.number;
         if x.size > MOST_INTEGER {
-            return EntryLine::Wrong;
+            return None;
         }
         xs[k] = x;
-        k += 1;
         i = e + 1;
     }
     if end - i != FIELD_COLUMNS {
-        return EntryLine::Wrong;
+        return None;
     }
     if look::is_printable(s, i, end) {
         return entry_from(known, xs);
     }
-    EntryLine::Wrong
+    None
 }
 
 // The entry line from `at` up to `end`.
-pub fn entry_at(s: &[u8], at: usize, end: usize) -> EntryLine
+#[tactic(auto, using(crate::proofs::Entries::line))]
+pub fn entry_at(s: &[u8], at: usize, end: usize) -> Option<EntryLine>
     requires at_le_end { at ≤ end }
     requires end_in_bounds { end ≤ length s.now }
     ensures { result ≡ entry_of (columns s.now at end) }
 {
     if end - at < 2 {
-        return EntryLine::Wrong;
+        return None;
     }
     if s[at + 1] != b'\t' {
-        return EntryLine::Wrong;
+        return None;
     }
     if s[at] == b'E' {
         return numbers(s, at + 2, end, true);
@@ -103,7 +106,7 @@ pub fn entry_at(s: &[u8], at: usize, end: usize) -> EntryLine
     if s[at] == b'U' {
         return numbers(s, at + 2, end, false);
     }
-    EntryLine::Wrong
+    None
 }
 
 pub fn is_mark(b: u8) -> bool
@@ -189,16 +192,23 @@ fn global_line(s: &[u8], at: usize, end: usize) -> Said
     global_of(n as u32, 2 + (e + 1 - at), v)
 }
 
-fn entry_said(x: EntryLine) -> Said
+#[tactic(auto, using(sheets::proofs::Machine::lines))]
+fn entry_said(x: Option<EntryLine>) -> Said
     ensures { result ≡ entry_line_of x }
 {
     match x {
-        EntryLine::Got(known, number, fields) => Said::Entry {
+        Some(
+            EntryLine {
+                known,
+                number,
+                fields,
+            },
+        ) => Said::Entry {
             known,
             number,
             fields,
         },
-        EntryLine::Wrong => Said::Nothing(false),
+        None => Said::Nothing(false),
     }
 }
 

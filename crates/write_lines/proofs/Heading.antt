@@ -7,6 +7,7 @@ use native.Mathlib.Omega.{arith}
 use lib.ListN.{get_or, drop}
 use lib.Dec.{eqb}
 use borrow.Author.Tests.{ne_eqb}
+use Rattle.std.proofs.Common.{Ok}
 use Rattle.columns.specs.declared.Fault.TheVariants.{Global as GlobalFault}
 use Rattle.columns.specs.Columns.{columns}
 use Rattle.columns.specs.Refusal.{demand}
@@ -23,9 +24,7 @@ use Rattle.sheets.specs.Line.{entry_of}
 use Rattle.sheets.specs.Sheet.{Line, is_start, start_line, global_line, entry_line_of, value_of, last_line, by_mark, says_of, line_from, said_by}
 use Rattle.model.specs.Write.{global_rule, row_rules, row_references, row_entity_rules}
 use Rattle.sheets_rows.specs.Rows.{values_first}
-use Rattle.write_lines.specs.declared.SheetPass.{SheetPass}
-use Rattle.write_lines.specs.declared.SheetPass.TheVariants.{Good}
-use Rattle.write_lines.specs.Lines.{pass_of, no_rule, line_check}
+use Rattle.write_lines.specs.Lines.{pass_of, no_rule, line_check, SheetPass}
 use Rattle.write_lines.specs.Heads.{is_head, head_of, said_rule, said_references, said_entity}
 
 -- ---- the first byte
@@ -137,7 +136,7 @@ module _ (types : List ℕ) (place : ℕ) where
   said-references l ls (Last n) = refl
   said-references l ls (Nothing b) = refl
 
-  quiet_references : (x : Said) → Quiet x → said_references types place x ≡ Good
+  quiet_references : (x : Said) → Quiet x → said_references types place x ≡ Ok tt
   quiet_references Start q = refl
   quiet_references (Global _ _ _) q = elim q [ ]
   quiet_references (Entry _ _ _) q = elim q [ ]
@@ -162,7 +161,7 @@ module _ (list : ℕ) (types : List ℕ) (place : ℕ) (ls : List Line) where
   said-entity l (Last n) = refl
   said-entity l (Nothing b) = refl
 
-  quiet_entity : (x : Said) → Quiet x → said_entity list types place (values_first ls) x ≡ Good
+  quiet_entity : (x : Said) → Quiet x → said_entity list types place (values_first ls) x ≡ Ok tt
   quiet_entity Start q = refl
   quiet_entity (Global _ _ _) q = elim q [ ]
   quiet_entity (Entry _ _ _) q = elim q [ ]

@@ -7,6 +7,7 @@ use native.Mathlib.Omega.{arith}
 use lib.ListN.{length, get_or, take, drop, length-drop, drop_of_length-le}
 use lib.Dec.{eqb}
 use lib.Seq.{get_or-drop}
+use Rattle.std.proofs.Common.{Ok, Err}
 use Rattle.columns.specs.Columns.{columns}
 use Rattle.values.specs.declared.Value.{Value}
 use Rattle.std.specs.Prelude.{Option, Some}
@@ -20,19 +21,17 @@ use Rattle.sheets.proofs.Plains.{columns-drop}
 use Rattle.sheets.proofs.Says.{none_of}
 use Rattle.sheets.proofs.Walk.{pieces_whole, lines_first, line_says}
 use Rattle.sheets.proofs.Valued.{value_long, value-given}
-use Rattle.write_lines.specs.declared.SheetPass.{SheetPass}
-use Rattle.write_lines.specs.declared.SheetPass.TheVariants.{Good, Refused}
-use Rattle.write_lines.specs.Lines.{OfGlobal, OfRow, or_else, line_check, lines_pass, Skipped}
+use Rattle.write_lines.specs.Lines.{OfGlobal, OfRow, or_else, line_check, lines_pass, Skipped, SheetPass}
 
 -- ---- passes one after another
 
-pub or_good : (p : SheetPass) → or_else p Good ≡ p
-or_good Good = refl
-or_good (Refused n l) = refl
+pub or_good : (p : SheetPass) → or_else p (Ok tt) ≡ p
+or_good (Ok u) = refl
+or_good (Err r) = refl
 
 pub or_assoc : (p q r : SheetPass) → or_else (or_else p q) r ≡ or_else p (or_else q r)
-or_assoc Good q r = refl
-or_assoc (Refused n l) q r = refl
+or_assoc (Ok u) q r = refl
+or_assoc (Err w) q r = refl
 
 -- ---- the lines of a text from a place on
 
@@ -82,12 +81,12 @@ strict_given t at end y e v q = sym e ∙ q
 -- ---- the pass over them, line by line
 
 module _ (t : List ℕ) (at n : ℕ) (all : n ≡ length t) (g : OfGlobal) (f : OfRow) (place : ℕ) where
-  pub pass-end : n ≤ at → lines_pass g f place (lines_in (drop at t)) ≡ Good
+  pub pass-end : n ≤ at → lines_pass g f place (lines_in (drop at t)) ≡ Ok tt
   unfolding lines_pass
   pass-end h = rw (lines_none t at (omega arith))
 
   module _ (end : ℕ) (lt : at < n) (lo : at ≤ end) (hi : end ≤ length t) (en : end ≡ at + run 10 (drop at t)) where
-    pub pass-piece : end ≡ n → lines_pass g f place (lines_in (drop at t)) ≡ Good
+    pub pass-piece : end ≡ n → lines_pass g f place (lines_in (drop at t)) ≡ Ok tt
     unfolding lines_pass
     pass-piece h =
         let q = lines-piece t at (omega arith) (omega arith) in

@@ -4,7 +4,8 @@ use mathlib.Core.List.{List}
 use Prim.Native.Nat.{ℕ, ◌+◌, ◌≤◌, ◌<◌}
 use native.Mathlib.Omega.{arith}
 use lib.ListN.{length, drop}
-use Rattle.columns.specs.declared.Fault.{Fault}
+use Rattle.std.proofs.Common.{Ok, Err}
+use Rattle.columns.specs.declared.Refusal.{Refusal}
 use Rattle.columns.specs.declared.SheetLine.{SheetLine}
 use Rattle.columns.specs.Columns.{columns}
 use Rattle.sheets.specs.declared.Said.{Said}
@@ -12,9 +13,7 @@ use Rattle.sheets.specs.Line.{run}
 use Rattle.sheets.specs.Sheet.{lines_in}
 use Rattle.model.specs.Write.{row_references, row_entity_rules}
 use Rattle.sheets_rows.specs.Rows.{values_first}
-use Rattle.write_lines.specs.declared.SheetPass.{SheetPass}
-use Rattle.write_lines.specs.declared.SheetPass.TheVariants.{Good, Refused}
-use Rattle.write_lines.specs.Lines.{or_else, no_rule, Skipped}
+use Rattle.write_lines.specs.Lines.{or_else, no_rule, Skipped, SheetPass}
 use Rattle.write_lines.specs.Heads.{head_of, said_references, said_entity}
 use Rattle.write_lines.specs.Classes.{sheet_types}
 use Rattle.write_lines.specs.Passes.{references_from, entities_from, references_pass, entities_pass}
@@ -24,10 +23,10 @@ use Rattle.write_lines.proofs.Heading.{references-line, entity-line}
 -- ---- behind a refused entity
 
 module _ (p q s : SheetPass) (e : p ≡ s) where
-  pub first_refused : (m : Fault) (l : SheetLine) → p ≡ Refused m l → Refused m l ≡ or_else s q
-  first_refused m l h = rw (← e, h)
+  pub first_refused : (w : Refusal SheetLine) → p ≡ Err w → Err w ≡ or_else s q
+  first_refused w h = rw (← e, h)
 
-  pub first_good : p ≡ Good → q ≡ or_else s q
+  pub first_good : p ≡ Ok tt → q ≡ or_else s q
   first_good h = rw (← e, h)
 
 pub ruleset firsts = (first_refused, first_good)
@@ -35,17 +34,17 @@ pub ruleset firsts = (first_refused, first_good)
 -- ---- the passes from a place on
 
 module _ (list : ℕ) (types t : List ℕ) (at place n : ℕ) (all : n ≡ length t) (r : SheetPass) where
-  pub refer-end : references_from types t place at ≡ r → n ≤ at → Good ≡ r
+  pub refer-end : references_from types t place at ≡ r → n ≤ at → Ok tt ≡ r
   refer-end inv h = sym (pass-end t at n all no_rule (row_references types) place h) ∙ inv
 
-  pub names-end : or_else (references_from types t place at) (entities_from list types t place at) ≡ r → n ≤ at → Good ≡ r
+  pub names-end : or_else (references_from types t place at) (entities_from list types t place at) ≡ r → n ≤ at → Ok tt ≡ r
   names-end inv h = rw (pass-end t at n all no_rule (row_references types) place h, pass-end t at n all no_rule (row_entity_rules list types) place h) at inv
 
   module _ (end : ℕ) (lt : at < n) (lo : at ≤ end) (hi : end ≤ length t) (en : end ≡ at + run 10 (drop at t)) where
-    pub refer-piece : references_from types t place at ≡ r → end ≡ n → Good ≡ r
+    pub refer-piece : references_from types t place at ≡ r → end ≡ n → Ok tt ≡ r
     refer-piece inv h = sym (pass-piece t at n all no_rule (row_references types) place end lt lo hi en h) ∙ inv
 
-    pub names-piece : or_else (references_from types t place at) (entities_from list types t place at) ≡ r → end ≡ n → Good ≡ r
+    pub names-piece : or_else (references_from types t place at) (entities_from list types t place at) ≡ r → end ≡ n → Ok tt ≡ r
     names-piece inv h = rw (pass-piece t at n all no_rule (row_references types) place end lt lo hi en h, pass-piece t at n all no_rule (row_entity_rules list types) place end lt lo hi en h) at inv
 
     module _ (h : end ≡ n → ⊥) (x : Said) (ex : x ≡ head_of (columns t at end)) (a : SheetPass) (ea : a ≡ said_references types place x) where
@@ -54,17 +53,17 @@ module _ (list : ℕ) (types t : List ℕ) (at place n : ℕ) (all : n ≡ lengt
           pass-line t at n all no_rule (row_references types) place end lt lo hi en h
           ∙ ap (λ (p : SheetPass). or_else p (references_from types t (place + 1) (end + 1))) (sym (references-line types place (columns t at end) (lines_in (drop (end + 1) t)) x a ex ea))
 
-      pub refer-on : references_from types t place at ≡ r → a ≡ Good → references_from types t (place + 1) (end + 1) ≡ r
+      pub refer-on : references_from types t place at ≡ r → a ≡ Ok tt → references_from types t (place + 1) (end + 1) ≡ r
       refer-on inv e = sym (references_line_first ∙ rw e) ∙ inv
 
-      pub refer-here : {m : Fault} {l : SheetLine} → references_from types t place at ≡ r → a ≡ Refused m l → Refused m l ≡ r
+      pub refer-here : {w : Refusal SheetLine} → references_from types t place at ≡ r → a ≡ Err w → Err w ≡ r
       refer-here inv e = sym (references_line_first ∙ rw e) ∙ inv
 
       module _ (inv : or_else (references_from types t place at) (entities_from list types t place at) ≡ r) where
-        pub names-here : {m : Fault} {l : SheetLine} → a ≡ Refused m l → Refused m l ≡ r
+        pub names-here : {w : Refusal SheetLine} → a ≡ Err w → Err w ≡ r
         names-here e = rw (references_line_first, e) at inv
 
-        module _ (e : a ≡ Good) (b : SheetPass) (eb : b ≡ said_entity list types place (values_first (lines_in (drop (end + 1) t))) x) where
+        module _ (e : a ≡ Ok tt) (b : SheetPass) (eb : b ≡ said_entity list types place (values_first (lines_in (drop (end + 1) t))) x) where
           entities_line_first : entities_from list types t place at ≡ or_else b (entities_from list types t (place + 1) (end + 1))
           entities_line_first =
               pass-line t at n all no_rule (row_entity_rules list types) place end lt lo hi en h
@@ -73,13 +72,13 @@ module _ (list : ℕ) (types t : List ℕ) (at place n : ℕ) (all : n ≡ lengt
           both : or_else (references_from types t (place + 1) (end + 1)) (or_else b (entities_from list types t (place + 1) (end + 1))) ≡ r
           both = rw (references_line_first, e, entities_line_first) at inv
 
-          pub names-on : b ≡ Good → (next lines : ℕ) → Skipped t (end + 1) next lines
+          pub names-on : b ≡ Ok tt → (next lines : ℕ) → Skipped t (end + 1) next lines
               → or_else (references_from types t (place + (1 + lines)) next) (entities_from list types t (place + (1 + lines)) next) ≡ r
           names-on eg next lines s =
               let z : place + (1 + lines) ≡ place + 1 + lines = omega arith in
               rw (z, s.same no_rule (row_references types) (place + 1), s.same no_rule (row_entity_rules list types) (place + 1)) (rw eg at both)
 
-          pub names_last : {m : Fault} {l : SheetLine} → b ≡ Refused m l → (q : SheetPass) → q ≡ or_else (references_from types t (place + 1) (end + 1)) (Refused m l) → q ≡ r
+          pub names_last : {w : Refusal SheetLine} → b ≡ Err w → (q : SheetPass) → q ≡ or_else (references_from types t (place + 1) (end + 1)) (Err w) → q ≡ r
           names_last eg q eq = rw eq (rw eg at both)
 
 pub names-start : (list : ℕ) (t : List ℕ) → or_else (references_from (sheet_types t) t 1 0) (entities_from list (sheet_types t) t 1 0) ≡ or_else (references_pass t) (entities_pass list t)

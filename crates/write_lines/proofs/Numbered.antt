@@ -9,6 +9,7 @@ use lib.ListN.{length, get_or, drop, length-append}
 use lib.Seq.{take-append_seam, drop-append-add, drop-drop, get_or-drop}
 use lib.Dec.{eqb}
 use borrow.Author.Tests.{eqb-true, le-leb, lt-leb}
+use Rattle.std.proofs.Common.{Ok}
 use Rattle.columns.specs.declared.Signed.{Signed}
 use Rattle.columns.specs.Columns.{columns}
 use Rattle.columns.specs.Decimal.{dec, signed_dec}
@@ -22,8 +23,6 @@ use Rattle.directory.specs.Fields.{in_order}
 use Rattle.references.specs.References.{class_of, class_at}
 use Rattle.references.proofs.Classes.{class_at_lem}
 use Rattle.sheets.specs.declared.SheetState.{SheetState}
-use Rattle.sheets.specs.declared.SheetStep.TheVariants.{On}
-use Rattle.sheets.specs.declared.SheetVerdict.TheVariants.{Good}
 use Rattle.columns.specs.Format.{most_integer}
 use Rattle.sheets.specs.Plain.{sized, plain_of}
 use Rattle.sheets.specs.Line.{run, spell, spells, entry_line}
@@ -73,7 +72,7 @@ more-types (value reference v) ls = omega arith
 more-types (last n) ls = omega arith
 more-types (none b) ls = omega arith
 
-step-types : (st y : SheetState) (l : Line) → step_line st l ≡ On y → y.entries ≡ st.entries + length (types_in (l ∷ []))
+step-types : (st y : SheetState) (l : Line) → step_line st l ≡ Ok y → y.entries ≡ st.entries + length (types_in (l ∷ []))
 unfolding types_in
 step-types st y (start t) e = rw (start_inv st y e).2 (omega arith)
 step-types st y (global n v) e = rw (global_inv st y n e).4 (omega arith)
@@ -82,7 +81,7 @@ step-types st y (value reference v) e = rw (value_inv st y (is_default v) e).1 (
 step-types st y (last n) e = rw (last_inv st y n e).4 (omega arith)
 step-types st y (none b) e = absurd (none_inv st y b e)
 
-go_past : (ls rest : List Line) (st : SheetState) (n : ℕ) → go_lines st (ls ++ rest) ≡ Good n → (y : SheetState) × (go_lines y rest ≡ Good n) × (y.entries ≡ st.entries + length (types_in ls))
+go_past : (ls rest : List Line) (st : SheetState) (n : ℕ) → go_lines st (ls ++ rest) ≡ Ok n → (y : SheetState) × (go_lines y rest ≡ Ok n) × (y.entries ≡ st.entries + length (types_in ls))
 unfolding types_in
 go_past [] rest st n h = (st, h, omega arith)
 go_past (l ∷ ls) rest st n h =
@@ -111,7 +110,7 @@ module _ (known : Bool) (m : Signed) (x : Fields) (label : List ℕ) (rest : Lis
   types-behind (last n ∷ ls) = types-behind ls
   types-behind (none b ∷ ls) = types-behind ls
 
-  class_there : (t : List ℕ) (n : ℕ) (ls : List Line) → verdict_of t ≡ Good n → lines_in t ≡ ls ++ (entry known m x label ∷ rest) → class_of x.entity.size ≡ class_at (sheet_types t) m.size
+  class_there : (t : List ℕ) (n : ℕ) (ls : List Line) → verdict_of t ≡ Ok n → lines_in t ≡ ls ++ (entry known m x label ∷ rest) → class_of x.entity.size ≡ class_at (sheet_types t) m.size
   unfolding verdict_of sheet_types
   class_there t n ls good e =
       let p = go_past ls (entry known m x label ∷ rest) begin n (rw e at good) in

@@ -4,6 +4,8 @@ use mathlib.Core.Bool.{Bool, true, false}
 use mathlib.Core.List.{List}
 use Prim.Native.Nat.{ℕ}
 use borrow.Author.Tests.{not-true, not-false}
+use Rattle.std.proofs.Common.{Ok, Err}
+use Rattle.columns.specs.Refusal.{refusal_at}
 use Rattle.columns.specs.declared.Fault.TheVariants.{Reference}
 use Rattle.columns.specs.declared.Signed.{Signed}
 use Rattle.references.specs.References.{fits}
@@ -17,7 +19,6 @@ use Rattle.directory.proofs.Asked.{asks_nothing, asks_class, rest_all, rest_on, 
 use Rattle.sheets.specs.declared.Said.{Said}
 use Rattle.sheets.specs.declared.Said.TheVariants.{Entry as EntryLine}
 use Rattle.sheets.specs.Order.{sheet_line}
-use Rattle.write_lines.specs.declared.SheetPass.TheVariants.{Good, Refused}
 use Rattle.write_lines.specs.Heads.{said_references}
 use Rattle.write_lines.specs.Classes.{sheet_types, some_at, Tabled}
 use Rattle.write_lines.proofs.Tables.{number_some}
@@ -36,11 +37,11 @@ pub ruleset asks = (not-true, not-false, asks_nothing, asks_some, asks_class, re
 
 module _ (types : List ℕ) (place : ℕ) (x : Said) (known : Bool) (n : Signed) (fields : Fields) (e : x ≡ EntryLine known n fields) (y : Entry) (ey : y ≡ entry_of fields) (b : Bool)
     (eb : b ≡ all_fit types (references y)) where
-  pub refer_good : b ≡ true → Good ≡ said_references types place x
+  pub refer_good : b ≡ true → Ok tt ≡ said_references types place x
   unfolding reference_rule
   refer_good h = rw (e, ← ey, ← eb, h)
 
-  pub refer-wrong : b ≡ false → Refused Reference (sheet_line place) ≡ said_references types place x
+  pub refer-wrong : b ≡ false → Err (refusal_at Reference (sheet_line place)) ≡ said_references types place x
   unfolding reference_rule
   refer-wrong h = rw (e, ← ey, ← eb, h)
 

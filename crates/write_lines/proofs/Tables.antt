@@ -9,6 +9,7 @@ use lib.ListN.{length, get_or, drop, set, replicate, length-set, length-replicat
 use lib.Seq.{get_or-set_same, get_or-set_other}
 use lib.Dec.{leb}
 use borrow.Author.Tests.{eq-eqb, ne_eqb, lt-ltb, le-ltb, le-leb}
+use Rattle.std.proofs.Common.{Ok}
 use Rattle.columns.specs.declared.Signed.{Signed}
 use Rattle.columns.specs.Columns.{columns}
 use Rattle.columns.specs.Laid.{laid, length-laid, laid-laid, laid_nil, Wrote}
@@ -17,7 +18,6 @@ use Rattle.references.proofs.Classes.{class_range, class_at_lem, class_even, cla
 use Rattle.directory.specs.declared.Fields.{Fields}
 use Rattle.sheets.specs.declared.Said.{Said}
 use Rattle.sheets.specs.declared.Said.TheVariants.{Start, Global, Entry, Value as Given, Last, Nothing}
-use Rattle.sheets.specs.declared.SheetVerdict.TheVariants.{Good}
 use Rattle.sheets.specs.Line.{run}
 use Rattle.sheets.specs.Sheet.{Line, says_of, line_from, said_by, lines_in}
 use Rattle.sheets.specs.Order.{verdict_of}
@@ -244,7 +244,7 @@ laid_first cs o i h z =
     let a : 0 + i ≡ i = omega arith in
     rw a at (laid-at cs o 0 i (omega arith) (rw a z))
 
-pub filled : (m : ℕ) (c : List ℕ) (n : ℕ) (t : List ℕ) → m ≡ table_size → c ≡ laid (replicate m 0) 0 (classes_in (lines_in t)) → n ≡ length (sheet_types t) → verdict_of t ≡ Good n → Tabled c n t
+pub filled : (m : ℕ) (c : List ℕ) (n : ℕ) (t : List ℕ) → m ≡ table_size → c ≡ laid (replicate m 0) 0 (classes_in (lines_in t)) → n ≡ length (sheet_types t) → verdict_of t ≡ Ok n → Tabled c n t
 filled m c n t em e en g = record {
   size = ap length e ∙ length-laid (replicate m 0) 0 (classes_in (lines_in t)) ∙ length-replicate {A = ℕ} m 0 ∙ em;
   each = λ few i h. ap (λ (l : List ℕ). get_or l i 0) e ∙ laid_first (classes_in (lines_in t)) (replicate m 0) i (rw (length-replicate {A = ℕ} m 0) (omega arith)) (get_or-replicate {A = ℕ} m i 0 0 (omega arith));

@@ -1,10 +1,10 @@
 -- The code's form: the classes of a sheet's entries, and the table that keeps them.
-use Rattle.std.specs.Prelude.{◌≡◌, cond, ◌&&◌, List, ◌∷◌, map, ℕ, zero, suc, ◌/◌, ◌%◌, ◌≤◌, ◌<◌, ltb}
+use Rattle.std.specs.Prelude.{◌≡◌, cond, ◌&&◌, List, ◌∷◌, map, ℕ, zero, suc, ◌/◌, ◌%◌, ◌≤◌, ◌<◌}
+use Rattle.std.specs.Prelude.{ltb, Ok}
 use Rattle.std.specs.Prelude.{eqb, length, get_or}
 use Rattle.references.specs.References.{no_entry, other_entry, class_of}
 use Rattle.sheets.specs.declared.Said.{Said}
 use Rattle.sheets.specs.declared.Said.TheVariants.{Start, Global, Entry, Value as Given, Last, Nothing}
-use Rattle.sheets.specs.declared.SheetVerdict.TheVariants.{Good}
 use Rattle.sheets.specs.Sheet.{Line, lines_in}
 use Rattle.sheets.specs.Order.{verdict_of}
 use Rattle.sheets_rows.specs.Rows.{types_in}
@@ -44,4 +44,4 @@ pub record Tabled (classes : List ℕ) (n : ℕ) (t : List ℕ) : Type 0 where
   pub size : length classes ≡ table_size
   pub each : n ≤ table_size → (i : ℕ) → i < table_size → get_or classes i 0 ≡ get_or (classes_in (lines_in t)) i 0
   pub count : n ≡ length (sheet_types t)
-  pub good : verdict_of t ≡ Good n
+  pub good : verdict_of t ≡ Ok n

@@ -1,22 +1,26 @@
 -- The code's form: a pass over a sheet's lines in line order: the first refusal of what is asked of G lines and of entry lines.
-use Rattle.std.specs.Prelude.{◌≡◌, List, [], ◌∷◌, ℕ, ◌+◌}
-use Rattle.columns.specs.Refusal.{Outcome, accepted, refused}
+use Rattle.std.specs.Prelude.{◌≡◌, List, [], ◌∷◌, ℕ, ◌+◌, Ok, Result, Err}
+use Rattle.columns.specs.declared.SheetLine.{SheetLine}
+use Rattle.columns.specs.declared.Refusal.{Refusal}
+use Rattle.columns.specs.Refusal.{Outcome, accepted, refused, refusal_at}
 use Rattle.values.specs.Value.{Item}
 use Rattle.sheets.specs.Sheet.{Line, start, global, entry, value, last, none, Row, row}
 use Rattle.sheets.specs.Order.{sheet_line}
 use Rattle.sheets_rows.specs.Rows.{lines_at, values_first}
-use Rattle.write_lines.specs.declared.SheetPass.{SheetPass}
-use Rattle.write_lines.specs.declared.SheetPass.TheVariants.{Good, Refused}
+
+-- all is good, or the first refusal
+abbrev pub SheetPass : Type 0
+SheetPass = Result (Unit {0}) (Refusal SheetLine)
 
 -- whether all is accepted, or the first refusal
 abbrev pub pass_of : {A : Type 0} → Outcome A → SheetPass
-pass_of (accepted a) = Good
-pass_of (refused n p) = Refused n (sheet_line p)
+pass_of (accepted a) = Ok tt
+pass_of (refused n p) = Err (refusal_at n (sheet_line p))
 
 -- the first refusal of two checks
 abbrev pub or_else : SheetPass → SheetPass → SheetPass
-or_else Good q = q
-or_else (Refused n l) q = Refused n l
+or_else (Ok u) q = q
+or_else (Err r) q = Err r
 
 -- what is asked of a G line at its place
 abbrev pub OfGlobal : Type 0
@@ -32,16 +36,16 @@ no_rule place g = accepted tt
 
 -- a line, and those behind it: an entry has the values that stand there
 abbrev pub line_check : OfGlobal → OfRow → ℕ → Line → List Line → SheetPass
-line_check g f place (start t) ls = Good
+line_check g f place (start t) ls = Ok tt
 line_check g f place (global n v) ls = pass_of (g place (n, v))
 line_check g f place (entry known n x label) ls = pass_of (f place (row known x label (values_first ls)))
-line_check g f place (value reference v) ls = Good
-line_check g f place (last n) ls = Good
-line_check g f place (none b) ls = Good
+line_check g f place (value reference v) ls = Ok tt
+line_check g f place (last n) ls = Ok tt
+line_check g f place (none b) ls = Ok tt
 
 -- the lines from a place on
 unfoldable pub lines_pass : OfGlobal → OfRow → ℕ → List Line → SheetPass
-lines_pass g f place [] = Good
+lines_pass g f place [] = Ok tt
 lines_pass g f place (l ∷ ls) = or_else (line_check g f place l ls) (lines_pass g f (place + 1) ls)
 
 -- the lines from `from` on are asked as those from `next` on: the so many between are asked nothing

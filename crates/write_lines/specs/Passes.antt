@@ -3,8 +3,7 @@ use Rattle.std.specs.Prelude.{List, ℕ}
 use Rattle.sheets.specs.Sheet.{lines_in}
 use Rattle.sheets_rows.specs.Rows.{lines_at}
 use Rattle.model.specs.Write.{global_rule, row_rules, row_references, row_entity_rules}
-use Rattle.write_lines.specs.declared.SheetPass.{SheetPass}
-use Rattle.write_lines.specs.Lines.{or_else, no_rule, lines_pass}
+use Rattle.write_lines.specs.Lines.{or_else, no_rule, lines_pass, SheetPass}
 use Rattle.write_lines.specs.Classes.{sheet_types}
 
 -- ---- from a place of the sheet on, where the line has this number

@@ -1,12 +1,11 @@
 -- The code's form: what a line shows of the entry with a directory number, where it was found by a guess.
-use Rattle.std.specs.Prelude.{◌≡◌, Bool, true, cond, ◌&&◌, ◌||◌, List, ℕ, ◌+◌, ◌-◌, ◌≤◌, length, get_or}
+use Rattle.std.specs.Prelude.{◌≡◌, Bool, true, cond, ◌&&◌, ◌||◌, List, ℕ, ◌+◌, ◌-◌, ◌≤◌, length, get_or, Ok}
 use Rattle.std.specs.Prelude.{leb, eqb}
 use Rattle.columns.specs.Columns.{columns}
 use Rattle.columns.specs.Format.{most_integer}
 use Rattle.columns.specs.Letters.{tab, newline, letter_e, letter_u}
 use Rattle.sheets.specs.Line.{run}
 use Rattle.sheets.specs.Folds.{plain_fold}
-use Rattle.sheets.specs.declared.SheetVerdict.TheVariants.{Good}
 use Rattle.sheets.specs.Order.{verdict_of}
 use Rattle.references.specs.References.{no_entry, class_of, class_at}
 use Rattle.write_lines.specs.Classes.{sheet_types}
@@ -18,7 +17,7 @@ begins_entry before b = (eqb b letter_e || eqb b letter_u) && eqb before newline
 -- such a line begins at a place of a good sheet
 pub record EntryAt (t : List ℕ) (at : ℕ) : Type 0 where
   pub entries : ℕ
-  pub good : verdict_of t ≡ Good entries
+  pub good : verdict_of t ≡ Ok entries
   pub some : 1 ≤ at
   pub two : at + 2 ≤ length t
   pub begins : begins_entry (get_or t (at - 1) 0) (get_or t at 0) ≡ true

@@ -9,11 +9,7 @@ pub mod refer;
 pub mod rules;
 pub mod table;
 
-use columns::{Fault, SheetLine};
+use columns::{Refusal, SheetLine};
 
 // All is good, or the first refusal and its line.
-#[derive(Clone, Copy)]
-pub enum SheetPass {
-    Good,
-    Refused { fault: Fault, line: SheetLine },
-}
+pub type SheetPass = Result<(), Refusal<SheetLine>>;

@@ -9,7 +9,7 @@ ghost use Rattle.write_lines.specs.Passes.{references_from};
 use crate::SheetPass;
 use crate::heads::head_at;
 use crate::table::{class_at, some_at};
-use columns::{Fault, SheetLine};
+use columns::{Fault, Refusal, SheetLine};
 use directory::{Entry, Wanted};
 use references::ANY;
 use sheets::Said;
@@ -52,24 +52,26 @@ fn all_ask_ok(classes: &[u8], n: usize, t: &[u8], e: Entry) -> bool
 }
 
 // What a line says, at its place.
+#[tactic(auto, using(crate::proofs::Referring::refers))]
 pub fn reference_of(classes: &[u8], n: usize, t: &[u8], said: Said, line: SheetLine) -> SheetPass
     requires { Tabled classes.now n t.now }
     ensures { result ≡ said_references (sheet_types t.now) line.0 said }
 {
     let Said::Entry { fields, .. } = said else {
-        return SheetPass::Good;
+        return Ok(());
     };
     let e = directory_rules::entry_of(fields);
     if all_ask_ok(classes, n, t, e) {
-        return SheetPass::Good;
+        return Ok(());
     }
-    SheetPass::Refused {
+    Err(Refusal {
         fault: Fault::Reference,
         line,
-    }
+    })
 }
 
 // All entries from `from` on, where the line has this place.
+#[tactic(auto, using(crate::proofs::Naming::referring))]
 pub fn references(classes: &[u8], n: usize, t: &[u8], from: usize, first: SheetLine) -> SheetPass
     requires tabled { Tabled classes.now n t.now }
     requires from_in_bounds { from ≤ length t.now }
@@ -82,19 +84,12 @@ pub fn references(classes: &[u8], n: usize, t: &[u8], from: usize, first: SheetL
     while at < size {
         let end = end_of(t, at);
         if end == size {
-            return SheetPass::Good;
+            return Ok(());
         }
         let said = head_at(t, at, end);
-        let found = reference_of(classes, n, t, said, SheetLine(place));
-        match found {
-            SheetPass::Refused { fault, line } => {
-                return SheetPass::Refused { fault, line };
-            }
-            SheetPass::Good => {
-                at = end + 1;
-                place += 1;
-            }
-        }
+        reference_of(classes, n, t, said, SheetLine(place))?;
+        at = end + 1;
+        place += 1;
     }
-    SheetPass::Good
+    Ok(())
 }

@@ -4,41 +4,41 @@ ghost use Rattle.write_lines.specs.Lines.{or_else};
 ghost use Rattle.write_lines.specs.Heads.{said_rule};
 
 use crate::SheetPass;
-use columns::{Fault, SheetLine};
+use columns::{Fault, Refusal, SheetLine};
 use directory::Rule;
 use sheets::Said;
 
 // What a line says, at its place.
+#[tactic(auto, using(crate::proofs::Saying::saying))]
 fn rule_of(said: Said, line: SheetLine) -> SheetPass
     ensures { result ≡ said_rule line.0 said }
 {
     match said {
         Said::Global { number, value, .. } => {
             if records_global::global_fits(number, value) {
-                return SheetPass::Good;
+                return Ok(());
             }
-            SheetPass::Refused {
+            Err(Refusal {
                 fault: Fault::Global,
                 line,
-            }
+            })
         }
         Said::Entry { fields, .. } => {
             let rule = directory_rules::entry_rules(fields);
             match rule {
-                Rule::Good => SheetPass::Good,
-                Rule::Refused(fault) => SheetPass::Refused { fault, line },
+                Rule::Good => Ok(()),
+                Rule::Refused(fault) => Err(Refusal { fault, line }),
             }
         }
-        _ => SheetPass::Good,
+        _ => Ok(()),
     }
 }
 
 // The first refusal so far, or that of this line.
+#[tactic(auto, using(crate::proofs::Saying::saying))]
 pub fn rule_too(first: SheetPass, said: Said, place: SheetLine) -> SheetPass
     ensures { result ≡ or_else first (said_rule place.0 said) }
 {
-    match first {
-        SheetPass::Refused { fault, line } => SheetPass::Refused { fault, line },
-        SheetPass::Good => rule_of(said, place),
-    }
+    first?;
+    rule_of(said, place)
 }
