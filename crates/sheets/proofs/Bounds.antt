@@ -9,7 +9,6 @@ use Rattle.std.proofs.Common.{Option, Some, None}
 use Rattle.columns.specs.Columns.{columns}
 use Rattle.columns.proofs.Tests.{cond_cases, both_left}
 use Rattle.columns.proofs.Columns.{length-columns}
-use Rattle.std.specs.Prelude.{Option, Some, None}
 use Rattle.values.specs.declared.Value.{Value}
 use Rattle.values.specs.Value.{is_missing}
 use Rattle.values.specs.Writing.{Inside, Placed}

@@ -9,7 +9,6 @@ use lib.Dec.{leb}
 use borrow.Author.Tests.{leb-true}
 use Rattle.std.proofs.Common.{Option, Some, None}
 use Rattle.columns.proofs.Tests.{cond_cases, both_left}
-use Rattle.std.specs.Prelude.{Option, Some, None}
 use Rattle.values.specs.declared.Value.{Value}
 use Rattle.values.specs.Value.{is_missing}
 use Rattle.values.specs.Strict.{strict_of}

@@ -15,7 +15,6 @@ use Rattle.columns.specs.Format.{most_integer}
 use Rattle.columns.proofs.Tests.{both}
 use Rattle.columns.proofs.Columns.{columns-none, columns_rest, length-columns, byte_of}
 use Rattle.values.specs.declared.Value.{Value}
-use Rattle.std.specs.Prelude.{Option, Some, None}
 use Rattle.values.specs.Strict.{strict_of}
 use Rattle.values.specs.Value.{is_missing}
 use Rattle.directory.specs.declared.Fields.{Fields}

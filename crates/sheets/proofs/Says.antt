@@ -16,7 +16,6 @@ use Rattle.columns.specs.Columns.{printable}
 use Rattle.columns.specs.Decimal.{dec}
 use Rattle.columns.proofs.Tests.{both, both_right}
 use Rattle.values.specs.declared.Value.{Value}
-use Rattle.std.specs.Prelude.{Option, Some, None}
 use Rattle.values.specs.Value.{Item, item_of, spelled, is_missing}
 use Rattle.values.specs.Strict.{strict_of}
 use Rattle.values.proofs.Digits.{dec-value}

@@ -13,7 +13,6 @@ use Rattle.columns.specs.Columns.{columns}
 use Rattle.columns.proofs.Columns.{byte_of}
 use Rattle.columns.proofs.Tests.{cond_cases, both_left, both_right, true_false}
 use Rattle.values.specs.declared.Value.{Value}
-use Rattle.std.specs.Prelude.{Option, Some, None}
 use Rattle.values.specs.Strict.{strict_of}
 use Rattle.values.specs.Value.{is_missing}
 use Rattle.sheets.specs.declared.EntryLine.{EntryLine}
