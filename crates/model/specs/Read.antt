@@ -2,6 +2,7 @@
 use Rattle.std.specs.Prelude.{Bool, true, false, cond, not, ◌&&◌, List, [], ◌∷◌, map, ℕ, suc, ◌+◌, ◌-◌, ◌*◌}
 use Rattle.std.specs.Prelude.{◌/◌, length, get_or}
 use Rattle.std.specs.Prelude.{drop, leb, eqb}
+use Rattle.std.specs.Prelude.{Option, Some, None}
 use Rattle.columns.specs.declared.Fault.TheVariants.{ListOrLength, Spelling, Global, Directory, FirstValue}
 use Rattle.columns.specs.Refusal.{Outcome, accepted, refused, demand, each_at, ◌then◌}
 use Rattle.columns.specs.First.{first_not, up_from}
@@ -17,8 +18,7 @@ use Rattle.records.specs.Global.{opening_of, first_field, global_fits}
 use Rattle.cards.specs.declared.Counts.{Counts}
 use Rattle.cards.specs.Cards.{cards_of, outcome, first_g, first_d, entries, entry_line, parameter_line}
 use Rattle.directory.specs.declared.Fields.{Fields}
-use Rattle.directory.specs.declared.EntryRead.{EntryRead}
-use Rattle.directory.specs.declared.EntryRead.TheVariants.{Spelt, Wrong as WrongEntry}
+use Rattle.directory.specs.declared.Spelt.{Spelt}
 use Rattle.directory.specs.Lines.{entry_at, label_at}
 use Rattle.directory.specs.Rules.{entry_rules, reference_rule}
 use Rattle.owners.specs.InFile.{owners_in, outcome as ownership_outcome}
@@ -106,10 +106,11 @@ pub record Listed : Type 0 where
   pub lines : ℕ
 
 -- 9 for a field that is misspelt, then 9 and 13
-abbrev pub by_entry : List ℕ → ℕ → EntryRead → Outcome Listed
-by_entry label place WrongEntry = refused Directory place
-by_entry label place (Spelt x from count) =
-    entry_rules x place then λ _. accepted (record { fields = x; label = label; pointer = from.0; lines = count })
+abbrev pub by_entry : List ℕ → ℕ → Option Spelt → Outcome Listed
+by_entry label place None = refused Directory place
+by_entry label place (Some e) =
+    entry_rules e.fields place
+    then λ _. accepted (record { fields = e.fields; label = label; pointer = e.pointer.0; lines = e.lines })
 
 -- the entry whose first D line has this place
 unfoldable pub entry_in : List ℕ → ℕ → ℕ → Outcome Listed
