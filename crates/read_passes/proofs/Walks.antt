@@ -13,11 +13,9 @@ use Rattle.columns.specs.Refusal.{Outcome, accepted, refused, each_at, ◌then�
 use Rattle.cards.specs.declared.Counts.{Counts}
 use Rattle.cards.specs.Cards.{entries, entry_line}
 use Rattle.cards.specs.Shared.{file_line}
-use Rattle.directory.specs.declared.Fields.{Fields}
 use Rattle.std.specs.Prelude.{Option, Some, None, Result, Ok, Err, ⊤}
 use Rattle.directory.specs.declared.Spelt.{Spelt}
-use Rattle.columns.specs.declared.ParameterLine.{ParameterLine}
-use Rattle.directory.specs.Lines.{entry_at, label_at, spelt_entry}
+use Rattle.directory.specs.Lines.{entry_at, label_at}
 use Rattle.directory.specs.Asking.{outcome_of, rule_of}
 use Rattle.directory.proofs.Ranges.{rule_outcome}
 use Rattle.model.specs.Read.{Listed, two, by_entry, entry_in, entries_in, first_entry}
@@ -143,11 +141,11 @@ module _ (f : List ℕ) (c : Counts) (i k : ℕ) (r : Option Spelt) (ek : k ≡ 
   pub turn_wrong : (kept : FilePass) → r ≡ None → RefusedTurn Directory (file_line (k + 1)) ≡ turn_of (entry_check f c i) kept
   turn_wrong kept e = sym (ap (λ (p : FilePass). turn_of p kept) one ∙ rw e)
 
-  module _ (x : Fields) (from : ParameterLine) (count : ℕ) (e : r ≡ Some (spelt_entry x from count)) (rule : Result ⊤ Fault) (eq : rule ≡ rule_of x) where
+  module _ (x : Spelt) (e : r ≡ Some x) (rule : Result ⊤ Fault) (eq : rule ≡ rule_of x.fields) where
     ruled : entry_check f c i ≡ pass_of (outcome_of rule (k + 1))
-    ruled = one ∙ rw (e, ← rule_outcome x (k + 1), ← eq) (by rule)
+    ruled = one ∙ rw (e, ← rule_outcome x.fields (k + 1), ← eq) (by rule)
       where
-        by : (q : Result ⊤ Fault) → pass_of {A = Listed} (outcome_of q (k + 1) then λ _. accepted (record { fields = x; label = label_at f k; pointer = from.0; lines = count })) ≡ pass_of (outcome_of q (k + 1))
+        by : (q : Result ⊤ Fault) → pass_of {A = Listed} (outcome_of q (k + 1) then λ _. accepted (record { fields = x.fields; label = label_at f k; pointer = x.pointer.0; lines = x.lines })) ≡ pass_of (outcome_of q (k + 1))
         by (Ok done) = refl
         by (Err n) = refl
 

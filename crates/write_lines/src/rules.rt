@@ -5,7 +5,6 @@ ghost use Rattle.write_lines.specs.Heads.{said_rule};
 
 use crate::SheetPass;
 use columns::{Fault, SheetLine};
-use directory::Rule;
 use sheets::Said;
 
 // What a line says, at its place.
@@ -25,8 +24,8 @@ fn rule_of(said: Said, line: SheetLine) -> SheetPass
         Said::Entry { fields, .. } => {
             let rule = directory_rules::entry_rules(fields);
             match rule {
-                Rule::Good => SheetPass::Good,
-                Rule::Refused(fault) => SheetPass::Refused { fault, line },
+                Ok(()) => SheetPass::Good,
+                Err(fault) => SheetPass::Refused { fault, line },
             }
         }
         _ => SheetPass::Good,
