@@ -8,6 +8,7 @@ use lib.ListN.{length, get_or, length-take}
 use lib.Dec.{leb, eqb}
 use borrow.Author.Tests.{leb-true}
 use Rattle.std.specs.Prelude.{Option, Some, None}
+use Rattle.std.proofs.lemmas.Option.{same_Some}
 use Rattle.columns.specs.declared.Signed.{Signed}
 use Rattle.columns.specs.Columns.{columns}
 use Rattle.columns.specs.Fixed.{field_of, signed_of, with_sign, signed}
@@ -173,3 +174,12 @@ small f k = pick (numbers_from f k 0 12) (all_good f k 12 0)
 
 pub small_read : (f : List ℕ) (k : ℕ) (r : Option Spelt) → r ≡ entry_at f k → Small r
 small_read f k r e = rw e (small f k)
+
+-- two that are read alike are alike part by part
+pub same_spelt : (s t : Spelt) → Some s ≡ Some t → (s.fields ≡ t.fields) × (s.pointer ≡ t.pointer) × (s.lines ≡ t.lines)
+same_spelt s t e =
+    let q = same_Some s t e in (
+      ap (λ (x : Spelt). x.fields) q,
+      ap (λ (x : Spelt). x.pointer) q,
+      ap (λ (x : Spelt). x.lines) q,
+    )

@@ -21,9 +21,9 @@ use Rattle.records.specs.Global.{opens, first_field, opening_of}
 use Rattle.cards.specs.declared.Counts.{Counts}
 use Rattle.cards.specs.Cards.{cards_of, outcome}
 use Rattle.directory.specs.declared.Fields.{Fields}
-use Rattle.directory.specs.declared.EntryRead.{EntryRead}
-use Rattle.directory.specs.declared.EntryRead.TheVariants.{Spelt, Wrong}
-use Rattle.directory.specs.Lines.{entry_at, label_at}
+use Rattle.std.specs.Prelude.{Option, Some, None}
+use Rattle.directory.specs.declared.Spelt.{Spelt}
+use Rattle.directory.specs.Lines.{entry_at, label_at, spelt_entry}
 use Rattle.directory.specs.Rules.{entry_rules}
 use Rattle.owners.specs.InFile.{owners_in, outcome as ownership_outcome}
 use Rattle.layouts.specs.Entities.{entity_check}
@@ -74,7 +74,7 @@ pub record EntryApart (f : List ℕ) (place k : ℕ) (y : Listed) : Type 0 where
   pub fields : Fields
   pub from : ParameterLine
   pub count : ℕ
-  pub spelt : entry_at f k ≡ Spelt fields from count
+  pub spelt : entry_at f k ≡ Some (spelt_entry fields from count)
   pub rules : entry_rules fields place ≡ accepted tt
   pub is : y ≡ record { fields = fields; label = label_at f k; pointer = from.0; lines = count }
 
@@ -82,12 +82,12 @@ pub entry_apart : (f : List ℕ) (place k : ℕ) (y : Listed) → entry_in f pla
 unfolding entry_in
 entry_apart f place k y h = by (entry_at f k) refl h
   where
-    by : (r : EntryRead) → entry_at f k ≡ r → by_entry (label_at f k) place r ≡ accepted y → EntryApart f place k y
-    by Wrong e h = let z : ◌≡◌ {A = ℕ} 0 1 = cc in absurd (omega arith)
-    by (Spelt x from count) e h =
-        let b = then_accepted (entry_rules x place) (λ _. accepted (record { fields = x; label = label_at f k; pointer = from.0; lines = count })) y h in
+    by : (r : Option Spelt) → entry_at f k ≡ r → by_entry (label_at f k) place r ≡ accepted y → EntryApart f place k y
+    by None e h = let z : ◌≡◌ {A = ℕ} 0 1 = cc in absurd (omega arith)
+    by (Some r) e h =
+        let b = then_accepted (entry_rules r.fields place) (λ _. accepted (record { fields = r.fields; label = label_at f k; pointer = r.pointer.0; lines = r.lines })) y h in
         let s = b.second in
-        record { fields = x; from = from; count = count; spelt = e; rules = b.first; is = cc }
+        record { fields = r.fields; from = r.pointer; count = r.lines; spelt = e; rules = b.first; is = cc }
 
 -- ---- an entity of the last pass
 

@@ -4,8 +4,8 @@ use mathlib.Core.Bool.{Bool, true, false, cond, ◌&&◌}
 use mathlib.Core.List.{List, ◌∷◌, map, map-map}
 use Prim.Native.Nat.{ℕ, suc, ◌+◌}
 use native.Mathlib.Omega.{arith}
-use Rattle.columns.specs.declared.SignedField.{SignedField}
-use Rattle.columns.specs.declared.SignedField.TheVariants.{Number, Bad}
+use Rattle.std.specs.Prelude.{Option, Some, None}
+use Rattle.columns.specs.declared.Signed.{Signed}
 use Rattle.columns.specs.declared.ParameterLine.{ParameterLine}
 use Rattle.columns.specs.First.{up_from}
 use Rattle.columns.specs.Fixed.{signed_of}
@@ -14,10 +14,10 @@ use Rattle.columns.proofs.Stops.{each_alike}
 use Rattle.cards.specs.declared.Counts.{Counts}
 use Rattle.cards.specs.Cards.{first_d, entries, entry_line}
 use Rattle.directory.specs.declared.Fields.{Fields}
-use Rattle.directory.specs.declared.EntryRead.TheVariants.{Spelt, Wrong}
 use Rattle.directory.specs.Fields.{type_at, fields_of}
-use Rattle.directory.specs.Lines.{number, again, pointer, lines, slot_in, number_in, Numbers, numbers, misspelt, with, numbers_from, is_same, positive, parameter_line, size_of, spelt, entry_at}
+use Rattle.directory.specs.Lines.{number, again, pointer, lines, slot_in, number_in, Numbers, numbers, misspelt, with, numbers_from, is_same, positive, parameter_line, size_of, spelt, entry_at, spelt_entry}
 use Rattle.directory.specs.Naming.{type_on, types_at}
+use Rattle.directory.proofs.Within.{same_spelt}
 use Rattle.model.specs.Model.{type_of}
 use Rattle.model.specs.Read.{Listed, entry_in, two, first_entry, entries_in, listed_type}
 use Rattle.model.proofs.ReadApart.{entry_apart}
@@ -37,15 +37,15 @@ entry_first : (f : List ℕ) (k : ℕ)
 unfolding entry_at
 entry_first f k =
     ap (λ (ns : Numbers). spelt ns (signed_of (slot_in f k again)) (signed_of (slot_in f k pointer)) (signed_of (slot_in f k lines)))
-    (first_number f k 0 11 ∙ ap (λ (r : SignedField). with r (numbers_from f k 1 11)) (type_number f k))
+    (first_number f k 0 11 ∙ ap (λ (r : Option Signed). with r (numbers_from f k 1 11)) (type_number f k))
 
-spelt_first : (t : SignedField) (ns : Numbers) (a p l : SignedField) (x : Fields) (from : ParameterLine) (count : ℕ) → spelt (with t ns) a p l ≡ Spelt x from count → type_of x ≡ size_of t
-spelt_first Bad ns a p l x from count h = let z : ◌≡◌ {A = ℕ} 0 1 = cc in absurd (omega arith)
-spelt_first (Number n) misspelt a p l x from count h = let z : ◌≡◌ {A = ℕ} 0 1 = cc in absurd (omega arith)
-spelt_first (Number n) (numbers ns) a p l x from count h = by (is_same n a && (positive p && positive l)) h
+spelt_first : (t : Option Signed) (ns : Numbers) (a p l : Option Signed) (x : Fields) (from : ParameterLine) (count : ℕ) → spelt (with t ns) a p l ≡ Some (spelt_entry x from count) → type_of x ≡ size_of t
+spelt_first None ns a p l x from count h = let z : ◌≡◌ {A = ℕ} 0 1 = cc in absurd (omega arith)
+spelt_first (Some n) misspelt a p l x from count h = let z : ◌≡◌ {A = ℕ} 0 1 = cc in absurd (omega arith)
+spelt_first (Some n) (numbers ns) a p l x from count h = by (is_same n a && (positive p && positive l)) h
   where
-    by : (b : Bool) → cond b (Spelt (fields_of (n ∷ ns)) (parameter_line (size_of p)) (size_of l)) Wrong ≡ Spelt x from count → type_of x ≡ n.size
-    by true e = let q : x ≡ fields_of (n ∷ ns) = cc in ap type_of q
+    by : (b : Bool) → cond b (Some (spelt_entry (fields_of (n ∷ ns)) (parameter_line (size_of p)) (size_of l))) None ≡ Some (spelt_entry x from count) → type_of x ≡ n.size
+    by true e = ap type_of (sym (same_spelt _ _ e).0)
     by false e = let z : ◌≡◌ {A = ℕ} 0 1 = cc in absurd (omega arith)
 
 -- an entry that is accepted has the type that stands on its first D line

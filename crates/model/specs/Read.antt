@@ -16,8 +16,7 @@ use Rattle.records.specs.Global.{opening_of, first_field, global_fits}
 use Rattle.cards.specs.declared.Counts.{Counts}
 use Rattle.cards.specs.Cards.{cards_of, outcome, first_g, first_d, entries, entry_line, parameter_line}
 use Rattle.directory.specs.declared.Fields.{Fields}
-use Rattle.directory.specs.declared.EntryRead.{EntryRead}
-use Rattle.directory.specs.declared.EntryRead.TheVariants.{Spelt, Wrong as WrongEntry}
+use Rattle.directory.specs.declared.Spelt.{Spelt}
 use Rattle.directory.specs.Lines.{entry_at, label_at}
 use Rattle.directory.specs.Rules.{entry_rules, reference_rule}
 use Rattle.owners.specs.InFile.{owners_in, outcome as ownership_outcome}
@@ -108,10 +107,11 @@ pub record Listed : Type 0 where
   pub lines : ℕ
 
 -- 9 for a field that is misspelt, then 9 and 13
-abbrev pub by_entry : List ℕ → ℕ → EntryRead → Outcome Listed
-by_entry label place WrongEntry = refused Directory place
-by_entry label place (Spelt x from count) =
-    entry_rules x place then λ _. accepted (record { fields = x; label = label; pointer = from.0; lines = count })
+abbrev pub by_entry : List ℕ → ℕ → Option Spelt → Outcome Listed
+by_entry label place None = refused Directory place
+by_entry label place (Some e) =
+    entry_rules e.fields place
+    then λ _. accepted (record { fields = e.fields; label = label; pointer = e.pointer.0; lines = e.lines })
 
 -- the entry whose first D line has this place
 unfoldable pub entry_in : List ℕ → ℕ → ℕ → Outcome Listed

@@ -13,7 +13,7 @@ ghost use Rattle.read_passes.specs.Walks.{or_else, turn_of, entry_check, referen
 use crate::refer::reference_check;
 use cards::Counts;
 use columns::{Fault, FileLine, wide};
-use directory::{EntryRead, Rule};
+use directory::Spelt;
 use read_passes::{FilePass, Turn};
 
 // Entry i, whose first D line is its place, with what is kept of the entries before it.
@@ -27,7 +27,7 @@ fn entry_check(file: &[u8], c: Counts, i: usize, kept: FilePass) -> Turn
     let k = cards::entry_line(c, i);
     let line = FileLine(k + 1);
     let read = directory_read::entry_at(file, k);
-    let EntryRead::Spelt { fields, .. } = read else {
+    let Some(Spelt { fields, .. }) = read else {
         return Turn::Refused {
             fault: Fault::Directory,
             line,
@@ -35,8 +35,8 @@ fn entry_check(file: &[u8], c: Counts, i: usize, kept: FilePass) -> Turn
     };
     let rule = directory_rules::entry_rules(fields);
     match rule {
-        Rule::Refused(fault) => Turn::Refused { fault, line },
-        Rule::Good => {
+        Err(fault) => Turn::Refused { fault, line },
+        Ok(()) => {
             let next = reference_check(file, first, total, fields, line, kept);
             Turn::Kept(next)
         }

@@ -15,13 +15,14 @@ use read_passes::FilePass;
 const REFERENCES: usize = 7;
 
 // Whether what is asked, if it is, names such an entry.
-fn asks_ok(file: &[u8], first: usize, n: usize, w: Wanted) -> bool
+#[tactic(auto, using(read_passes::proofs::Referring::asks))]
+fn asks_ok(file: &[u8], first: usize, n: usize, w: Option<Wanted>) -> bool
     requires { line_bytes * (first + 2 * n) ≤ length file.now }
     ensures { result ≡ asks_ok (types_at file.now first n) w }
 {
-    if !w.asked {
+    let Some(w) = w else {
         return true;
-    }
+    };
     let class = directory_lookup::class_at(file, first, n, w.number);
     references::fits(w.want, class)
 }
@@ -31,13 +32,11 @@ fn all_ask_ok(file: &[u8], first: usize, n: usize, e: Entry) -> bool
     requires { line_bytes * (first + 2 * n) ≤ length file.now }
     ensures { result ≡ all_fit (types_at file.now first n) (references e) }
 {
-    let mut j = 0;
-    while j < REFERENCES {
+    for j in 0..REFERENCES {
         let w = directory_rules::wanted(e, j);
         if !asks_ok(file, first, n, w) {
             return false;
         }
-        j += 1;
     }
     true
 }

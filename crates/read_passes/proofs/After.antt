@@ -7,10 +7,10 @@ use Rattle.columns.specs.declared.ParameterLine.{ParameterLine}
 use Rattle.columns.specs.Refusal.{Outcome, accepted, refused}
 use Rattle.cards.specs.declared.Counts.{Counts}
 use Rattle.cards.specs.Cards.{entries, entry_line}
-use Rattle.directory.specs.declared.Fields.{Fields}
-use Rattle.directory.specs.declared.EntryRead.{EntryRead}
-use Rattle.directory.specs.declared.EntryRead.TheVariants.{Spelt, Wrong}
-use Rattle.directory.specs.Lines.{entry_at}
+use Rattle.std.specs.Prelude.{Option, Some, None}
+use Rattle.directory.specs.declared.Spelt.{Spelt}
+use Rattle.directory.specs.Lines.{entry_at, spelt_entry}
+use Rattle.directory.proofs.Within.{same_spelt}
 use Rattle.model.specs.Read.{Before, before}
 use Rattle.read_passes.specs.declared.BeforeAnswer.{BeforeAnswer}
 use Rattle.read_passes.specs.declared.BeforeAnswer.TheVariants.{Good}
@@ -56,42 +56,42 @@ module _ (f : List ℕ) (r : BeforeAnswer) (er : r ≡ before_answer (before f))
 
 -- ---- an entry
 
-module _ (f : List ℕ) (c : Counts) (rd : Ready f c) (i : ℕ) (h : i < entries c) (k : ℕ) (r : EntryRead) (ek : k ≡ entry_line c i) (er : r ≡ entry_at f k) where
+module _ (f : List ℕ) (c : Counts) (rd : Ready f c) (i : ℕ) (h : i < entries c) (k : ℕ) (r : Option Spelt) (ek : k ≡ entry_line c i) (er : r ≡ entry_at f k) where
   entered_i : Entered f c i
   entered_i = entered f c rd.holds rd.spelt rd.owned i h
 
-  r-is : r ≡ Spelt entered_i.fields entered_i.from entered_i.count
+  r-is : r ≡ Some (spelt_entry entered_i.fields entered_i.from entered_i.count)
   r-is = er ∙ ap (entry_at f) ek ∙ entered_i.is
 
   -- it is no wrong one
-  pub never_wrong : r ≡ Wrong → ⊥
+  pub never_wrong : r ≡ None → ⊥
   never_wrong e = let q = r-is in let z : ◌≡◌ {A = ℕ} 0 1 = cc in omega arith
 
-  module _ (x : Fields) (from : ParameterLine) (count : ℕ) (e : r ≡ Spelt x from count) where
-    same_from : entered_i.from ≡ from
-    same_from = let q = r-is in (cc)
+  module _ (x : Spelt) (e : r ≡ Some x) where
+    same_from : entered_i.from ≡ x.pointer
+    same_from = (same_spelt _ _ (sym r-is ∙ e)).1
 
-    same_count : entered_i.count ≡ count
-    same_count = let q = r-is in (cc)
+    same_count : entered_i.count ≡ x.lines
+    same_count = (same_spelt _ _ (sym r-is ∙ e)).2
 
-    same_fields : entered_i.fields ≡ x
-    same_fields = let q = r-is in (cc)
+    same_fields : entered_i.fields ≡ x.fields
+    same_fields = (same_spelt _ _ (sym r-is ∙ e)).0
 
     -- the entry that is listed
-    pub listed_fields : (entry_of f c i).fields ≡ x
+    pub listed_fields : (entry_of f c i).fields ≡ x.fields
     listed_fields = rw entered_i.listed same_fields
 
-    pub listed_pointer : (entry_of f c i).pointer ≡ from.0
+    pub listed_pointer : (entry_of f c i).pointer ≡ x.pointer.0
     listed_pointer = rw entered_i.listed (ap (λ (y : ParameterLine). y.0) same_from)
 
-    pub listed-lines : (entry_of f c i).lines ≡ count
+    pub listed-lines : (entry_of f c i).lines ≡ x.lines
     listed-lines = rw entered_i.listed same_count
 
-    from_eq : entered_i.from.0 ≡ from.0
+    from_eq : entered_i.from.0 ≡ x.pointer.0
     from_eq = ap (λ (y : ParameterLine). y.0) same_from
 
-    pub pointer_some : 1 ≤ from.0
+    pub pointer_some : 1 ≤ x.pointer.0
     pointer_some = omega (arith, from_eq, entered_i.from_some)
 
-    pub pointer_stays : from.0 + count ≤ c.p + 1
+    pub pointer_stays : x.pointer.0 + x.lines ≤ c.p + 1
     pointer_stays = omega (arith, from_eq, same_count, entered_i.stays)

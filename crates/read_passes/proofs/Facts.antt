@@ -17,8 +17,8 @@ use Rattle.records.specs.Global.{opens, opening_of}
 use Rattle.records.specs.Reading.{Stands}
 use Rattle.records.proofs.Globals.{delimits, parameter_above, record_above, they_differ}
 use Rattle.directory.specs.declared.Fields.{Fields}
-use Rattle.directory.specs.declared.EntryRead.TheVariants.{Spelt}
-use Rattle.directory.specs.Lines.{slot_in, pointer, lines, entry_at, label_at}
+use Rattle.std.specs.Prelude.{Some}
+use Rattle.directory.specs.Lines.{slot_in, pointer, lines, entry_at, label_at, spelt_entry}
 use Rattle.owners.specs.declared.Owned.TheVariants.{Everyone}
 use Rattle.owners.specs.InFile.{from_in, count_in, owners_in}
 use Rattle.owners.proofs.Round.{passes_owns, accepted_everyone}
@@ -92,7 +92,7 @@ pub record Entered (f : List ℕ) (c : Counts) (i : ℕ) : Type 0 where
   pub fields : Fields
   pub from : ParameterLine
   pub count : ℕ
-  pub is : entry_at f (entry_line c i) ≡ Spelt fields from count
+  pub is : entry_at f (entry_line c i) ≡ Some (spelt_entry fields from count)
   pub listed : entry_of f c i ≡ record { fields = fields; label = label_at f (entry_line c i); pointer = from.0; lines = count }
   pub from_some : 1 ≤ from.0
   pub count_some : 1 ≤ count

@@ -9,16 +9,13 @@ use borrow.Author.Tests.{not-true, not-false}
 use Rattle.columns.specs.declared.Fault.{Fault}
 use Rattle.columns.specs.declared.Fault.TheVariants.{Reference}
 use Rattle.columns.specs.declared.FileLine.{FileLine}
-use Rattle.columns.specs.declared.ParameterLine.{ParameterLine}
 use Rattle.columns.specs.Refusal.{Outcome, accepted, refused, demand, ◌then◌}
 use Rattle.cards.specs.declared.Counts.{Counts}
 use Rattle.cards.specs.Cards.{first_d, entries, entry_line}
 use Rattle.directory.specs.declared.Fields.{Fields}
 use Rattle.directory.specs.declared.Entry.{Entry}
-use Rattle.directory.specs.declared.Rule.{Rule}
-use Rattle.directory.specs.declared.Rule.TheVariants.{Good as GoodRule}
-use Rattle.directory.specs.declared.EntryRead.{EntryRead}
-use Rattle.directory.specs.declared.EntryRead.TheVariants.{Spelt}
+use Rattle.std.specs.Prelude.{Option, Some, Result, Ok, ⊤}
+use Rattle.directory.specs.declared.Spelt.{Spelt}
 use Rattle.directory.specs.Fields.{entry_of as meaning_of}
 use Rattle.directory.specs.Lines.{entry_at, label_at}
 use Rattle.directory.specs.Rules.{all_fit, references, reference_rule}
@@ -62,23 +59,23 @@ pub ruleset refers = (kept_stays, refer_good, refer-wrong)
 
 -- ---- one entry
 
-module _ (f : List ℕ) (c : Counts) (i k : ℕ) (r : EntryRead) (ek : k ≡ entry_line c i) (er : r ≡ entry_at f k) where
+module _ (f : List ℕ) (c : Counts) (i k : ℕ) (r : Option Spelt) (ek : k ≡ entry_line c i) (er : r ≡ entry_at f k) where
   place : k + 1 ≡ first_entry c + 2 * i
   place = omega arith
 
-  module _ (x : Fields) (from : ParameterLine) (count : ℕ) (e : r ≡ Spelt x from count) where
-    refers-at : reference_check f c i ≡ pass_of (reference_rule (types_at f (first_d c) (entries c)) x (k + 1))
+  module _ (x : Spelt) (e : r ≡ Some x) where
+    refers-at : reference_check f c i ≡ pass_of (reference_rule (types_at f (first_d c) (entries c)) x.fields (k + 1))
     unfolding reference_check listed_at
     refers-at =
-        let q : (entry_of f c i).fields ≡ x = ap (λ (y : EntryRead). (listed_of (label_at f (entry_line c i)) y).fields) (ap (entry_at f) (sym ek) ∙ sym er ∙ e) in
+        let q : (entry_of f c i).fields ≡ x.fields = ap (λ (y : Option Spelt). (listed_of (label_at f (entry_line c i)) y).fields) (ap (entry_at f) (sym ek) ∙ sym er ∙ e) in
         ap₂ (λ (y : Fields) (p : ℕ). pass_of (reference_rule (types_at f (first_d c) (entries c)) y p)) q (sym place)
 
-    pub turn_kept : (rule : Rule) → rule ≡ rule_of x → rule ≡ GoodRule → (kept next : FilePass) (first d : ℕ) → first ≡ entry_line c 0 → d ≡ c.d
-        → next ≡ or_else kept (pass_of (reference_rule (types_at f first (d / 2)) x (k + 1))) → Kept next ≡ turn_of (entry_check f c i) (or_else kept (reference_check f c i))
+    pub turn_kept : (rule : Result ⊤ Fault) → rule ≡ rule_of x.fields → rule ≡ Ok tt → (kept next : FilePass) (first d : ℕ) → first ≡ entry_line c 0 → d ≡ c.d
+        → next ≡ or_else kept (pass_of (reference_rule (types_at f first (d / 2)) x.fields (k + 1))) → Kept next ≡ turn_of (entry_check f c i) (or_else kept (reference_check f c i))
     turn_kept rule eq g kept next first d ef ed en =
         let s : first ≡ first_d c = omega arith in
         let q : next ≡ or_else kept (reference_check f c i) = en ∙ rw (s, ed, refers-at) in
-        ap Kept q ∙ turn_good f c i k r ek er x from count e rule eq (or_else kept (reference_check f c i)) g
+        ap Kept q ∙ turn_good f c i k r ek er x e rule eq (or_else kept (reference_check f c i)) g
 
 -- ---- all entries
 

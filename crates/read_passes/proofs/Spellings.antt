@@ -7,8 +7,8 @@ use native.Mathlib.Nat.{add-zero, zero-add}
 use native.Mathlib.Omega.{arith}
 use lib.ListN.{length, get_or, length-map}
 use Rattle.columns.specs.declared.ParameterLine.{ParameterLine}
-use Rattle.columns.specs.declared.SignedField.{SignedField}
-use Rattle.columns.specs.declared.SignedField.TheVariants.{Number, Bad}
+use Rattle.std.specs.Prelude.{Option, Some, None}
+use Rattle.columns.specs.declared.Signed.{Signed}
 use Rattle.columns.specs.First.{up_from}
 use Rattle.columns.specs.Fixed.{signed_of}
 use Rattle.columns.proofs.First.{length_up_from}
@@ -16,10 +16,10 @@ use Rattle.columns.proofs.Tests.{both_left, both_right}
 use Rattle.cards.specs.declared.Counts.{Counts}
 use Rattle.cards.specs.Cards.{entries, entry_line}
 use Rattle.directory.specs.declared.Fields.{Fields}
-use Rattle.directory.specs.declared.EntryRead.{EntryRead}
-use Rattle.directory.specs.declared.EntryRead.TheVariants.{Spelt, Wrong}
+use Rattle.directory.specs.declared.Spelt.{Spelt}
 use Rattle.directory.specs.Fields.{type_at, fields_of}
-use Rattle.directory.specs.Lines.{number, again, pointer, lines, slot_in, number_in, Numbers, numbers, misspelt, with, numbers_from, positive, size_of, is_same, parameter_line, spelt, entry_at, label_at}
+use Rattle.directory.specs.Lines.{number, again, pointer, lines, slot_in, number_in, Numbers, numbers, misspelt, with, numbers_from, positive, size_of, is_same, parameter_line, spelt, entry_at, label_at, spelt_entry}
+use Rattle.directory.proofs.Within.{same_spelt}
 use Rattle.model.specs.Read.{by_entry, entry_in, entries_in, first_entry, listed_type}
 use Rattle.read_passes.specs.declared.FilePass.TheVariants.{Good}
 use Rattle.read_passes.specs.Passes.{pass_of}
@@ -36,14 +36,14 @@ pub record Stood (f : List ℕ) (k from count : ℕ) : Type 0 where
   pub count-is : count ≡ size_of (signed_of (slot_in f k lines))
   pub count_some : positive (signed_of (slot_in f k lines)) ≡ true
 
-module _ (f : List ℕ) (k : ℕ) (x : Fields) (from : ParameterLine) (count : ℕ) (p l a : SignedField)
+module _ (f : List ℕ) (k : ℕ) (x : Fields) (from : ParameterLine) (count : ℕ) (p l a : Option Signed)
     (ep : signed_of (slot_in f k pointer) ≡ p) (el : signed_of (slot_in f k lines) ≡ l) where
   stood_as : (ns : Fields) (b : Bool) → is_same ns.entity a && (positive p && positive l) ≡ b
-      → cond b (Spelt ns (parameter_line (size_of p)) (size_of l)) Wrong ≡ Spelt x from count → Stood f k from.0 count
+      → cond b (Some (spelt_entry ns (parameter_line (size_of p)) (size_of l))) None ≡ Some (spelt_entry x from count) → Stood f k from.0 count
   stood_as ns true e h =
       let both = both_right (is_same ns.entity a) (positive p && positive l) e in
-      let ef : parameter_line (size_of p) ≡ from = cc in
-      let ec : size_of l ≡ count = cc in
+      let ef : parameter_line (size_of p) ≡ from = (same_spelt _ _ h).1 in
+      let ec : size_of l ≡ count = (same_spelt _ _ h).2 in
       record {
         from_is = ap (λ (y : ParameterLine). y.0) (sym ef) ∙ ap size_of (sym ep);
         from_some = ap positive ep ∙ both_left (positive p) (positive l) both;
@@ -52,12 +52,12 @@ module _ (f : List ℕ) (k : ℕ) (x : Fields) (from : ParameterLine) (count : �
       }
   stood_as ns false e h = let z : ◌≡◌ {A = ℕ} 0 1 = cc in absurd (omega arith)
 
-  stood_by : (s : SignedField) (ns : Numbers) → spelt (with s ns) a p l ≡ Spelt x from count → Stood f k from.0 count
-  stood_by (Number n) (numbers ns) h = stood_as (fields_of (n ∷ ns)) (is_same n a && (positive p && positive l)) refl h
-  stood_by (Number n) misspelt h = let z : ◌≡◌ {A = ℕ} 0 1 = cc in absurd (omega arith)
-  stood_by Bad ns h = let z : ◌≡◌ {A = ℕ} 0 1 = cc in absurd (omega arith)
+  stood_by : (s : Option Signed) (ns : Numbers) → spelt (with s ns) a p l ≡ Some (spelt_entry x from count) → Stood f k from.0 count
+  stood_by (Some n) (numbers ns) h = stood_as (fields_of (n ∷ ns)) (is_same n a && (positive p && positive l)) refl h
+  stood_by (Some n) misspelt h = let z : ◌≡◌ {A = ℕ} 0 1 = cc in absurd (omega arith)
+  stood_by None ns h = let z : ◌≡◌ {A = ℕ} 0 1 = cc in absurd (omega arith)
 
-pub stood : (f : List ℕ) (k : ℕ) (x : Fields) (from : ParameterLine) (count : ℕ) → entry_at f k ≡ Spelt x from count → Stood f k from.0 count
+pub stood : (f : List ℕ) (k : ℕ) (x : Fields) (from : ParameterLine) (count : ℕ) → entry_at f k ≡ Some (spelt_entry x from count) → Stood f k from.0 count
 unfolding entry_at numbers_from number_in
 stood f k x from count h =
     stood_by f k x from count (signed_of (slot_in f k pointer)) (signed_of (slot_in f k lines)) (signed_of (slot_in f k again)) refl refl
@@ -68,7 +68,7 @@ pub record IsSpelt (f : List ℕ) (k : ℕ) : Type 0 where
   pub fields : Fields
   pub from : ParameterLine
   pub count : ℕ
-  pub is : entry_at f k ≡ Spelt fields from count
+  pub is : entry_at f k ≡ Some (spelt_entry fields from count)
 
 -- ---- all of them
 
@@ -77,9 +77,9 @@ module _ (f : List ℕ) (c : Counts) (good : pass_of (entries_in f c) ≡ Good) 
   unfolding entry_check entry_in
   each_spelt i h = by (entry_at f (entry_line c i)) refl (each_good (entry_check f c) (entries c) 0 i (sym (entries_walk f c) ∙ good) (omega arith) (omega arith))
     where
-      by : (r : EntryRead) → entry_at f (entry_line c i) ≡ r → pass_of (by_entry (label_at f (entry_line c i)) (first_entry c + 2 * i) r) ≡ Good → IsSpelt f (entry_line c i)
-      by (Spelt x from count) e g = record { fields = x; from = from; count = count; is = e }
-      by Wrong e g = let z : ◌≡◌ {A = ℕ} 0 1 = cc in absurd (omega arith)
+      by : (r : Option Spelt) → entry_at f (entry_line c i) ≡ r → pass_of (by_entry (label_at f (entry_line c i)) (first_entry c + 2 * i) r) ≡ Good → IsSpelt f (entry_line c i)
+      by (Some s) e g = record { fields = s.fields; from = s.pointer; count = s.lines; is = e }
+      by None e g = let z : ◌≡◌ {A = ℕ} 0 1 = cc in absurd (omega arith)
 
 -- one of numbers one after another, taken twice
 pub get_d_up : {A : Type 0} (g : A → ℕ) (h : ℕ → A) (n i j : ℕ) → j < n → get_or (map g (map h (up_from i n))) j 0 ≡ g (h (i + j))

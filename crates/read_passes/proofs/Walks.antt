@@ -13,12 +13,8 @@ use Rattle.columns.specs.Refusal.{Outcome, accepted, refused, each_at, ◌then�
 use Rattle.cards.specs.declared.Counts.{Counts}
 use Rattle.cards.specs.Cards.{entries, entry_line}
 use Rattle.cards.specs.Shared.{file_line}
-use Rattle.directory.specs.declared.Fields.{Fields}
-use Rattle.directory.specs.declared.EntryRead.{EntryRead}
-use Rattle.directory.specs.declared.EntryRead.TheVariants.{Spelt, Wrong}
-use Rattle.directory.specs.declared.Rule.{Rule}
-use Rattle.directory.specs.declared.Rule.TheVariants.{Good as GoodRule, Refused as RefusedRule}
-use Rattle.columns.specs.declared.ParameterLine.{ParameterLine}
+use Rattle.std.specs.Prelude.{Option, Some, None, Result, Ok, Err, ⊤}
+use Rattle.directory.specs.declared.Spelt.{Spelt}
 use Rattle.directory.specs.Lines.{entry_at, label_at}
 use Rattle.directory.specs.Asking.{outcome_of, rule_of}
 use Rattle.directory.proofs.Ranges.{rule_outcome}
@@ -134,7 +130,7 @@ entries_walk f c = row_walk (entry_in f) (entry_line c) (first_entry c) (entries
 
 -- ---- one entry
 
-module _ (f : List ℕ) (c : Counts) (i k : ℕ) (r : EntryRead) (ek : k ≡ entry_line c i) (er : r ≡ entry_at f k) where
+module _ (f : List ℕ) (c : Counts) (i k : ℕ) (r : Option Spelt) (ek : k ≡ entry_line c i) (er : r ≡ entry_at f k) where
   place : k + 1 ≡ first_entry c + 2 * i
   place = omega arith
 
@@ -142,19 +138,19 @@ module _ (f : List ℕ) (c : Counts) (i k : ℕ) (r : EntryRead) (ek : k ≡ ent
   unfolding entry_check entry_in
   one = rw (place, er, ek)
 
-  pub turn_wrong : (kept : FilePass) → r ≡ Wrong → RefusedTurn Directory (file_line (k + 1)) ≡ turn_of (entry_check f c i) kept
+  pub turn_wrong : (kept : FilePass) → r ≡ None → RefusedTurn Directory (file_line (k + 1)) ≡ turn_of (entry_check f c i) kept
   turn_wrong kept e = sym (ap (λ (p : FilePass). turn_of p kept) one ∙ rw e)
 
-  module _ (x : Fields) (from : ParameterLine) (count : ℕ) (e : r ≡ Spelt x from count) (rule : Rule) (eq : rule ≡ rule_of x) where
+  module _ (x : Spelt) (e : r ≡ Some x) (rule : Result ⊤ Fault) (eq : rule ≡ rule_of x.fields) where
     ruled : entry_check f c i ≡ pass_of (outcome_of rule (k + 1))
-    ruled = one ∙ rw (e, ← rule_outcome x (k + 1), ← eq) (by rule)
+    ruled = one ∙ rw (e, ← rule_outcome x.fields (k + 1), ← eq) (by rule)
       where
-        by : (q : Rule) → pass_of {A = Listed} (outcome_of q (k + 1) then λ _. accepted (record { fields = x; label = label_at f k; pointer = from.0; lines = count })) ≡ pass_of (outcome_of q (k + 1))
-        by GoodRule = refl
-        by (RefusedRule n) = refl
+        by : (q : Result ⊤ Fault) → pass_of {A = Listed} (outcome_of q (k + 1) then λ _. accepted (record { fields = x.fields; label = label_at f k; pointer = x.pointer.0; lines = x.lines })) ≡ pass_of (outcome_of q (k + 1))
+        by (Ok done) = refl
+        by (Err n) = refl
 
-    pub turn_good : (kept : FilePass) → rule ≡ GoodRule → Kept kept ≡ turn_of (entry_check f c i) kept
+    pub turn_good : (kept : FilePass) → rule ≡ Ok tt → Kept kept ≡ turn_of (entry_check f c i) kept
     turn_good kept g = sym (ap (λ (p : FilePass). turn_of p kept) ruled ∙ rw g)
 
-    pub turn_refused : (kept : FilePass) (n : Fault) → rule ≡ RefusedRule n → RefusedTurn n (file_line (k + 1)) ≡ turn_of (entry_check f c i) kept
+    pub turn_refused : (kept : FilePass) (n : Fault) → rule ≡ Err n → RefusedTurn n (file_line (k + 1)) ≡ turn_of (entry_check f c i) kept
     turn_refused kept n g = sym (ap (λ (p : FilePass). turn_of p kept) ruled ∙ rw g)

@@ -1,18 +1,18 @@
 -- The code's form: the entries of a file by their index: what is read at a computed place.
 use Rattle.std.specs.Prelude.{List, [], map, ℕ}
+use Rattle.std.specs.Prelude.{Option, Some, None}
 use Rattle.columns.specs.First.{up_from}
 use Rattle.cards.specs.declared.Counts.{Counts}
 use Rattle.cards.specs.Cards.{entry_line, entries}
-use Rattle.directory.specs.declared.EntryRead.{EntryRead}
-use Rattle.directory.specs.declared.EntryRead.TheVariants.{Spelt, Wrong}
+use Rattle.directory.specs.declared.Spelt.{Spelt}
 use Rattle.directory.specs.Fields.{fields_of}
 use Rattle.directory.specs.Lines.{entry_at, label_at}
 use Rattle.model.specs.Read.{Listed, listed_type}
 
 -- an entry that is spelt (a wrong one stands for nothing)
-abbrev pub listed_of : List ℕ → EntryRead → Listed
-listed_of label (Spelt x from count) = record { fields = x; label = label; pointer = from.0; lines = count }
-listed_of label Wrong = record { fields = fields_of []; label = label; pointer = 0; lines = 0 }
+abbrev pub listed_of : List ℕ → Option Spelt → Listed
+listed_of label (Some e) = record { fields = e.fields; label = label; pointer = e.pointer.0; lines = e.lines }
+listed_of label None = record { fields = fields_of []; label = label; pointer = 0; lines = 0 }
 
 -- the entry whose first D line is line k
 unfoldable pub listed_at : List ℕ → ℕ → Listed

@@ -19,6 +19,7 @@ use Rattle.directory.proofs.Asked.{asks_nothing, asks_class, rest_all, rest_on, 
 use Rattle.sheets.specs.declared.Said.{Said}
 use Rattle.sheets.specs.declared.Said.TheVariants.{Entry as EntryLine}
 use Rattle.sheets.specs.Order.{sheet_line}
+use Rattle.std.specs.Prelude.{Option, Some}
 use Rattle.write_lines.specs.Heads.{said_references}
 use Rattle.write_lines.specs.Classes.{sheet_types, some_at, Tabled}
 use Rattle.write_lines.proofs.Tables.{number_some}
@@ -27,9 +28,9 @@ use Rattle.write_lines.proofs.Others.{references-other}
 -- ---- one reference
 
 -- where no type is asked for
-pub asks_some : (classes : List ℕ) (n : ℕ) (t : List ℕ) (w : Wanted) → Tabled classes n t → w.asked ≡ true → w.want ≡ 0 → (class : ℕ) (r : Bool) → class ≡ some_at n w.number.0 → r ≡ fits w.want class
-    → r ≡ asks_ok (sheet_types t) w
-asks_some classes n t w tab e z class r ec er = rw (e, er, z, ec) (number_some classes n t w.number.0 tab)
+pub asks_some : (classes : List ℕ) (n : ℕ) (t : List ℕ) (o : Option Wanted) (w : Wanted) → Tabled classes n t → o ≡ Some w → w.want ≡ 0 → (class : ℕ) (r : Bool) → class ≡ some_at n w.number.0 → r ≡ fits w.want class
+    → r ≡ asks_ok (sheet_types t) o
+asks_some classes n t o w tab e z class r ec er = rw (e, er, z, ec) (number_some classes n t w.number.0 tab)
 
 pub ruleset asks = (not-true, not-false, asks_nothing, asks_some, asks_class, rest_all, rest_on, rest_no, rest_done)
 

@@ -4,7 +4,7 @@ use mathlib.Core.Bool.{Bool, true, false}
 use mathlib.Core.List.{List}
 use Prim.Native.Nat.{ℕ, ◌+◌, ◌≤◌, ◌<◌}
 use lib.ListN.{length, drop}
-use Rattle.std.proofs.Common.{Ok, Err}
+use Rattle.std.specs.Prelude.{Result, Ok, Err, ⊤}
 use Rattle.columns.specs.declared.Refusal.{Refusal}
 use Rattle.columns.specs.Refusal.{refusal_at}
 use Rattle.columns.specs.declared.Fault.{Fault}
@@ -15,8 +15,6 @@ use Rattle.columns.specs.Columns.{columns}
 use Rattle.values.specs.declared.Value.{Value}
 use Rattle.records.specs.Global.{global_fits}
 use Rattle.directory.specs.declared.Fields.{Fields}
-use Rattle.directory.specs.declared.Rule.{Rule}
-use Rattle.directory.specs.declared.Rule.TheVariants.{Good as GoodRule, Refused as RefusedRule}
 use Rattle.directory.specs.Asking.{outcome_of, rule_of}
 use Rattle.directory.proofs.Ranges.{rule_outcome}
 use Rattle.sheets.specs.declared.Said.{Said}
@@ -40,14 +38,14 @@ module _ (place : ℕ) (x : Said) where
     pub global_wrong : b ≡ false → Err (refusal_at GlobalFault (sheet_line place)) ≡ said_rule place x
     global_wrong h = rw (e, ← eb, h)
 
-  module _ (known : Bool) (n : Signed) (fields : Fields) (e : x ≡ Entry known n fields) (rule : Rule) (er : rule ≡ rule_of fields) where
+  module _ (known : Bool) (n : Signed) (fields : Fields) (e : x ≡ Entry known n fields) (rule : Result ⊤ Fault) (er : rule ≡ rule_of fields) where
     ruled : pass_of (outcome_of rule place) ≡ said_rule place x
     ruled = rw (e, er) (ap pass_of (rule_outcome fields place))
 
-    pub entry_good : rule ≡ GoodRule → Ok tt ≡ said_rule place x
+    pub entry_good : rule ≡ Ok tt → Ok tt ≡ said_rule place x
     entry_good h = rw h at ruled
 
-    pub entry_refused : (m : Fault) → rule ≡ RefusedRule m → Err (refusal_at m (sheet_line place)) ≡ said_rule place x
+    pub entry_refused : (m : Fault) → rule ≡ Err m → Err (refusal_at m (sheet_line place)) ≡ said_rule place x
     entry_refused m h = rw h at ruled
 
 -- the first refusal so far stays

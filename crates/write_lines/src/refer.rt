@@ -20,13 +20,13 @@ const REFERENCES: usize = 7;
 
 // Whether what is asked, if it is, names such an entry.
 #[tactic(auto, using(crate::proofs::Referring::asks))]
-fn asks_ok(classes: &[u8], n: usize, t: &[u8], w: Wanted) -> bool
+fn asks_ok(classes: &[u8], n: usize, t: &[u8], w: Option<Wanted>) -> bool
     requires { Tabled classes.now n t.now }
     ensures { result ≡ asks_ok (sheet_types t.now) w }
 {
-    if !w.asked {
+    let Some(w) = w else {
         return true;
-    }
+    };
     if w.want == ANY {
         let class = some_at(n, w.number);
         return references::fits(w.want, class);
@@ -40,13 +40,11 @@ fn all_ask_ok(classes: &[u8], n: usize, t: &[u8], e: Entry) -> bool
     requires { Tabled classes.now n t.now }
     ensures { result ≡ all_fit (sheet_types t.now) (references e) }
 {
-    let mut j = 0;
-    while j < REFERENCES {
+    for j in 0..REFERENCES {
         let w = directory_rules::wanted(e, j);
         if !asks_ok(classes, n, t, w) {
             return false;
         }
-        j += 1;
     }
     true
 }

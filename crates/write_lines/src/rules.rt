@@ -5,7 +5,6 @@ ghost use Rattle.write_lines.specs.Heads.{said_rule};
 
 use crate::SheetPass;
 use columns::{Fault, Refusal, SheetLine};
-use directory::Rule;
 use sheets::Said;
 
 // What a line says, at its place.
@@ -24,11 +23,7 @@ fn rule_of(said: Said, line: SheetLine) -> SheetPass
             })
         }
         Said::Entry { fields, .. } => {
-            let rule = directory_rules::entry_rules(fields);
-            match rule {
-                Rule::Good => Ok(()),
-                Rule::Refused(fault) => Err(Refusal { fault, line }),
-            }
+            directory_rules::entry_rules(fields).map_err(|fault| Refusal { fault, line })
         }
         _ => Ok(()),
     }

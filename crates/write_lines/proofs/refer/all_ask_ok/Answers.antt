@@ -5,20 +5,8 @@ use Rattle.write_lines.proofs.refer.all_ask_ok.Goals as goal
 pub loop-j-init : goal.loop-j-init
 loop-j-init c = search (rules, asks)
 
-pub wanted-w-requires : goal.wanted-w-requires
-wanted-w-requires c = search (rules, asks)
-
-pub asks_ok-requires : goal.asks_ok-requires
-asks_ok-requires c = search (rules, asks)
-
 pub returns-then-not-asks_ok : goal.returns-then-not-asks_ok
 returns-then-not-asks_ok c = search (rules, asks)
-
-pub overflow_add-j : goal.overflow_add-j
-overflow_add-j c = search (rules, asks)
-
-pub loop-j-smaller : goal.loop-j-smaller
-loop-j-smaller c = search (rules, asks)
 
 pub loop-j-preserved : goal.loop-j-preserved
 loop-j-preserved c = search (rules, asks)
