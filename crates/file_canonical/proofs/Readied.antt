@@ -2,7 +2,7 @@
 use mathlib.Core.Path.{◌≡◌, refl, sym, ap, ◌∙◌}
 use mathlib.Core.Bool.{Bool, true, false}
 use mathlib.Core.List.{List, [], ◌∷◌, ◌++◌, map, append-nil}
-use Prim.Native.Nat.{ℕ, ◌*◌, ◌≤◌}
+use Prim.Native.Nat.{ℕ, ◌+◌, ◌*◌, ◌≤◌}
 use native.Mathlib.Omega.{arith}
 use lib.ListN.{length, length-append, length-map}
 use lib.Dec.{leb}
@@ -16,7 +16,7 @@ use Rattle.values.specs.Value.{Item}
 use Rattle.records.specs.Flow.{line_count}
 use Rattle.cards.specs.declared.Counts.{Counts}
 use Rattle.cards.specs.Cards.{total}
-use Rattle.cards.specs.Written.{line_of, section, totals_of, file_lines, file_of}
+use Rattle.cards.specs.Written.{line_of, section, totals_of, file_lines, file_of, one}
 use Rattle.sheets.specs.declared.SheetVerdict.TheVariants.{Good}
 use Rattle.sheets.specs.Sheet.{Line, Sheet, row_lines, lines_of, lines_in, sheet_of}
 use Rattle.sheets.specs.Order.{verdict_of}
