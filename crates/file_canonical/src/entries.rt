@@ -59,9 +59,7 @@ pub fn put_rows(out: &mut [u8], t: &[u8], x: EntryPlace, n: usize)
     ensures { out.new ≡ both_laid out.old t.now x 0 }
 {
     let mut y = x;
-    let mut k = 0;
-    while k < n {
+    for k in 0..n {
         y = put_row(out, t, y, k);
-        k += 1;
     }
 }

@@ -29,13 +29,11 @@ pub fn put_starts(out: &mut [u8], t: &[u8], s: usize) -> usize
 {
     let mut at = 0;
     let mut next = 0;
-    let mut k = 0;
-    while k < s {
+    for k in 0..s {
         let end = start_end(t, at);
         let from = at + 2;
         next = put_start_line(out, next, &t[from..end], k + 1);
         at = end + 1;
-        k += 1;
     }
     at
 }

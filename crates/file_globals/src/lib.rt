@@ -122,11 +122,9 @@ fn put_tails(out: &mut [u8], q: usize, lines: usize)
     ensures { out.new ≡ tailed out.old q [] letter_g 1 lines }
 {
     let mut at = q;
-    let mut i = 0;
-    while i < lines {
+    for i in 0..lines {
         lines::put_tail(out, at, GLOBAL, 1 + i);
         at += LINE_BYTES;
-        i += 1;
     }
 }
 

@@ -83,11 +83,9 @@ fn put_tails(out: &mut [u8], q: usize, number: DirectoryNumber, from: ParameterL
     ensures { out.new ≡ tailed out.old q (owner_of number.0) letter_p from.0 lines }
 {
     let mut at = q;
-    let mut i = 0;
-    while i < lines {
+    for i in 0..lines {
         put_owned(out, at, number, ParameterLine(from.0 + i as u32));
         at += LINE_BYTES;
-        i += 1;
     }
 }
 

@@ -46,14 +46,15 @@ module _ (f : List ℕ) (from : ℕ) (room : from + 72 ≤ length f) (n : ℕ) (
     pub kept_less : 0 < n → get_or f (from + (n - 1)) 0 ≡ 32 → trim_end is_blank (take (n - 1) (drop from f)) ≡ z
     kept_less h e = sym (trim-blank (take (n - 1) (drop from f)) (get_or f (from + (n - 1)) 0) e) ∙ ap (trim_end is_blank) (sym (last_of h)) ∙ p
 
-    pub kept_here : 0 < n → (get_or f (from + (n - 1)) 0 ≡ 32 → ⊥) → take n (drop from f) ≡ z
+    pub kept_here : 0 < n → (get_or f (from + (n - 1)) 0 ≡ 32 → ⊥) → take (n - 1 + 1) (drop from f) ≡ z
     kept_here h e =
-        last_of h ∙ sym (trim_keep (take (n - 1) (drop from f)) (get_or f (from + (n - 1)) 0) (ne_eqb _ _ e)) ∙ ap (trim_end is_blank) (sym (last_of h)) ∙ p
+        let k : n - 1 + 1 ≡ n = omega arith in
+        ap (λ (j : ℕ). take j (drop from f)) k ∙ last_of h ∙ sym (trim_keep (take (n - 1) (drop from f)) (get_or f (from + (n - 1)) 0) (ne_eqb _ _ e)) ∙ ap (trim_end is_blank) (sym (last_of h)) ∙ p
 
-    pub kept-none : n ≤ 0 → take n (drop from f) ≡ z
+    pub kept-none : n ≤ 0 → [] ≡ z
     kept-none h =
         let e : n ≡ 0 = omega arith in
-        rw e (rw e at p)
+        rw e at p
 
 pub ruleset trims = (kept_less, kept_here, kept-none)
 

@@ -13,7 +13,7 @@ use Rattle.columns.specs.Laid.{Wrote, Owes}
 use Rattle.columns.proofs.Writes.{owes_all, owes_less, owes_none, owes_same, wrote_length}
 use Rattle.values.specs.declared.Value.{Value}
 use Rattle.values.specs.declared.Value.TheVariants.{Default}
-use Rattle.values.specs.Value.{Item, default, whole, item_of, is_default, is_missing}
+use Rattle.values.specs.Value.{Item, default, item_of, is_default, is_missing}
 use Rattle.records.specs.declared.Got.{Got}
 use Rattle.records.specs.declared.Got.TheVariants.{Found, Refused}
 use Rattle.records.specs.Record.{values, value_at, values_at, trim, trimmed}

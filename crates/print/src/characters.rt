@@ -25,11 +25,9 @@ pub fn put_text(
     ensures value { result ≡ at + count }
 {
     let mut next = at;
-    let mut i = 0;
-    while i < count {
+    for i in 0..count {
         let x = char_at(file, base, w, lines, start + i);
         next = columns_emit::put(out, next, x);
-        i += 1;
     }
     next
 }

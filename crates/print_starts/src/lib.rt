@@ -16,20 +16,18 @@ use columns::format::{LINE_BYTES, TEXT_COLUMNS};
 use sheets_lay::put_start;
 
 // How many bytes of the text from here on are kept.
+#[tactic(auto, using(print::proofs::Started::trims))]
 fn kept(file: &[u8], from: usize) -> usize
     requires { from + text_columns ≤ length file.now }
     ensures file_value { take result (drop from file.now) ≡ trim_end is_blank (take text_columns (drop from file.now)) }
     ensures upper_bound { result ≤ text_columns }
 {
-    let mut n = TEXT_COLUMNS;
-    while 0 < n {
-        let i = n - 1;
+    for i in (0..TEXT_COLUMNS).rev() {
         if file[from + i] != b' ' {
-            return n;
+            return i + 1;
         }
-        n = i;
     }
-    n
+    0
 }
 
 // The S line of line k of the file.
@@ -47,6 +45,7 @@ fn put_start_line(out: &mut [u8], at: usize, file: &[u8], k: usize) -> usize
 }
 
 // Those of the first s lines.
+#[tactic(auto, using(print::proofs::Started::started))]
 pub fn put_starts(out: &mut [u8], at: usize, file: &[u8], s: usize) -> usize
     requires s_in_bounds { line_bytes * s ≤ length file.now }
     requires s_le_most_lines { s ≤ most_lines }
@@ -56,10 +55,8 @@ pub fn put_starts(out: &mut [u8], at: usize, file: &[u8], s: usize) -> usize
     ensures upper_bound { result ≤ at + 75 * s }
 {
     let mut next = at;
-    let mut i = 0;
-    while i < s {
+    for i in 0..s {
         next = put_start_line(out, next, file, i);
-        i += 1;
     }
     next
 }

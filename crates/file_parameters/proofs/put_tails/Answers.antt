@@ -2,32 +2,8 @@ use borrow.Author.Rules.{rules}
 use Rattle.file_blocks.proofs.Tailed.{tailing}
 use Rattle.file_parameters.proofs.put_tails.Goals as goal
 
-pub loop-i-init : goal.loop-i-init
-loop-i-init c = search (rules, tailing)
-
-pub overflow_cast-i : goal.overflow_cast-i
-overflow_cast-i c = search (rules, tailing)
-
-pub overflow_add-from : goal.overflow_add-from
-overflow_add-from c = search (rules, tailing)
-
-pub put_owned-requires : goal.put_owned-requires
-put_owned-requires c = search (rules, tailing)
-
-pub overflow_add-at : goal.overflow_add-at
-overflow_add-at c = search (rules, tailing)
-
-pub overflow_add-i : goal.overflow_add-i
-overflow_add-i c = search (rules, tailing)
-
-pub loop-i-smaller : goal.loop-i-smaller
-loop-i-smaller c = search (rules, tailing)
-
 pub loop-i-preserved : goal.loop-i-preserved
 loop-i-preserved c = search (rules, tailing)
-
-pub shape_of-out : goal.shape_of-out
-shape_of-out c = search (rules, tailing)
 
 pub returns : goal.returns
 returns c = search (rules, tailing)

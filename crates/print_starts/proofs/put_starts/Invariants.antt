@@ -1,8 +1,6 @@
 -- What is still owed are the lines from i on.
-use mathlib.Core.Path.{◌≡◌}
 use mathlib.Core.List.{map}
 use Prim.Native.Nat.{◌+◌, ◌-◌, ◌*◌, ◌≤◌}
-use lib.ListN.{length}
 use Rattle.columns.specs.First.{up_from}
 use Rattle.columns.specs.Laid.{Owes}
 use Rattle.model.specs.Read.{start_text}
@@ -11,7 +9,4 @@ use Rattle.print_starts.proofs.put_starts.Given as goal
 
 abbrev pub invariant-loop-i : goal.invariant-loop-i
 invariant-loop-i l =
-    (l.i ≤ l.s) × (l.next ≤ l.at + 75 * l.i) × (length l.out ≡ length l.initial.out) × Owes l.initial.out l.at (start_bytes (map (start_text l.file) (up_from 0 l.s))) l.out l.next (start_bytes (map (start_text l.file) (up_from l.i (l.s - l.i))))
-
-abbrev pub decreases-loop-i : goal.decreases-loop-i
-decreases-loop-i l = l.s - l.i
+    (l.next ≤ l.at + 75 * l.i) × Owes l.initial.out l.at (start_bytes (map (start_text l.file) (up_from 0 l.s))) l.out l.next (start_bytes (map (start_text l.file) (up_from l.i (l.s - l.i))))
