@@ -121,13 +121,6 @@ pub fn put_decimal(out: &mut [u8], at: usize, n: u64) -> usize
     put_counted(out, at, n, count)
 }
 
-// How much b is short of a.
-fn less(a: usize, b: usize) -> usize
-    ensures { result ≡ a - b }
-{
-    if b < a { a - b } else { 0 }
-}
-
 // Writes n to the right of `width` columns, with b before it.
 pub fn put_right(out: &mut [u8], at: usize, b: u8, width: usize, n: u64) -> usize
     requires at_bound { at < 2 ^ 62 }
@@ -136,7 +129,7 @@ pub fn put_right(out: &mut [u8], at: usize, b: u8, width: usize, n: u64) -> usiz
     ensures lower_bound { (at + width ≤ result) × (result ≤ at + width + 20) }
 {
     let count = count_digits(n);
-    let gap = less(width, count);
+    let gap = width.saturating_sub(count);
     let next = put_run(out, at, b, gap);
     put_counted(out, next, n, count)
 }
@@ -177,7 +170,7 @@ pub fn put_signed_right(out: &mut [u8], at: usize, width: usize, x: Signed) -> u
     let size = x.size as u64;
     if neg {
         let count = count_signed(x);
-        let gap = less(width, count);
+        let gap = width.saturating_sub(count);
         let next = put_run(out, at, b' ', gap);
         return put_signed(out, next, x);
     }
@@ -191,7 +184,7 @@ pub fn put_left(out: &mut [u8], at: usize, width: usize, s: &[u8]) -> usize
     ensures wrote { Wrote out.old at (to_left width s.now) out.new result }
     ensures lower_bound { (at + width ≤ result) × (result ≤ at + width + length s.now) }
 {
-    let gap = less(width, s.len());
+    let gap = width.saturating_sub(s.len());
     let next = put_all(out, at, s);
     put_run(out, next, b' ', gap)
 }

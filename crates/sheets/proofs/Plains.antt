@@ -1,12 +1,18 @@
 -- What the functions that read the numbers of a sheet are asked.
-use mathlib.Core.Path.{◌≡◌, refl, ◌∙◌}
-use mathlib.Core.Bool.{true, false}
-use mathlib.Core.List.{List, ◌∷◌}
+use mathlib.Core.Path.{◌≡◌, refl, ap, ◌∙◌}
+use mathlib.Core.Bool.{true, false, cond, not}
+use mathlib.Core.List.{List, [], ◌∷◌}
 use Prim.Native.Nat.{ℕ, suc, ◌+◌, ◌-◌, ◌*◌, ◌≤◌, ◌<◌}
+use native.Mathlib.Numerals.{add-one, one-add}
 use native.Mathlib.Omega.{arith}
-use lib.ListN.{length, get_or, take, drop, get_or-eq_default}
-use lib.Seq.{drop-drop, take-take}
+use lib.ListN.{length, get_or, take, drop, get_or-eq_default, drop_of_length-le}
+use lib.Dec.{eqb, ltb}
+use lib.Seq.{drop-cons, drop-drop, take-take}
 use borrow.Author.Tests.{le-leb, lt-leb, lt-ltb, le-ltb, eq-eqb, ne_eqb}
+use Rattle.std.specs.Prelude.{Some, None}
+use Rattle.std.specs.List.{position_or_len}
+use Rattle.std.proofs.lemmas.Bool.Decides.{nat_tests}
+use Rattle.std.proofs.lemmas.List.Sums.{prefix_len-le-length}
 use Rattle.columns.specs.declared.Signed.{Signed}
 use Rattle.columns.specs.Columns.{columns}
 use Rattle.columns.specs.Format.{most_integer}
@@ -57,17 +63,17 @@ module _ (n b : ℕ) where
 
 pub ruleset step = (step_low, step_high, step_first, step-nought, step_big, step-more)
 
--- ---- a number at an index of the text: f is the answer
-module _ (f : ℕ) (s : List ℕ) (i end n : ℕ) (inv : size_from n (columns s i end) ≡ f) where
-  pub size-more : (m : ℕ) → i < end → end ≤ length s → m ≡ digit_after n (get_or s i 0) → size_from m (columns s (i + 1) end) ≡ f
+-- ---- a number before byte k of a text: f is the answer
+module _ (f : ℕ) (t : List ℕ) (k n : ℕ) (inv : size_from n (drop k t) ≡ f) where
+  pub size_more : (m : ℕ) → k < length t → m ≡ digit_after n (get_or t k 0) → size_from m (drop (k + 1) t) ≡ f
   unfolding size_from
-  size-more m lt le e = rw e (rw (column s i end lt le) at inv)
+  size_more m lt e = rw (e, add-one) (rw (drop-cons t k 0 lt) at inv)
 
-  pub size-end : i ≤ end → end ≤ i → n ≡ f
+  pub size_end : length t ≤ k → n ≡ f
   unfolding size_from
-  size-end le ge =
-      let e : i ≡ end = omega arith in
-      rw (e, columns-none) at inv
+  size_end le = rw (drop_of_length-le t {i = k} le) at inv
+
+pub ruleset sizes = (size_more, size_end)
 
 pub minus-nought : (n : ℕ) → n ≡ 0 → sized true misspelt ≡ minus_of n
 unfolding minus_of
@@ -127,7 +133,7 @@ pub num_signed : (left : ℕ) (f : List ℕ) (r : Signed) → (left ≡ 3 → �
 unfolding entry_fold
 num_signed left f r h e = simp (ne_eqb _ _ h) e
 
-pub ruleset numbers = (size-more, size-end, minus_low, minus_high, signed-minus, signed-plain, signed-none, status_low, status_some, status_high, num_status, num_signed)
+pub ruleset numbers = (minus_low, minus_high, signed-minus, signed-plain, signed-none, status_low, status_some, status_high, num_status, num_signed)
 
 -- ---- the first of a byte
 pub run-here : (c b : ℕ) (bs : List ℕ) → b ≡ c → run c (b ∷ bs) ≡ 0
@@ -138,6 +144,25 @@ pub run_on : (c b : ℕ) (bs : List ℕ) → (b ≡ c → ⊥) → run c (b ∷ 
 unfolding run
 run_on c b bs h = simp (run, ne_eqb _ _ h)
 
+-- as `position` says it
+run_first : (c : ℕ) (t : List ℕ) → position_or_len (λ b. eqb b c) t ≡ run c t
+unfolding run
+run_first c [] = refl
+run_first c (b ∷ bs) = elim (eqb b c) as (λ x. cond (not x) (1 + position_or_len (λ b. eqb b c) bs) 0 ≡ elim x [ true ↦ 0 | false ↦ suc (run c bs) ]) [
+  | true ↦ refl
+  | false ↦ one-add (position_or_len (λ b. eqb b c) bs) ∙ ap suc (run_first c bs)
+]
+
+-- what it found, with n the length of the text
+pub run_found : (c : ℕ) (t : List ℕ) (k : ℕ) → Some k ≡ cond (ltb (position_or_len (λ b. eqb b c) t) (length t)) (Some (position_or_len (λ b. eqb b c) t)) None → k ≡ run c t
+run_found c t k e = let h = run_first c t in grind (arith, nat_tests)
+
+pub run_none : (c : ℕ) (t : List ℕ) → None ≡ cond (ltb (position_or_len (λ b. eqb b c) t) (length t)) (Some (position_or_len (λ b. eqb b c) t)) None → length t ≡ run c t
+run_none c t e =
+    let h = run_first c t in
+    let l = prefix_len-le-length (λ b. not (eqb b c)) t in
+    grind (arith, nat_tests)
+
 end-at : {f : ℕ} (c : ℕ) (s : List ℕ) (end i : ℕ) → i + run c (columns s i end) ≡ f → i < end → end ≤ length s → get_or s i 0 ≡ c → i ≡ f
 end-at c s end i inv lt le h = omega (arith, rw (column s i end lt le, run-here c _ _ h) at inv)
 
@@ -145,17 +170,11 @@ on-at : {f : ℕ} (c : ℕ) (s : List ℕ) (end i k : ℕ) → k ≡ i + 1 → i
 on-at c s end i k e inv lt le h = rw e (omega (arith, rw (column s i end lt le, run_on c _ _ h) at inv))
 
 module _ (f c : ℕ) (s : List ℕ) (i end : ℕ) (inv : i + run c (columns s i end) ≡ f) where
-  pub end-here : i < end → end ≤ length s → get_or s i 0 ≡ c → i ≡ f
+  end-here : i < end → end ≤ length s → get_or s i 0 ≡ c → i ≡ f
   end-here lt le h = end-at c s end i inv lt le h
 
-  pub end_on : i < end → end ≤ length s → (get_or s i 0 ≡ c → ⊥) → i + 1 + run c (columns s (i + 1) end) ≡ f
+  end_on : i < end → end ≤ length s → (get_or s i 0 ≡ c → ⊥) → i + 1 + run c (columns s (i + 1) end) ≡ f
   end_on lt le h = on-at c s end i (i + 1) refl inv lt le h
-
-  pub end_none : i ≤ end → end ≤ i → i ≡ f
-  unfolding run
-  end_none le ge =
-      let e : i ≡ end = omega arith in
-      omega (arith, rw (e, columns-none) at inv)
 
   pub end_rest : {r : ℕ} → r ≡ i + run c (columns s i end) → r ≡ f
   end_rest e = e ∙ inv
@@ -188,8 +207,6 @@ module _ (f c : ℕ) (s : List ℕ) (i end : ℕ) (inv : i + run c (columns s i 
 
           pub on_4 : (get_or s (i + 3) 0 ≡ c → ⊥) → i + 4 + run c (columns s (i + 4) end) ≡ f
           on_4 n3 = on-at c s end (i + 3) (i + 4) (omega arith) on_3 (omega arith) le n3
-
-pub ruleset fields = (end-here, end_on, end_none)
 
 -- ---- one digit and a tab
 digit_size : (s : List ℕ) (at d : ℕ) → at + 1 ≤ length s → 48 ≤ get_or s at 0 → get_or s at 0 ≤ 57 → d ≡ get_or s at 0 - 48 → d ≡ plain_fold (columns s at (at + 1))

@@ -7,8 +7,8 @@ ghost use Rattle.columns.specs.Letters.{tab};
 ghost use Rattle.sheets.specs.Line.{run};
 ghost use Rattle.sheets.specs.Folds.{unread, digit_after, size_from, minus_of, signed_fold, status_from, entry_fold};
 
+use columns::Signed;
 use columns::format::MOST_INTEGER_WIDE;
-use columns::{Signed, byte_u32, byte_u64};
 
 // Past the largest number one says that the text is misspelt, and one that nothing was read yet.
 const MISSPELT: u64 = 2147483648;
@@ -35,12 +35,12 @@ fn add_digit(n: u64, b: u8) -> u64
         return MISSPELT;
     }
     if n == UNREAD {
-        return byte_u64(b - b'0');
+        return u64::from(b - b'0');
     }
     if n == 0 {
         return MISSPELT;
     }
-    let m = n * 10 + byte_u64(b - b'0');
+    let m = n * 10 + u64::from(b - b'0');
     if MOST_INTEGER_WIDE < m {
         return MISSPELT;
     }
@@ -48,6 +48,7 @@ fn add_digit(n: u64, b: u8) -> u64
 }
 
 // The number that the bytes from `at` up to `end` make of n.
+#[tactic(auto, using(sheets::proofs::Plains::sizes), unfolding(columns::specs::Columns::columns))]
 pub fn size_at(s: &[u8], n: u64, at: usize, end: usize) -> u64
     requires n_le_unread { n ≤ unread }
     requires at_le_end { at ≤ end }
@@ -56,10 +57,8 @@ pub fn size_at(s: &[u8], n: u64, at: usize, end: usize) -> u64
     ensures upper_bound { result ≤ unread }
 {
     let mut v = n;
-    let mut i = at;
-    while i < end {
-        v = add_digit(v, s[i]);
-        i += 1;
+    for b in &s[at..end] {
+        v = add_digit(v, *b);
     }
     v
 }
@@ -147,17 +146,14 @@ fn find_each(s: &[u8], c: u8, at: usize, end: usize) -> usize
     ensures value { result ≡ at + run c (columns s.now at end) }
     ensures lower_bound { (at ≤ result) × (result ≤ end) }
 {
-    let mut i = at;
-    while i < end {
-        if s[i] == c {
-            return i;
-        }
-        i += 1;
+    match s[at..end].iter().position(|b| *b == c) {
+        Some(k) => at + k,
+        None => end,
     }
-    i
 }
 
-// Where the first c from `at` up to `end` stands, or `end`: four bytes a turn, so that the end is asked for less often.
+// Where the first c from `at` up to `end` stands, or `end`: four bytes a turn, so that the end is asked for less often. A loop by hand, since
+// it is in every line of a sheet, and its fields are so short that a search of std or of wider words costs more to set up than it saves.
 pub fn find(s: &[u8], c: u8, at: usize, end: usize) -> usize
     requires at_le_end { at ≤ end }
     requires end_in_bounds { end ≤ length s.now }
@@ -222,7 +218,7 @@ pub fn tabbed_at(s: &[u8], left: usize, at: usize, end: usize) -> Tabbed
     }
     let number = Signed {
         neg: false,
-        size: byte_u32(b - b'0'),
+        size: u32::from(b - b'0'),
     };
     Tabbed {
         number,

@@ -5,7 +5,6 @@ ghost use Rattle.std.specs.Prelude.{◌≡◌, ◌+◌, ◌-◌, ◌*◌, ◌^�
 ghost use Rattle.columns.specs.Letters.{digit0, digit9};
 ghost use Rattle.values.specs.Reading.{more, scan, cap_run, Small};
 
-use columns::byte_u64;
 use values::Run;
 
 // Numbers past seventeen digits are all alike.
@@ -51,7 +50,7 @@ fn more_of(r: Run, c: u8) -> Run
     requires small { Small r }
     ensures { result ≡ cap_run (more r c) }
 {
-    run_of(r, c, cap(r.value * 10 + (byte_u64(c) - 48)))
+    run_of(r, c, cap(r.value * 10 + (u64::from(c) - 48)))
 }
 
 // One more digit, where there is no need of the cap.
@@ -63,19 +62,19 @@ fn few_of(r: Run, c: u8) -> Run
     requires value_bound { r.value < 10 ^ 16 }
     ensures { result ≡ cap_run (more r c) }
 {
-    run_of(r, c, r.value * 10 + (byte_u64(c) - 48))
+    run_of(r, c, r.value * 10 + (u64::from(c) - 48))
 }
 
 // The digits from i on, after those of r, which may be many.
+#[tactic(auto, using(values::proofs::Steps::scans))]
 fn many_at(t: &[u8], i: usize, r: Run) -> Run
     requires i_bound { r.count + (length t.now - i) < 2 ^ 64 }
     requires small { Small r }
     ensures value { result ≡ cap_run (scan (drop i t.now) r) }
     ensures count_le_count { (r.count ≤ result.count) × (result.count ≤ r.count + (length t.now - i)) × Small result }
 {
-    let mut k = i;
     let mut q = r;
-    while k < t.len() {
+    for k in i..t.len() {
         let c = t[k];
         if c < b'0' {
             return q;
@@ -84,21 +83,20 @@ fn many_at(t: &[u8], i: usize, r: Run) -> Run
             return q;
         }
         q = more_of(q, c);
-        k += 1;
     }
     q
 }
 
 // The digits from i on, after those of r.
+#[tactic(auto, using(values::proofs::Steps::scans))]
 pub fn scan_at(t: &[u8], i: usize, r: Run) -> Run
     requires count_bound { r.count ≤ 2 ^ 63 }
     requires small { Small r }
     ensures value { result ≡ cap_run (scan (drop i t.now) r) }
     ensures count_le_count { (r.count ≤ result.count) × (result.count ≤ r.count + (length t.now - i)) × Small result }
 {
-    let mut k = i;
     let mut q = r;
-    while k < t.len() {
+    for k in i..t.len() {
         let c = t[k];
         if c < b'0' {
             return q;
@@ -110,7 +108,6 @@ pub fn scan_at(t: &[u8], i: usize, r: Run) -> Run
             return many_at(t, k, q);
         }
         q = few_of(q, c);
-        k += 1;
     }
     q
 }

@@ -36,16 +36,6 @@ fn whole_of(neg: bool, v: u64, end: usize) -> Token
     }
 }
 
-// How far two numbers are apart.
-fn gap(a: usize, b: usize) -> usize
-    ensures { result ≡ (a - b) + (b - a) }
-{
-    if a < b {
-        return b - a;
-    }
-    a - b
-}
-
 // m times ten to up less down, within its limits.
 fn real_of(neg: bool, m: u64, up: usize, down: usize, double: bool, end: usize) -> Token
     ensures { result ≡ normal neg m up down double end }
@@ -62,7 +52,7 @@ fn real_of(neg: bool, m: u64, up: usize, down: usize, double: bool, end: usize) 
             len: end,
         };
     }
-    let e = gap(up, down);
+    let e = up.abs_diff(down);
     if 100_000_000_000_000_000 <= m {
         return Token {
             number: Number::Beyond,
@@ -85,12 +75,6 @@ fn real_of(neg: bool, m: u64, up: usize, down: usize, double: bool, end: usize) 
         },
         len: end,
     }
-}
-
-fn wide16(x: u16) -> usize
-    ensures { (result ≡ x) × (result < 2 ^ 16) }
-{
-    x as usize
 }
 
 // The number of these digits, n of them behind the point, p of it there, with this exponent.
@@ -125,8 +109,8 @@ pub fn finish_of(x: Power, neg: bool, r: Run, n: usize, p: usize, end: usize) ->
         } => real_of(
             neg,
             r.mant,
-            r.zeros + wide16(up),
-            n + wide16(down),
+            r.zeros + usize::from(up),
+            n + usize::from(down),
             double,
             last,
         ),

@@ -21,12 +21,6 @@ fn put_sign(out: &mut [u8], at: usize, neg: bool) -> usize
     at
 }
 
-fn wide(x: u32) -> u64
-    ensures { result ≡ x }
-{
-    x as u64
-}
-
 // D for a double, E for a single.
 fn letter_of(double: bool) -> u8
     ensures { result ≡ letter double }
@@ -40,7 +34,7 @@ fn put_power(out: &mut [u8], at: usize, eneg: bool, e: u32, double: bool) -> usi
     ensures wrote { Wrote out.old at (ten_to eneg e double) out.new result }
     ensures upper_bound { result ≤ at + 22 }
 {
-    let n = wide(e);
+    let n = u64::from(e);
     let x = letter_of(double);
     let a = columns_emit::put(out, at, x);
     let b = put_sign(out, a, eneg);
@@ -68,7 +62,7 @@ pub fn put_whole(out: &mut [u8], at: usize, neg: bool, size: u32) -> usize
     ensures wrote { Wrote out.old at (spelled (whole neg size)) out.new result }
     ensures upper_bound { result ≤ at + 44 }
 {
-    let n = wide(size);
+    let n = u64::from(size);
     let a = put_sign(out, at, neg);
     columns_decimals::put_decimal(out, a, n)
 }
@@ -136,19 +130,19 @@ fn exponent_len(eneg: bool, e: u32, double: bool) -> usize
 {
     let s = sign_len(eneg);
     if double {
-        return 1 + s + columns_decimals::count_digits(wide(e));
+        return 1 + s + columns_decimals::count_digits(u64::from(e));
     }
     if e == 0 {
         return 0;
     }
-    1 + s + columns_decimals::count_digits(wide(e))
+    1 + s + columns_decimals::count_digits(u64::from(e))
 }
 
 // How long an integer is.
 pub fn whole_len(neg: bool, size: u32) -> usize
     ensures { (result ≡ length (spelled (whole neg size))) × (result ≤ 44) }
 {
-    sign_len(neg) + columns_decimals::count_digits(wide(size))
+    sign_len(neg) + columns_decimals::count_digits(u64::from(size))
 }
 
 // How long a real is.

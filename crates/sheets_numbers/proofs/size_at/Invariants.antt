@@ -1,13 +1,8 @@
--- The bytes from i on make of the number so far what all of them make of n.
-use mathlib.Core.Path.{◌≡◌}
-use Prim.Native.Nat.{◌-◌, ◌≤◌}
+-- The bytes left make of the number so far what all of them make of n.
+use Rattle.std.proofs.Common.{◌≡◌, ◌≤◌, drop}
 use Rattle.columns.specs.Columns.{columns}
 use Rattle.sheets.specs.Folds.{unread, size_from}
 use Rattle.sheets_numbers.proofs.size_at.Given as goal
 
-abbrev pub invariant-loop-i : goal.invariant-loop-i
-invariant-loop-i l =
-    (l.v ≤ unread) × (l.at ≤ l.i) × (l.i ≤ l.end) × (size_from l.v (columns l.s l.i l.end) ≡ size_from l.n (columns l.s l.at l.end))
-
-abbrev pub decreases-loop-i : goal.decreases-loop-i
-decreases-loop-i l = l.end - l.i
+abbrev pub invariant-loop-b : goal.invariant-loop-b
+invariant-loop-b l = (l.v ≤ unread) × (size_from l.v (drop l.b-index l.b-items) ≡ size_from l.n (columns l.s l.at l.end))

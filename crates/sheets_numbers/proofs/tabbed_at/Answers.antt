@@ -45,9 +45,6 @@ tabbed_by-requires-then-b-gt57 c = search (rules, tabs)
 pub returns-then-b-gt57 : goal.returns-then-b-gt57
 returns-then-b-gt57 c = search (rules, tabs)
 
-pub byte_u32-requires : goal.byte_u32-requires
-byte_u32-requires c = search (rules, tabs)
-
 pub overflow_add-result : goal.overflow_add-result
 overflow_add-result c = search (rules, tabs)
 

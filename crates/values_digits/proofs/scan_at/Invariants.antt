@@ -8,6 +8,3 @@ use Rattle.values_digits.proofs.scan_at.Given as goal
 abbrev pub invariant-loop-k : goal.invariant-loop-k
 invariant-loop-k l =
     (cap_run (scan (drop l.i l.t) l.initial.q) ≡ cap_run (scan (drop l.k l.t) l.q)) × (l.q.count + (length l.t - l.k) ≤ l.initial.q.count + (length l.t - l.i)) × Small l.q × (l.initial.q.count ≤ l.q.count)
-
-abbrev pub decreases-loop-k : goal.decreases-loop-k
-decreases-loop-k l = length l.t - l.k
