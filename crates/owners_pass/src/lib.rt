@@ -27,15 +27,13 @@ fn run_end(
     ensures { result.0 ≡ first_not (name_is (owner_in file.now c) m.0) from.0 count }
 {
     let end = from.0 + count;
-    let mut k = from.0;
-    while k < end {
+    for k in from.0..end {
         let name = places::owner_at(file, c, ParameterLine(k));
         if name.0 != m.0 {
             return ParameterLine(k);
         }
-        k += 1;
     }
-    ParameterLine(k)
+    ParameterLine(end)
 }
 
 // Whether entry i's range stays in P and every line in it names the entry. A range that passes is its entry's alone, so all of
@@ -91,14 +89,12 @@ fn first_entry(file: &[u8], c: Counts) -> usize
     ensures { result ≡ first_not (entry_in file.now c) 0 (entries c) }
 {
     let n = wide(c.d) / 2;
-    let mut i = 0;
-    while i < n {
+    for i in 0..n {
         if !entry_owns(file, c, i) {
             return i;
         }
-        i += 1;
     }
-    i
+    n
 }
 
 fn first_line(file: &[u8], c: Counts) -> ParameterLine
@@ -106,14 +102,12 @@ fn first_line(file: &[u8], c: Counts) -> ParameterLine
     ensures { result.0 ≡ first_not (line_in file.now c) 1 c.p }
 {
     let end = c.p + 1;
-    let mut k = 1;
-    while k < end {
+    for k in 1..end {
         if !line_owned(file, c, ParameterLine(k)) {
             return ParameterLine(k);
         }
-        k += 1;
     }
-    ParameterLine(k)
+    ParameterLine(end)
 }
 
 // Whether every P line of a file with these counts has its entry.

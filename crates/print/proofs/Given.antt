@@ -84,34 +84,38 @@ given-more n v vs = rw add-one (by (is_default v))
     by true = refl
     by false = refl
 
-pub globals_all : (o : List ℕ) (at w c d : ℕ) (t : List ℕ) (from count : ℕ) → items_from w c d t from count ≡ values_in (values_at w c d t from)
-    → Owes o at (global_bytes (given first_field (values_in (values_at w c d t from)))) o at (global_bytes (given 3 (items_from w c d t from count)))
-globals_all o at w c d t from count e = owes_same (owes_all o at (global_bytes (given first_field (values_in (values_at w c d t from))))) (ap (λ (l : List Item). global_bytes (given 3 l)) (sym e))
+pub globals_all : (o : List ℕ) (at w c d : ℕ) (t : List ℕ) (from count left : ℕ) → left ≡ count → items_from w c d t from count ≡ values_in (values_at w c d t from)
+    → Owes o at (global_bytes (given first_field (values_in (values_at w c d t from)))) o at (global_bytes (given 3 (items_from w c d t from left)))
+globals_all o at w c d t from count left el e = rw el (owes_same (owes_all o at (global_bytes (given first_field (values_in (values_at w c d t from))))) (ap (λ (l : List Item). global_bytes (given 3 l)) (sym e)))
 
-module _ (w c d : ℕ) (t : List ℕ) {o bs o₁ : List ℕ} {at r₁ : ℕ} (n q left : ℕ) (p : Owes o at bs o₁ r₁ (global_bytes (given n (items_from w c d t q left)))) where
-  pub globals-more : {o₂ : List ℕ} {r₂ : ℕ} {x : Taken} → x ≡ taken_of (value_at w c d t q) → 0 < left → Wrote o₁ r₁ (given_bytes n (item_of t x.value)) o₂ r₂
-      → Owes o at bs o₂ r₂ (global_bytes (given (n + 1) (items_from w c d t x.next (left - 1))))
+module _ (w c d : ℕ) (t : List ℕ) {o bs o₁ : List ℕ} {at r₁ : ℕ} (n e q : ℕ) (p : Owes o at bs o₁ r₁ (global_bytes (given n (items_from w c d t q (e - n))))) where
+  pub globals-more : {o₂ : List ℕ} {r₂ : ℕ} {x : Taken} → x ≡ taken_of (value_at w c d t q) → n < e → Wrote o₁ r₁ (given_bytes n (item_of t x.value)) o₂ r₂
+      → Owes o at bs o₂ r₂ (global_bytes (given (n + 1) (items_from w c d t x.next (e - (n + 1)))))
   unfolding items_from
   globals-more {x = x} ex h y =
       let ei : item_of t x.value ≡ got_item t (value_at w c d t q) = ap (λ (y : Taken). item_of t y.value) ex ∙ taken_item t (value_at w c d t q) in
       let en : x.next ≡ behind (value_at w c d t q) = ap (λ (y : Taken). y.next) ex ∙ taken_next (value_at w c d t q) in
-      let ek : left ≡ suc (left - 1) = omega arith in
-      let el : items_from w c d t q left ≡ item_of t x.value ∷ items_from w c d t x.next (left - 1)
-      = ap (items_from w c d t q) ek ∙ ap (λ (i : Item). i ∷ items_from w c d t (behind (value_at w c d t q)) (left - 1)) (sym ei)
-      ∙ ap (λ (j : ℕ). item_of t x.value ∷ items_from w c d t j (left - 1)) (sym en) in
-      owes_less (owes_same p (ap (λ (l : List Item). global_bytes (given n l)) el ∙ given-more n (item_of t x.value) (items_from w c d t x.next (left - 1)))) y
+      let more : ℕ = e - (n + 1) in
+      let ek : e - n ≡ suc more = omega arith in
+      let el : items_from w c d t q (e - n) ≡ item_of t x.value ∷ items_from w c d t x.next more
+      = ap (items_from w c d t q) ek ∙ ap (λ (i : Item). i ∷ items_from w c d t (behind (value_at w c d t q)) more) (sym ei)
+      ∙ ap (λ (j : ℕ). item_of t x.value ∷ items_from w c d t j more) (sym en) in
+      owes_less (owes_same p (ap (λ (l : List Item). global_bytes (given n l)) el ∙ given-more n (item_of t x.value) (items_from w c d t x.next more))) y
 
-  pub globals-end : left ≤ 0 → Wrote o at bs o₁ r₁
+  pub globals-end : e ≤ n → Wrote o at bs o₁ r₁
   unfolding items_from given global_bytes
   globals-end h =
-      let e : left ≡ 0 = omega arith in
-      owes_none (rw e at p)
+      let z : e - n ≡ 0 = omega arith in
+      owes_none (rw z at p)
 
 module _ (file : List ℕ) (base lines : ℕ) (st : Stands file base 72 lines) where
   pub globals-room : (at left r : ℕ) → r + 1100 * left ≤ at + 79200 * lines → at < 2 ^ 58 → r < 2 ^ 59
   globals-room at left r h k = omega (arith, small file base 72 lines st)
 
-  pub globals-number : (n left : ℕ) → n + left ≤ 3 + lines * 72 → 0 < left → n + 1 < 2 ^ 32
-  globals-number n left h k = omega (arith, small file base 72 lines st)
+  pub globals-few : (count : ℕ) → count ≤ lines * 72 → count < 2 ^ 32
+  globals-few count h = omega (arith, small file base 72 lines st)
 
-pub ruleset globals = (globals_all, globals-more, globals-end, globals-room, globals-number, wrote_length)
+  pub globals-number : (count : ℕ) → count ≤ lines * 72 → 3 + count < 2 ^ 32
+  globals-number count h = omega (arith, small file base 72 lines st)
+
+pub ruleset globals = (globals_all, globals-more, globals-end, globals-room, globals-few, globals-number, wrote_length)

@@ -3,6 +3,7 @@ use mathlib.Core.Path.{◌≡◌, refl, sym, ap, ap₂, ◌∙◌}
 use mathlib.Core.Bool.{Bool, true, false}
 use mathlib.Core.List.{List, [], ◌∷◌, ◌++◌, append_assoc}
 use Prim.Native.Nat.{ℕ, zero, suc, ◌+◌, ◌-◌, ◌*◌, ◌^◌, ◌≤◌, ◌<◌}
+use native.Mathlib.Nat.{sub-zero}
 use native.Mathlib.Numerals.{add-one}
 use native.Mathlib.Omega.{arith}
 use lib.ListN.{length, drop, replicate}
@@ -72,47 +73,45 @@ module _ (types : List ℕ) where
       ∙ sym (append_assoc l (value_bytes (marked_from types h us)) (value_bytes (marked_from types (run types h us) vs)))
       ∙ sym (ap (λ (x : List ℕ). x ++ value_bytes (marked_from types (run types h us) vs)) (line-more g u us))
 
-  owed_first : (left : ℕ) (v : Item) → 0 < left → owing left (v ∷ []) ≡ default ∷ owing (left - 1) (v ∷ [])
-  owed_first zero v h = absurd (omega arith)
-  owed_first (suc left) v h = let e : suc left - 1 ≡ left = omega arith in rw e
+  owed_first : (i n : ℕ) (v : Item) → i < n → owing (n - i) (v ∷ []) ≡ default ∷ owing (n - (i + 1)) (v ∷ [])
+  owed_first i n v h = let e : n - i ≡ suc (n - (i + 1)) = omega arith in rw e
 
-  owed_none : (left : ℕ) (v : Item) → left ≤ 0 → owing left (v ∷ []) ≡ v ∷ []
-  owed_none zero v h = refl
-  owed_none (suc left) v h = absurd (omega arith)
+  owed_none : (i n : ℕ) (v : Item) → n ≤ i → owing (n - i) (v ∷ []) ≡ v ∷ []
+  owed_none i n v h = let e : n - i ≡ 0 = omega arith in rw e
 
-  module _ {o bs o₁ : List ℕ} {at r₁ : ℕ} (t : List ℕ) (v : Value) (s : Option LayoutState) (left : ℕ) (p : Owes o at bs o₁ r₁ (value_bytes (marked_from types s (owing left (item_of t v ∷ []))))) where
-    pub owed_more : {o₂ : List ℕ} {r₂ : ℕ} {b : Bool} {u : Option LayoutState} → 0 < left → b ≡ mark s → u ≡ stepped types s Default
-        → Wrote o₁ r₁ (line_of (value b (item_of t Default)) ++ (10 ∷ [])) o₂ r₂ → Owes o at bs o₂ r₂ (value_bytes (marked_from types u (owing (left - 1) (item_of t v ∷ []))))
+  module _ {o bs o₁ : List ℕ} {at r₁ : ℕ} (t : List ℕ) (v : Value) (s : Option LayoutState) (i n : ℕ) (p : Owes o at bs o₁ r₁ (value_bytes (marked_from types s (owing (n - i) (item_of t v ∷ []))))) where
+    pub owed_more : {o₂ : List ℕ} {r₂ : ℕ} {b : Bool} {u : Option LayoutState} → i < n → b ≡ mark s → u ≡ stepped types s Default
+        → Wrote o₁ r₁ (line_of (value b (item_of t Default)) ++ (10 ∷ [])) o₂ r₂ → Owes o at bs o₂ r₂ (value_bytes (marked_from types u (owing (n - (i + 1)) (item_of t v ∷ []))))
     owed_more {b = b} {u = u} h eb eu w =
-        let vs : List Item = owing (left - 1) (item_of t v ∷ []) in
+        let vs : List Item = owing (n - (i + 1)) (item_of t v ∷ []) in
         let eg : feed types s default ≡ u = feed-stepped types t s Default ∙ sym eu in
-        let e : value_bytes (marked_from types s (owing left (item_of t v ∷ []))) ≡ (line_of (value b default) ++ (10 ∷ [])) ++ value_bytes (marked_from types u vs)
-        = ap (λ (l : List Item). value_bytes (marked_from types s l)) (owed_first left (item_of t v) h) ∙ line-more s default vs
+        let e : value_bytes (marked_from types s (owing (n - i) (item_of t v ∷ []))) ≡ (line_of (value b default) ++ (10 ∷ [])) ++ value_bytes (marked_from types u vs)
+        = ap (λ (l : List Item). value_bytes (marked_from types s l)) (owed_first i n (item_of t v) h) ∙ line-more s default vs
         ∙ ap (λ (m : Bool). (line_of (value m default) ++ (10 ∷ [])) ++ value_bytes (marked_from types (feed types s default) vs)) (sym eb)
         ∙ ap (λ (g : Option LayoutState). (line_of (value b default) ++ (10 ∷ [])) ++ value_bytes (marked_from types g vs)) eg in
         owes_less (owes_same p e) w
 
-    pub owed_last : {o₂ : List ℕ} {r₂ : ℕ} {b : Bool} → left ≤ 0 → b ≡ mark s → Wrote o₁ r₁ (line_of (value b (item_of t v)) ++ (10 ∷ [])) o₂ r₂ → Wrote o at bs o₂ r₂
+    pub owed_last : {o₂ : List ℕ} {r₂ : ℕ} {b : Bool} → n ≤ i → b ≡ mark s → Wrote o₁ r₁ (line_of (value b (item_of t v)) ++ (10 ∷ [])) o₂ r₂ → Wrote o at bs o₂ r₂
     owed_last {b = b} h eb w =
-        let i : Item = item_of t v in
-        let e : value_bytes (marked_from types s (owing left (i ∷ []))) ≡ (line_of (value b i) ++ (10 ∷ [])) ++ []
-        = ap (λ (l : List Item). value_bytes (marked_from types s l)) (owed_none left i h) ∙ line-more s i []
-        ∙ ap (λ (m : Bool). (line_of (value m i) ++ (10 ∷ [])) ++ value_bytes (marked_from types (feed types s i) [])) (sym eb)
-        ∙ ap (λ (l : List ℕ). (line_of (value b i) ++ (10 ∷ [])) ++ l) (line-none (feed types s i)) in
+        let x : Item = item_of t v in
+        let e : value_bytes (marked_from types s (owing (n - i) (x ∷ []))) ≡ (line_of (value b x) ++ (10 ∷ [])) ++ []
+        = ap (λ (l : List Item). value_bytes (marked_from types s l)) (owed_none i n x h) ∙ line-more s x []
+        ∙ ap (λ (m : Bool). (line_of (value m x) ++ (10 ∷ [])) ++ value_bytes (marked_from types (feed types s x) [])) (sym eb)
+        ∙ ap (λ (l : List ℕ). (line_of (value b x) ++ (10 ∷ [])) ++ l) (line-none (feed types s x)) in
         owes_none (owes_less (owes_same p e) w)
 
-  module _ (t : List ℕ) (v : Value) (s z : Option LayoutState) (left : ℕ) (p : run types s (owing left (item_of t v ∷ [])) ≡ z) where
-    pub owed_steps : {u : Option LayoutState} → 0 < left → u ≡ stepped types s Default → run types u (owing (left - 1) (item_of t v ∷ [])) ≡ z
+  module _ (t : List ℕ) (v : Value) (s z : Option LayoutState) (i n : ℕ) (p : run types s (owing (n - i) (item_of t v ∷ [])) ≡ z) where
+    pub owed_steps : {u : Option LayoutState} → i < n → u ≡ stepped types s Default → run types u (owing (n - (i + 1)) (item_of t v ∷ [])) ≡ z
     unfolding run
     owed_steps {u} h eu =
-        let vs : List Item = owing (left - 1) (item_of t v ∷ []) in
-        ap (λ (g : Option LayoutState). run types g vs) (eu ∙ sym (feed-stepped types t s Default)) ∙ sym (ap (run types s) (owed_first left (item_of t v) h)) ∙ p
+        let vs : List Item = owing (n - (i + 1)) (item_of t v ∷ []) in
+        ap (λ (g : Option LayoutState). run types g vs) (eu ∙ sym (feed-stepped types t s Default)) ∙ sym (ap (run types s) (owed_first i n (item_of t v) h)) ∙ p
 
-    pub owed_stepped : {u : Option LayoutState} → left ≤ 0 → u ≡ stepped types s v → u ≡ z
+    pub owed_stepped : {u : Option LayoutState} → n ≤ i → u ≡ stepped types s v → u ≡ z
     unfolding run
-    owed_stepped {u} h eu = eu ∙ sym (feed-stepped types t s v) ∙ sym (ap (run types s) (owed_none left (item_of t v) h)) ∙ p
+    owed_stepped {u} h eu = eu ∙ sym (feed-stepped types t s v) ∙ sym (ap (run types s) (owed_none i n (item_of t v) h)) ∙ p
 
-pub ruleset owed = (owes_all, owed_more, owed_last, owed_steps, owed_stepped, wrote_length)
+pub ruleset owed = (owes_all, owed_more, owed_last, owed_steps, owed_stepped, wrote_length, sub-zero)
 
 -- where more of its kind follow and none is owed: its mark is that of the place, and one of it is left less
 pub given_runs : (f : List ℕ) (base lines first n owed : ℕ) (v : Value) {g : Option LayoutState} {s u : LayoutState} → owed ≡ 0 → g ≡ Some s → {y : Bool} → y ≡ runs_on s v → y ≡ true
@@ -125,8 +124,8 @@ given_runs f base lines first n owed v {g} {s} {u} z e {y} ey yt eu {m} em {o} {
     let step : Some u ≡ stepped types g v = rw e (step_runs s u v (named types v) y ey yt eu) in
     let mk : m ≡ mark g = rw e em in
     record {
-      laid = owed_last types t v g owed (owes_all o at (value_bytes (marked_from types g (owing owed (item_of t v ∷ []))))) low mk w;
-      marks = owed_stepped types t v g (run types g (owing owed (item_of t v ∷ []))) owed refl low step;
+      laid = owed_last types t v g 0 owed (rw sub-zero (owes_all o at (value_bytes (marked_from types g (owing owed (item_of t v ∷ [])))))) low mk w;
+      marks = owed_stepped types t v g (run types g (owing owed (item_of t v ∷ []))) 0 owed (rw sub-zero refl) low step;
       near = omega arith;
     }
 

@@ -82,17 +82,14 @@ pub fn put_globals(
         out.new result }
     ensures upper_bound { result ≤ at + 79200 * lines }
 {
-    let mut left = count_from(file, base, lines, c, d, from);
-    let mut n = FIRST;
+    let count = count_from(file, base, lines, c, d, from);
     let mut q = from;
     let mut next = at;
-    while 0 < left {
+    for n in FIRST..FIRST + count as u32 {
         let x = value_from(file, base, TEXT_COLUMNS, lines, c, d, q);
         let v = x.value;
         next = put_given(out, next, file, base, lines, n, v);
-        n += 1;
         q = x.next;
-        left -= 1;
     }
     next
 }

@@ -193,10 +193,8 @@ pub fn put_rows(
     ensures upper_bound { result ≤ at + 15000000000 * n + 23 }
 {
     let mut next = at;
-    let mut i = 0;
-    while i < n {
+    for i in 0..n {
         next = put_row(out, next, list, file, first, n, parameters, c, d, i);
-        i += 1;
     }
     put_last(out, next, n)
 }

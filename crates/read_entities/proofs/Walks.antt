@@ -3,7 +3,7 @@ use mathlib.Core.Path.{◌≡◌, refl, sym, ap, ap₂, ◌∙◌}
 use mathlib.Core.Bool.{Bool, true, false, cond}
 use mathlib.Core.List.{List, [], ◌∷◌, ◌++◌}
 use Prim.Native.Nat.{ℕ, zero, suc, ◌+◌, ◌-◌, ◌*◌, ◌^◌, ◌≤◌, ◌<◌}
-use native.Mathlib.Nat.{add-zero}
+use native.Mathlib.Nat.{add-zero, sub-zero}
 use native.Mathlib.Omega.{arith}
 use lib.ListN.{length, replicate}
 use Rattle.columns.specs.declared.Fault.{Fault}
@@ -38,19 +38,19 @@ run_default : (types : List ℕ) (g : Option LayoutState) (n : ℕ) → run type
 unfolding run
 run_default types g n = ap (λ (x : Option LayoutState). run types x (replicate n default)) (sym (feed-stepped types [] g Default))
 
-module _ (types : List ℕ) (g : Option LayoutState) (left : ℕ) {f : Option LayoutState} (inv : run types g (replicate left default) ≡ f) where
-  pub defaults_none : left ≤ 0 → g ≡ f
+module _ (types : List ℕ) (g : Option LayoutState) (i n : ℕ) {f : Option LayoutState} (inv : run types g (replicate (n - i) default) ≡ f) where
+  pub defaults_none : n ≤ i → g ≡ f
   unfolding run
   defaults_none h =
-      let z : left ≡ 0 = omega arith in
+      let z : n - i ≡ 0 = omega arith in
       rw z at inv
 
-  pub defaults_more : {u : Option LayoutState} → 0 < left → u ≡ stepped types g Default → run types u (replicate (left - 1) default) ≡ f
+  pub defaults_more : {u : Option LayoutState} → i < n → u ≡ stepped types g Default → run types u (replicate (n - (i + 1)) default) ≡ f
   defaults_more {u} h e =
-      let z : suc (left - 1) ≡ left = omega arith in
-      ap (λ (x : Option LayoutState). run types x (replicate (left - 1) default)) e ∙ run_default types g (left - 1) ∙ ap (λ (k : ℕ). run types g (replicate k default)) z ∙ inv
+      let z : suc (n - (i + 1)) ≡ n - i = omega arith in
+      ap (λ (x : Option LayoutState). run types x (replicate (n - (i + 1)) default)) e ∙ run_default types g (n - (i + 1)) ∙ ap (λ (k : ℕ). run types g (replicate k default)) z ∙ inv
 
-pub ruleset defaults = (defaults_none, defaults_more)
+pub ruleset defaults = (defaults_none, defaults_more, sub-zero)
 
 -- ---- behind a value
 

@@ -31,10 +31,8 @@ fn behind_defaults(file: &[u8], first: usize, n: usize, g: Option<LayoutState>, 
     ensures { result ≡ run (types_at file.now first n) g (replicate owed default) }
 {
     let mut state = g;
-    let mut left = owed;
-    while 0 < left {
+    for _ in 0..owed {
         state = mark_step(file, first, n, state, Value::Default);
-        left -= 1;
     }
     state
 }

@@ -1,6 +1,6 @@
 -- `run_end`: the first line from here on that names another is the first of all.
 use mathlib.Core.Path.{◌≡◌}
-use Prim.Native.Nat.{◌-◌, ◌≤◌}
+use Prim.Native.Nat.{◌-◌}
 use Rattle.columns.specs.First.{first_not}
 use Rattle.owners.specs.Owners.{name_is}
 use Rattle.owners.specs.InFile.{owner_in}
@@ -8,7 +8,4 @@ use Rattle.owners_pass.proofs.run_end.Given as goal
 
 abbrev pub invariant-loop-k : goal.invariant-loop-k
 invariant-loop-k l =
-    (1 ≤ l.k) × (l.k ≤ l.end) × (first_not (name_is (owner_in l.file l.c) l.m.0) l.k (l.end - l.k) ≡ first_not (name_is (owner_in l.file l.c) l.m.0) l.initial.k l.count)
-
-abbrev pub decreases-loop-k : goal.decreases-loop-k
-decreases-loop-k l = l.end - l.k
+    first_not (name_is (owner_in l.file l.c) l.m.0) l.k (l.end - l.k) ≡ first_not (name_is (owner_in l.file l.c) l.m.0) l.fn.from.0 l.count

@@ -8,9 +8,6 @@ use Rattle.print_sheet.proofs.rows.put_rows.Given as goal
 
 abbrev pub invariant-loop-i : goal.invariant-loop-i
 invariant-loop-i l =
-    (l.i ≤ l.n) × (l.next ≤ l.at + 15000000000 * l.i) × (length l.out ≡ length l.initial.out)
+    (l.next ≤ l.at + 15000000000 * l.i) × (length l.out ≡ length l.initial.out)
     × Owes l.initial.out l.at (rows_bytes l.list l.file l.first l.n l.parameters l.c l.d 0 l.n)
     l.out l.next (rows_bytes l.list l.file l.first l.n l.parameters l.c l.d l.i (l.n - l.i))
-
-abbrev pub decreases-loop-i : goal.decreases-loop-i
-decreases-loop-i l = l.n - l.i
