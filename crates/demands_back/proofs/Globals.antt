@@ -13,10 +13,9 @@ use Rattle.columns.specs.First.{first_not}
 use Rattle.columns.specs.Refusal.{accepted}
 use Rattle.columns.proofs.Outcomes.{demand_true}
 use Rattle.values.specs.Value.{Item}
-use Rattle.records.specs.declared.Opening.TheVariants.{Opened}
 use Rattle.records.specs.Record.{values, blanks, values_at}
 use Rattle.records.specs.Flow.{flow}
-use Rattle.records.specs.Global.{first_field, opening_of, canonical_opening}
+use Rattle.records.specs.Global.{opens, first_field, opening_of, canonical_opening}
 use Rattle.records.proofs.Round.{round_at, opening_round, opening-length}
 use Rattle.cards.specs.declared.Counts.{Counts}
 use Rattle.sheets.specs.WellFormed.{Rising, Each, Filled}
@@ -44,14 +43,14 @@ no_stray_lem c a k end e =
 -- ---- what is made of the opening and of the values
 
 module _ (c : Counts) (t : List ℕ) where
-  by_end : opening_of t ≡ Opened 44 59 8 true → no_stray c t 8 ≡ accepted tt → by_opening c t (opening_of t) ≡ accepted (global_read 44 59 [])
+  by_end : opening_of t ≡ opens 44 59 8 true → no_stray c t 8 ≡ accepted tt → by_opening c t (opening_of t) ≡ accepted (global_read 44 59 [])
   by_end o s = rw (o, s)
 
   by-fields : (vs : List Item) (end : ℕ) → no_stray c t end ≡ accepted tt → first_not (field_fits vs) 0 (length vs) ≡ length vs
       → by_values c t 44 59 8 (values vs end) ≡ accepted (global_read 44 59 (given first_field vs))
   by-fields vs end s f = rw (s, f, eq-eqb (length vs) (length vs) refl)
 
-  by_values_lem : (vs : List Item) (end : ℕ) → opening_of t ≡ Opened 44 59 8 false → values_at 72 44 59 t 8 ≡ values vs end
+  by_values_lem : (vs : List Item) (end : ℕ) → opening_of t ≡ opens 44 59 8 false → values_at 72 44 59 t 8 ≡ values vs end
       → by_opening c t (opening_of t) ≡ by_values c t 44 59 8 (values vs end)
   by_values_lem vs end o v = rw (o, v)
 

@@ -13,8 +13,7 @@ use Rattle.columns.specs.First.{first_not}
 use Rattle.columns.proofs.First.{before_first, all_pass}
 use Rattle.columns.proofs.Outcomes.{demand_true}
 use Rattle.values.specs.Value.{Item, default, seen}
-use Rattle.records.specs.declared.Opening.TheVariants.{Opened}
-use Rattle.records.specs.Global.{first_field, opening_of, global_fits}
+use Rattle.records.specs.Global.{opens, first_field, opening_of, global_fits}
 use Rattle.records.proofs.Globals.{delimits, parameter_above, record_above, opening_in}
 use Rattle.cards.specs.declared.Counts.{Counts}
 use Rattle.cards.specs.Rules.{Holds}
@@ -52,7 +51,7 @@ global_sound f c g h = by (global_apart f c g h)
 -- ---- it meets them, so it is accepted
 
 module _ (f : List ℕ) (c : Counts) (ho : Holds f c) where
-  reach : (p d next : ℕ) (last : Bool) → opening_of (global_text f c) ≡ Opened p d next last → next ≤ length (global_text f c)
+  reach : (p d next : ℕ) (last : Bool) → opening_of (global_text f c) ≡ opens p d next last → next ≤ length (global_text f c)
   reach p d next last e = omega (arith, opening_in 8 e (delimits (global_text f c)), text-length f c ho, ho.has_g)
 
   pub global_complete : (p d : ℕ) (vs : List Item) → GlobalIs (global_text f c) p d vs → Fit vs → global_in f c ≡ accepted (global_read p d (given first_field vs))

@@ -19,12 +19,10 @@ use Rattle.values.specs.Head.{head_of}
 use Rattle.values.specs.Value.{Item, default, item_of, seen}
 use Rattle.records.specs.declared.Next.{Next}
 use Rattle.records.specs.declared.Next.TheVariants.{Delimiter, Other}
-use Rattle.records.specs.declared.Got.{Got}
-use Rattle.records.specs.declared.Got.TheVariants.{Found, Refused as NoValue}
+use Rattle.std.specs.Prelude.{Option, Some, None, Ok, Err}
 use Rattle.records.specs.declared.Opening.{Opening}
-use Rattle.records.specs.declared.Opening.TheVariants.{Opened, Wrong as WrongOpening}
-use Rattle.records.specs.Global.{opening_of, global_fits}
-use Rattle.records.specs.Record.{Values, values, wrong, blanks, trimmed, start_at, found, beyond, plain, headed, by_next, more, after, next_at, value_at, values_from, values_at}
+use Rattle.records.specs.Global.{opens, opening_of, global_fits}
+use Rattle.records.specs.Record.{Got, found_at, refused_at, Values, values, wrong, blanks, trimmed, start_at, found, beyond, plain, headed, by_next, more, after, next_at, value_at, values_from, values_at}
 use Rattle.cards.specs.declared.Counts.{Counts}
 use Rattle.cards.specs.declared.Placed.{Placed}
 use Rattle.cards.specs.declared.Placed.TheVariants.{Here, Nowhere}
@@ -126,8 +124,8 @@ cards_not f = pick (length_ok (length f)) (pass start 1 (lines_of f)) (pass-not 
 -- ---- values
 
 abbrev GotNot : Got → Type 0
-GotNot (Found v s next last) = Unit {0}
-GotNot (NoValue n s at) = number n ≡ 16 → ⊥
+GotNot (Ok r) = Unit {0}
+GotNot (Err r) = number r.fault ≡ 16 → ⊥
 
 abbrev ValuesNot : Values → Type 0
 ValuesNot (values vs end) = Unit {0}
@@ -150,7 +148,7 @@ plain-not s end n Bad = λ e. omega arith
 headed-not : (c d : ℕ) (t : List ℕ) (s : ℕ) (h : Head) → GotNot (headed c d t s h)
 headed-not c d t s (Count count len) = pick (leb (s + len + count) (length t))
   where
-    pick : (b : Bool) → GotNot (cond b (found (Text (s + len) count) s (next_at c d t (s + len + count))) (NoValue Spelling s (length t)))
+    pick : (b : Bool) → GotNot (cond b (found (Text (s + len) count) s (next_at c d t (s + len + count))) (refused_at Spelling s (length t)))
     pick true = found-not (Text (s + len) count) s (next_at c d t (s + len + count))
     pick false = λ e. omega arith
 headed-not c d t s (Plain k) = plain-not s (s + k.len) (next_at c d t (s + k.len)) k.number
@@ -173,9 +171,12 @@ values_not (suc fuel) w c d t p = pick (value_at w c d t p) (value_not w c d t p
     on v (wrong n s at) h = h
 
     pick : (g : Got) → GotNot g → ((q : ℕ) → ValuesNot (values_from fuel w c d t q)) → ValuesNot (after t (values_from fuel w c d t) g)
-    pick (Found v s next true) h again = tt
-    pick (Found v s next false) h again = on (item_of t v) (values_from fuel w c d t next) (again next)
-    pick (NoValue n s at) h again = h
+    pick (Ok g) h again = by g.last
+      where
+        by : (last : Bool) → ValuesNot (after t (values_from fuel w c d t) (found_at g.value g.start g.next last))
+        by true = tt
+        by false = on (item_of t g.value) (values_from fuel w c d t g.next) (again g.next)
+    pick (Err g) h again = h
 
 -- ---- a file
 
@@ -200,10 +201,13 @@ globals-not f c = pick (opening_of (global_text f c))
     by p d from (wrong n s at) h = h
     by p d from (values vs end) h = then_not (no_stray c t end) _ (stray_not c t end) (λ _. then_not (demand (good vs) Global (place p d from vs)) _ (demand-not (good vs) Global (place p d from vs) (λ e. omega arith)) (λ _. tt))
 
-    pick : (o : Opening) → NotRoom (by_opening c t o)
-    pick WrongOpening = λ e. omega arith
-    pick (Opened p d next true) = then_not (no_stray c t next) _ (stray_not c t next) (λ _. tt)
-    pick (Opened p d next false) = by p d next (values_at 72 p d t next) (values_not (suc (length t)) 72 p d t next)
+    open-at : (p d next : ℕ) (last : Bool) → NotRoom (by_opening c t (opens p d next last))
+    open-at p d next true = then_not (no_stray c t next) _ (stray_not c t next) (λ _. tt)
+    open-at p d next false = by p d next (values_at 72 p d t next) (values_not (suc (length t)) 72 p d t next)
+
+    pick : (o : Option Opening) → NotRoom (by_opening c t o)
+    pick None = λ e. omega arith
+    pick (Some o) = open-at o.parameter o.closing o.next o.last
 
 rules_not : (x : Fields) (place : ℕ) → NotRoom (entry_rules x place)
 unfolding entry_rules

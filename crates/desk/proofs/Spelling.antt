@@ -11,10 +11,10 @@ use Rattle.columns.specs.declared.Fault.TheVariants.{Spelling}
 use Rattle.columns.specs.Columns.{blank}
 use Rattle.columns.specs.Refusal.{accepted}
 use Rattle.columns.proofs.Outcomes.{demand_accepted, demand_true}
+use Rattle.values.specs.declared.Value.{Value}
 use Rattle.values.specs.Value.{Item, item_of}
-use Rattle.records.specs.declared.Got.{Got}
-use Rattle.records.specs.declared.Got.TheVariants.{Found, Refused}
-use Rattle.records.specs.Record.{Values, values, wrong, more, after, blanks, value_at, values_from, values_at}
+use Rattle.std.specs.Prelude.{Ok, Err}
+use Rattle.records.specs.Record.{Got, found_at, Values, values, wrong, more, after, blanks, value_at, values_from, values_at}
 use Rattle.records.proofs.Bounds.{sane, next_in}
 use Rattle.records.proofs.Steps.{at_last, at_more}
 use Rattle.cards.specs.declared.Counts.{Counts}
@@ -31,19 +31,22 @@ module _ (w c d : ℕ) (t : List ℕ) where
     where
       by : (g : Got) → value_at w c d t p ≡ g → after t (values_from fuel w c d t) g ≡ values vs end
           → ((q : ℕ) (us : List Item) (to : ℕ) → values_from fuel w c d t q ≡ values us to → Spells w c d t q us to) → Spells w c d t p vs end
-      by (Found v s next true) e h again =
-          let a : item_of t v ∷ [] ≡ vs = cc in
-          let b : next ≡ end = cc in
-          rw (← a, ← b) (closing e)
-      by (Found v s next false) e h again = then (values_from fuel w c d t next) refl h
+      by (Ok g) e h again = at_end g.value g.start g.next g.last e h
         where
-          then : (r : Values) → values_from fuel w c d t next ≡ r → more (item_of t v) r ≡ values vs end → Spells w c d t p vs end
-          then (values us to) k h =
-              let a : item_of t v ∷ us ≡ vs = cc in
-              let b : to ≡ end = cc in
-              rw (← a, ← b) (parted e (again next us to k))
-          then (wrong n s at) k h = let z : ◌≡◌ {A = ℕ} 0 1 = cc in absurd (omega arith)
-      by (Refused n s at) e h again = let z : ◌≡◌ {A = ℕ} 0 1 = cc in absurd (omega arith)
+          at_end : (v : Value) (s next : ℕ) (last : Bool) → value_at w c d t p ≡ found_at v s next last → after t (values_from fuel w c d t) (found_at v s next last) ≡ values vs end → Spells w c d t p vs end
+          at_end v s next true e h =
+              let a : item_of t v ∷ [] ≡ vs = cc in
+              let b : next ≡ end = cc in
+              rw (← a, ← b) (closing e)
+          at_end v s next false e h = then (values_from fuel w c d t next) refl h
+            where
+              then : (r : Values) → values_from fuel w c d t next ≡ r → more (item_of t v) r ≡ values vs end → Spells w c d t p vs end
+              then (values us to) k h =
+                  let a : item_of t v ∷ us ≡ vs = cc in
+                  let b : to ≡ end = cc in
+                  rw (← a, ← b) (parted e (again next us to k))
+              then (wrong n s at) k h = let z : ◌≡◌ {A = ℕ} 0 1 = cc in absurd (omega arith)
+      by (Err g) e h again = let z : ◌≡◌ {A = ℕ} 0 1 = cc in absurd (omega arith)
 
   -- what is read is spelt
   pub is-spelt : (p : ℕ) (vs : List Item) (end : ℕ) → values_at w c d t p ≡ values vs end → Spells w c d t p vs end

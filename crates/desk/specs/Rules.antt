@@ -4,10 +4,8 @@ use Rattle.columns.specs.Columns.{blank, text_of}
 use Rattle.columns.specs.Format.{line_bytes, text_columns, parameter_columns, most_list}
 use Rattle.values.specs.declared.Value.{Value}
 use Rattle.values.specs.Value.{Item, default, whole, item_of, seen}
-use Rattle.records.specs.declared.Got.TheVariants.{Found}
-use Rattle.records.specs.declared.Opening.TheVariants.{Opened}
-use Rattle.records.specs.Record.{value_at}
-use Rattle.records.specs.Global.{opening_of, first_field, global_fits}
+use Rattle.records.specs.Record.{found_at, value_at}
+use Rattle.records.specs.Global.{opens, opening_of, first_field, global_fits}
 use Rattle.cards.specs.declared.Counts.{Counts}
 use Rattle.cards.specs.Cards.{entries, entry_line, parameter_line}
 use Rattle.cards.specs.Rules.{Meets}
@@ -24,14 +22,14 @@ use Rattle.model.specs.Read.{global_text}
 
 -- a text in lines of w columns spells these values from position p on, parted by c, and the record that d closes ends at end
 pub data Spells (w c d : ℕ) (t : List ℕ) : ℕ → List Item → ℕ → Type 0 where
-  closing : {p s end : ℕ} {v : Value} → value_at w c d t p ≡ Found v s end true → Spells w c d t p (item_of t v ∷ []) end
-  parted : {p s next end : ℕ} {v : Value} {vs : List Item} → value_at w c d t p ≡ Found v s next false → Spells w c d t next vs end
+  closing : {p s end : ℕ} {v : Value} → value_at w c d t p ≡ found_at v s end true → Spells w c d t p (item_of t v ∷ []) end
+  parted : {p s next end : ℕ} {v : Value} {vs : List Item} → value_at w c d t p ≡ found_at v s next false → Spells w c d t next vs end
       → Spells w c d t p (item_of t v ∷ vs) end
 
 -- the Global section opens with these delimiters and spells these fields; later columns are blank
 pub data GlobalIs (t : List ℕ) (c d : ℕ) : List Item → Type 0 where
-  no_fields : {next : ℕ} → opening_of t ≡ Opened c d next true → blank (drop next t) ≡ true → GlobalIs t c d []
-  fields : {next end : ℕ} {vs : List Item} → opening_of t ≡ Opened c d next false → Spells text_columns c d t next vs end
+  no_fields : {next : ℕ} → opening_of t ≡ opens c d next true → blank (drop next t) ≡ true → GlobalIs t c d []
+  fields : {next end : ℕ} {vs : List Item} → opening_of t ≡ opens c d next false → Spells text_columns c d t next vs end
       → blank (drop end t) ≡ true
       → GlobalIs t c d vs
 

@@ -7,13 +7,13 @@ use native.Mathlib.Numerals.{add-one}
 use native.Mathlib.Omega.{arith}
 use lib.ListN.{length}
 use lib.Seq.{take_all}
-use Rattle.columns.specs.declared.Fault.{Fault}
 use Rattle.columns.specs.Laid.{Wrote, Owes}
 use Rattle.columns.proofs.Writes.{owes_all, owes_less, owes_none, owes_same, wrote_none, wrote_length}
 use Rattle.values.specs.declared.Value.{Value}
 use Rattle.values.specs.Value.{Item, item_of, is_default, is_missing}
 use Rattle.records.specs.declared.Check.{Check}
-use Rattle.records.specs.declared.Check.TheVariants.{Done, Wrong}
+use Rattle.records.specs.declared.Misspelt.{Misspelt}
+use Rattle.std.specs.Prelude.{Result, Ok, Err}
 use Rattle.records.specs.Record.{Values, values, wrong, value_at, values_at, behind}
 use Rattle.records.specs.Reading.{Stands, checked, SaneCheck}
 use Rattle.records.specs.Items.{got_item, items_from}
@@ -52,24 +52,24 @@ pub ruleset given-lines = (given-none, given_some)
 
 -- ---- how many there are
 
-none_in : (vals : Values) (f : Fault) (s at : ℕ) → checked vals ≡ Wrong f s at → [] ≡ values_in vals
-none_in (values vs end) f s at h = let z : ◌≡◌ {A = ℕ} 0 1 = cc in absurd (omega arith)
-none_in (wrong g a b) f s at h = refl
+none_in : (vals : Values) (x : Misspelt) → checked vals ≡ Err x → [] ≡ values_in vals
+none_in (values vs end) x h = let z : ◌≡◌ {A = ℕ} 0 1 = cc in absurd (omega arith)
+none_in (wrong g a b) x h = refl
 
-module _ (w c d : ℕ) (t : List ℕ) (from : ℕ) {k : Check} (ek : k ≡ checked (values_at w c d t from)) where
-  pub count_none : {f : Fault} {s at : ℕ} → k ≡ Wrong f s at → items_from w c d t from 0 ≡ values_in (values_at w c d t from)
+module _ (w c d : ℕ) (t : List ℕ) (from : ℕ) {k : Result Check Misspelt} (ek : k ≡ checked (values_at w c d t from)) where
+  pub count_none : {x : Misspelt} → k ≡ Err x → items_from w c d t from 0 ≡ values_in (values_at w c d t from)
   unfolding items_from
-  count_none {f} {s} {at} e = none_in (values_at w c d t from) f s at (sym ek ∙ e)
+  count_none {x} e = none_in (values_at w c d t from) x (sym ek ∙ e)
 
-  pub count_all : {n keep end : ℕ} → k ≡ Done n keep end → items_from w c d t from n ≡ values_in (values_at w c d t from)
-  count_all {n} {keep} {end} e =
-      let a : Accepted (values_at w c d t from) n keep end = done_values (values_at w c d t from) n keep end (sym ek ∙ e) in
-      let q : n ≡ length a.vs = a.count in
-      sym (items_are w c d t from a.vs end n a.is (omega arith)) ∙ take_all n a.vs (omega arith) ∙ ap values_in (sym a.is)
+  pub count_all : {x : Check} → k ≡ Ok x → items_from w c d t from x.count ≡ values_in (values_at w c d t from)
+  count_all {x} e =
+      let a : Accepted (values_at w c d t from) x.count x.kept x.end = done_values (values_at w c d t from) x (sym ek ∙ e) in
+      let q : x.count ≡ length a.vs = a.count in
+      sym (items_are w c d t from a.vs x.end x.count a.is (omega arith)) ∙ take_all x.count a.vs (omega arith) ∙ ap values_in (sym a.is)
 
-pub count_few : (p m : ℕ) {k : Check} {n keep end : ℕ} → SaneCheck p m k → k ≡ Done n keep end → n ≤ m
-count_few p m {k} {n} {keep} {end} sane e =
-    let s : SaneCheck p m (Done n keep end) = rw e at sane in
+pub count_few : (p m : ℕ) {k : Result Check Misspelt} {x : Check} → SaneCheck p m k → k ≡ Ok x → x.count ≤ m
+count_few p m {k} {x} sane e =
+    let s : SaneCheck p m (Ok x) = rw e at sane in
     omega arith
 
 pub ruleset counting = (count_none, count_all, count_few)

@@ -5,13 +5,13 @@ use mathlib.Core.List.{List}
 use Prim.Native.Nat.{ℕ, ◌*◌, ◌≤◌, ◌<◌}
 use native.Mathlib.Omega.{arith}
 use lib.ListN.{length}
-use Rattle.columns.specs.declared.Fault.{Fault}
 use Rattle.columns.specs.Columns.{text_of}
 use Rattle.values.specs.declared.Value.{Value}
 use Rattle.values.specs.declared.Value.TheVariants.{Default}
-use Rattle.records.specs.declared.Got.{Got}
-use Rattle.records.specs.declared.Got.TheVariants.{Found, Refused}
-use Rattle.records.specs.Record.{value_at, values_at}
+use Rattle.std.specs.Prelude.{Ok, Err}
+use Rattle.records.specs.declared.Found.{Found}
+use Rattle.records.specs.declared.Misspelt.{Misspelt}
+use Rattle.records.specs.Record.{Got, value_at, values_at}
 use Rattle.records.specs.Reading.{Stands, Writable, Sane}
 use Rattle.records.proofs.Texts.{length-text}
 use Rattle.records.proofs.Steps.{none-wrong}
@@ -22,8 +22,8 @@ use Rattle.print.specs.declared.Met.{Met}
 use Rattle.print.specs.Taking.{Unrefused, met_of}
 
 fits : (p m : ℕ) (g : Got) → Sane p m g → Writable m (taken_of g).value
-fits p m (Found v s next last) h = h.3
-fits p m (Refused fault s at) h = tt
+fits p m (Ok x) h = h.3
+fits p m (Err x) h = tt
 
 pub taken-fits : (p m : ℕ) (g : Got) {x : Taken} → Sane p m g → x ≡ taken_of g → Writable m x.value
 taken-fits p m g h e = rw e (fits p m g h)
@@ -36,25 +36,25 @@ abbrev met_as : Value → ℕ → Bool → Met
 met_as v next last = record { value = v; next = next; last = last }
 
 module _ {g : Got} where
-  pub met-found : {v : Value} {s next : ℕ} {last : Bool} → g ≡ Found v s next last → met_as v next last ≡ met_of g
+  pub met-found : {x : Found} → g ≡ Ok x → met_as x.value x.next x.last ≡ met_of g
   met-found e = rw e
 
-  pub met_refused : {fault : Fault} {s at : ℕ} → g ≡ Refused fault s at → met_as Default at true ≡ met_of g
+  pub met_refused : {x : Misspelt} → g ≡ Err x → met_as Default x.at true ≡ met_of g
   met_refused e = rw e
 
 pub met_same : (g got : Got) {x : Met} → x ≡ met_of g → g ≡ got → x ≡ met_of got
 met_same g got e h = e ∙ ap met_of h
 
 met_most : (p m : ℕ) (g : Got) → Sane p m g → (met_of g).next ≤ m
-met_most p m (Found v s next last) h = omega arith
-met_most p m (Refused fault s at) h = omega arith
+met_most p m (Ok x) h = omega arith
+met_most p m (Err x) h = omega arith
 
 pub met_in : (p m : ℕ) (g : Got) {x : Met} → Sane p m g → x ≡ met_of g → x.next ≤ m
 met_in p m g h e = rw e (met_most p m g h)
 
 met_limits : (p m : ℕ) (g : Got) → Sane p m g → Writable m (met_of g).value
-met_limits p m (Found v s next last) h = h.3
-met_limits p m (Refused fault s at) h = tt
+met_limits p m (Ok x) h = h.3
+met_limits p m (Err x) h = tt
 
 pub met-fits : (p m : ℕ) (g : Got) {x : Met} → Sane p m g → x ≡ met_of g → Writable m x.value
 met-fits p m g h e = rw e (met_limits p m g h)
@@ -65,13 +65,13 @@ pub met-more : (file : List ℕ) (base lines : ℕ) → Stands file base 64 line
 met-more file base lines st c d pc pd q h u {g} eg s ex = rw ex (by g (sym eg) s)
   where
     by : (y : Got) → value_at 64 c d (text_of file base 64 lines) q ≡ y → Sane q (lines * 64) y → q < (met_of y).next
-    by (Found v from next last) e k = omega arith
-    by (Refused fault from at) e k =
+    by (Ok y) e k = omega arith
+    by (Err y) e k =
         let i : q ≤ length (text_of file base 64 lines) = omega (arith, length-text file base 64 lines st) in
         absurd (none-wrong 64 c d (text_of file base 64 lines) pc pd q i u.is e)
 
 -- a value that is found ends behind its start, within the text
-pub found_sane : (p m : ℕ) {g : Got} {v : Value} {s next : ℕ} {last : Bool} → Sane p m g → g ≡ Found v s next last → (p < next) × (next ≤ m) × Writable m v
+pub found_sane : (p m : ℕ) {g : Got} {x : Found} → Sane p m g → g ≡ Ok x → (p < x.next) × (x.next ≤ m) × Writable m x.value
 found_sane p m h e =
     let k = rw e at h in
     (omega arith, omega arith, k.3)

@@ -9,15 +9,15 @@ use native.Mathlib.Omega.{arith}
 use lib.ListN.{length, drop, replicate}
 use borrow.Author.Tests.{not-true, not-false}
 use Rattle.columns.specs.Columns.{text_of}
-use Rattle.columns.specs.declared.Fault.{Fault}
 use Rattle.columns.specs.Laid.{Wrote, Owes}
 use Rattle.columns.proofs.Writes.{owes_all, owes_less, owes_none, owes_same, wrote_length}
 use Rattle.values.specs.declared.Value.{Value}
 use Rattle.values.specs.declared.Value.TheVariants.{Default}
 use Rattle.values.specs.Value.{Item, default, item_of, is_default, is_missing}
-use Rattle.records.specs.declared.Got.{Got}
-use Rattle.records.specs.declared.Got.TheVariants.{Found, Refused}
-use Rattle.records.specs.Record.{values, value_at, values_at, trim, trimmed}
+use Rattle.std.specs.Prelude.{Ok, Err}
+use Rattle.records.specs.declared.Found.{Found}
+use Rattle.records.specs.declared.Misspelt.{Misspelt}
+use Rattle.records.specs.Record.{Got, found_at, values, value_at, values_at, trim, trimmed}
 use Rattle.records.specs.Reading.{Stands}
 use Rattle.records.proofs.Texts.{length-text, small}
 use Rattle.records.proofs.Items.{trimmed_first}
@@ -186,11 +186,14 @@ module _ (file : List ℕ) (base lines : ℕ) (st : Stands file base 64 lines) (
       inside = omega (arith, length-text file base 64 lines st)
 
       by : (g : Got) → value_at 64 c d (text_of file base 64 lines) q ≡ g → First c d (text_of file base 64 lines) vs (met_of g)
-      by (Found v s next true) e = record { left = []; is = none; whole = (last_is 64 c d (text_of file base 64 lines) pc pd q inside r e).0 }
-      by (Found v s next false) e =
-          let m = more-is 64 c d (text_of file base 64 lines) pc pd q inside r e in
-          record { left = m.0; is = some m.0 end m.2; whole = m.1 }
-      by (Refused fault s at) e = absurd (none-wrong 64 c d (text_of file base 64 lines) pc pd q inside r e)
+      by (Ok g) e = at_end g.value g.start g.next g.last e
+        where
+          at_end : (v : Value) (s next : ℕ) (last : Bool) → value_at 64 c d (text_of file base 64 lines) q ≡ found_at v s next last → First c d (text_of file base 64 lines) vs (met_of (found_at v s next last))
+          at_end v s next true e = record { left = []; is = none; whole = (last_is 64 c d (text_of file base 64 lines) pc pd q inside r e).0 }
+          at_end v s next false e =
+              let m = more-is 64 c d (text_of file base 64 lines) pc pd q inside r e in
+              record { left = m.0; is = some m.0 end m.2; whole = m.1 }
+      by (Err g) e = absurd (none-wrong 64 c d (text_of file base 64 lines) pc pd q inside r e)
 
   module _ (types : List ℕ) where
     -- behind the type all of it is owed
@@ -240,21 +243,21 @@ module _ (file : List ℕ) (base lines : ℕ) (st : Stands file base 64 lines) (
 
     module _ {o bs o₁ : List ℕ} {at r₁ : ℕ} (g : Option LayoutState) (owed q : ℕ) {last : Bool} (p : Owing types t c d o at bs o₁ r₁ g owed q last) (h : last ≡ false) (i : q ≤ lines * 64) {got : Got} (eg : got ≡ value_at 64 c d t q) where
       -- no value of it is refused
-      pub values_refused : {fault : Fault} {s z : ℕ} {o₂ : List ℕ} {r₂ : ℕ} → got ≡ Refused fault s z → Wrote o at bs o₂ r₂
+      pub values_refused : {x : Misspelt} {o₂ : List ℕ} {r₂ : ℕ} → got ≡ Err x → Wrote o at bs o₂ r₂
       values_refused e =
           let l = left_some p.is h in
           let k : q ≤ length t = omega (arith, length-text file base 64 lines st) in
           absurd (none-wrong 64 c d t pc pd q k l.1 (sym eg ∙ e))
 
-      module _ {v : Value} {s next : ℕ} {end : Bool} (e : got ≡ Found v s next end) {b : Bool} (eb : b ≡ is_missing v) where
-        met-is : record { value = v; next = next; last = end } ≡ met_of (value_at 64 c d t q)
+      module _ {x : Found} (e : got ≡ Ok x) {b : Bool} (eb : b ≡ is_missing x.value) where
+        met-is : record { value = x.value; next = x.next; last = x.last } ≡ met_of (value_at 64 c d t q)
         met-is = sym (ap met_of (sym eg ∙ e))
 
-        pub found_default : b ≡ true → Owing types t c d o at bs o₁ r₁ g (owed + 1) next end
+        pub found_default : b ≡ true → Owing types t c d o at bs o₁ r₁ g (owed + 1) x.next x.last
         found_default k = values_default g owed q p h i met-is eb k
 
-        pub found-given : b ≡ false → {o₂ : List ℕ} {r₂ : ℕ} {u : Option LayoutState} → u ≡ run types g (owing owed (item_of t v ∷ []))
-            → Wrote o₁ r₁ (value_bytes (marked_from types g (owing owed (item_of t v ∷ [])))) o₂ r₂ → Owing types t c d o at bs o₂ r₂ u 0 next end
+        pub found-given : b ≡ false → {o₂ : List ℕ} {r₂ : ℕ} {u : Option LayoutState} → u ≡ run types g (owing owed (item_of t x.value ∷ []))
+            → Wrote o₁ r₁ (value_bytes (marked_from types g (owing owed (item_of t x.value ∷ [])))) o₂ r₂ → Owing types t c d o at bs o₂ r₂ u 0 x.next x.last
         found-given k eu w = values_given g owed q p h i met-is eb k eu w
 
   -- there is room for what is owed

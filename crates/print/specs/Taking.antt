@@ -1,14 +1,12 @@
 -- The code's form: how printing goes through a record's values: what it meets, and what it needs and leaves at a value that is given.
-use Rattle.std.specs.Prelude.{◌≡◌, true, List, [], ◌∷◌, ℕ, ◌+◌, ◌*◌, ◌^◌, ◌≤◌, ◌<◌, length, Option}
+use Rattle.std.specs.Prelude.{◌≡◌, true, List, [], ◌∷◌, ℕ, ◌+◌, ◌*◌, ◌^◌, ◌≤◌, ◌<◌, length, Option, Ok, Err}
 use Rattle.columns.specs.Columns.{text_of}
 use Rattle.columns.specs.Laid.{Wrote}
 use Rattle.columns.specs.Format.{line_bytes, parameter_columns}
 use Rattle.values.specs.declared.Value.{Value}
 use Rattle.values.specs.declared.Value.TheVariants.{Default}
 use Rattle.values.specs.Value.{Item, item_of}
-use Rattle.records.specs.declared.Got.{Got}
-use Rattle.records.specs.declared.Got.TheVariants.{Found, Refused}
-use Rattle.records.specs.Record.{Values, values, values_at}
+use Rattle.records.specs.Record.{Got, Values, values, values_at}
 use Rattle.records.specs.Reading.{Stands, Writable}
 use Rattle.directory.specs.Naming.{types_at}
 use Rattle.layouts.specs.declared.LayoutState.{LayoutState}
@@ -27,8 +25,8 @@ pub record Unrefused (vals : Values) : Type 0 where
 
 -- a value that is met; a refused one would end the record
 abbrev pub met_of : Got → Met
-met_of (Found v s next last) = record { value = v; next = next; last = last }
-met_of (Refused fault s at) = record { value = Default; next = at; last = true }
+met_of (Ok r) = record { value = r.value; next = r.next; last = r.last }
+met_of (Err r) = record { value = Default; next = r.at; last = true }
 
 -- an entity's record stands in the file and is not refused, and n entries from line first on, for what it names
 pub record ValuesStand (f : List ℕ) (base lines c d first n : ℕ) : Type 0 where

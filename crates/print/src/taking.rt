@@ -10,7 +10,7 @@ ghost use Rattle.print.specs.Taking.{Unrefused, met_of};
 use crate::Met;
 use columns::format::PARAMETER_COLUMNS;
 use read_entities::Taken;
-use records::Got;
+use records::{Found, Got, Misspelt};
 use records_read::value_at;
 use values::Value;
 
@@ -19,8 +19,8 @@ fn taken_of(g: Got) -> Taken
     ensures { result ≡ taken_of g }
 {
     match g {
-        Got::Found { value, next, .. } => Taken { value, next },
-        Got::Refused { at, .. } => Taken {
+        Ok(Found { value, next, .. }) => Taken { value, next },
+        Err(Misspelt { at, .. }) => Taken {
             value: Value::Default,
             next: at,
         },
@@ -45,13 +45,15 @@ fn met_of(g: Got) -> Met
     ensures { result ≡ met_of g }
 {
     match g {
-        Got::Found {
-            value,
-            next,
-            last,
-            ..
-        } => Met { value, next, last },
-        Got::Refused { at, .. } => Met {
+        Ok(
+            Found {
+                value,
+                next,
+                last,
+                ..
+            },
+        ) => Met { value, next, last },
+        Err(Misspelt { at, .. }) => Met {
             value: Value::Default,
             next: at,
             last: true,

@@ -16,7 +16,6 @@ ghost use Rattle.print.specs.Bytes.{values_in, given_bytes, global_bytes};
 use columns::format::TEXT_COLUMNS;
 use print::lines::put_global_line;
 use print::taking::value_from;
-use records::Check;
 use records_read::check_from;
 use values::{Value, is_missing};
 
@@ -56,8 +55,8 @@ fn count_from(file: &[u8], base: usize, lines: usize, c: u8, d: u8, from: usize)
     ensures upper_bound { result ≤ lines * text_columns }
 {
     match check_from(file, base, TEXT_COLUMNS, lines, c, d, from) {
-        Check::Wrong { .. } => 0,
-        Check::Done { count, .. } => count,
+        Err(_) => 0,
+        Ok(check) => check.count,
     }
 }
 

@@ -18,7 +18,7 @@ use print::Behind;
 use print::lines::{put_mostly_real, put_value_line};
 use print::taking::met_at;
 use read_entities::marks::{mark_of, mark_step, marks_begun};
-use records::Got;
+use records::Found;
 use records_read::value_at;
 use values::{Value, is_missing};
 
@@ -83,15 +83,17 @@ pub fn put_values(
     while !last {
         let got = value_at(file, base, PARAMETER_COLUMNS, lines, c, d, q);
         match got {
-            Got::Refused { .. } => {
+            Err(_) => {
                 return next;
             }
-            Got::Found {
-                value,
-                next: behind,
-                last: end,
-                ..
-            } => {
+            Ok(
+                Found {
+                    value,
+                    next: behind,
+                    last: end,
+                    ..
+                },
+            ) => {
                 q = behind;
                 last = end;
                 if is_missing(value) {

@@ -1,16 +1,15 @@
 -- A value that is taken is the one that was read. Assumes nothing.
 use mathlib.Core.Path.{◌≡◌, refl, ap, ◌∙◌}
-use mathlib.Core.Bool.{Bool}
 use mathlib.Core.List.{List}
 use Prim.Native.Nat.{ℕ, ◌≤◌}
 use native.Mathlib.Omega.{arith}
-use Rattle.columns.specs.declared.Fault.{Fault}
 use Rattle.values.specs.declared.Value.{Value}
 use Rattle.values.specs.declared.Value.TheVariants.{Default}
 use Rattle.values.specs.Value.{item_of}
-use Rattle.records.specs.declared.Got.{Got}
-use Rattle.records.specs.declared.Got.TheVariants.{Found, Refused}
-use Rattle.records.specs.Record.{behind}
+use Rattle.std.specs.Prelude.{Ok, Err}
+use Rattle.records.specs.declared.Found.{Found}
+use Rattle.records.specs.declared.Misspelt.{Misspelt}
+use Rattle.records.specs.Record.{Got, behind}
 use Rattle.records.specs.Reading.{Sane}
 use Rattle.records.specs.Items.{got_item}
 use Rattle.read_entities.specs.declared.Taken.{Taken}
@@ -22,23 +21,23 @@ abbrev with : Value → ℕ → Taken
 with v next = record { value = v; next = next }
 
 module _ {g : Got} where
-  pub taken-found : {v : Value} {s next : ℕ} {last : Bool} → g ≡ Found v s next last → with v next ≡ taken_of g
+  pub taken-found : {x : Found} → g ≡ Ok x → with x.value x.next ≡ taken_of g
   taken-found e = rw e
 
-  pub taken_refused : {fault : Fault} {s at : ℕ} → g ≡ Refused fault s at → with Default at ≡ taken_of g
+  pub taken_refused : {x : Misspelt} → g ≡ Err x → with Default x.at ≡ taken_of g
   taken_refused e = rw e
 
 pub taken_item : (t : List ℕ) (g : Got) → item_of t (taken_of g).value ≡ got_item t g
-taken_item t (Found v s next last) = refl
-taken_item t (Refused fault s at) = refl
+taken_item t (Ok x) = refl
+taken_item t (Err x) = refl
 
 pub taken_next : (g : Got) → (taken_of g).next ≡ behind g
-taken_next (Found v s next last) = refl
-taken_next (Refused fault s at) = refl
+taken_next (Ok x) = refl
+taken_next (Err x) = refl
 
 next_le : (p m : ℕ) (g : Got) → Sane p m g → (taken_of g).next ≤ m
-next_le p m (Found v s next last) h = omega arith
-next_le p m (Refused fault s at) h = omega arith
+next_le p m (Ok x) h = omega arith
+next_le p m (Err x) h = omega arith
 
 pub taken_in : (p m : ℕ) (g : Got) {x : Taken} → Sane p m g → x ≡ taken_of g → x.next ≤ m
 taken_in p m g h e = rw e (next_le p m g h)

@@ -3,7 +3,7 @@
 use mathlib.Core.Path.{◌≡◌, refl, ◌∙◌}
 use mathlib.Core.Bool.{Bool, true, false, cond}
 use mathlib.Core.List.{List}
-use Prim.Native.Nat.{ℕ, ◌-◌}
+use Prim.Native.Nat.{ℕ}
 use native.Mathlib.Omega.{arith}
 use lib.Dec.{eqb}
 use lib.ListN.{length, get_or, drop}
@@ -12,7 +12,8 @@ use Rattle.columns.specs.Refusal.{Outcome, accepted, refused, demand, ◌then◌
 use Rattle.values.specs.declared.Value.{Value}
 use Rattle.values.specs.declared.Value.TheVariants.{Default, Whole, Real, Text}
 use Rattle.values.specs.Value.{Item, default, item_of}
-use Rattle.records.specs.declared.Check.TheVariants.{Done}
+use Rattle.std.specs.Prelude.{Ok}
+use Rattle.records.specs.declared.Check.{Check}
 use Rattle.records.specs.Record.{Values, values, wrong, trimmed, kept}
 use Rattle.records.specs.Reading.{checked}
 use Rattle.layouts.specs.declared.LayoutVerdict.{LayoutVerdict}
@@ -94,9 +95,9 @@ pub record Accepted (vals : Values) (n m end : ℕ) : Type 0 where
   pub count : n ≡ length vs
   pub keeps : m ≡ kept vs
 
-pub done_values : (vals : Values) (n m end : ℕ) → checked vals ≡ Done n m end → Accepted vals n m end
-done_values (values vs to) n m end h = record { vs = vs; is = cc; count = cc; keeps = cc }
-done_values (wrong f s at) n m end h = let z : ◌≡◌ {A = ℕ} 0 1 = cc in absurd (omega arith)
+pub done_values : (vals : Values) (x : Check) → checked vals ≡ Ok x → Accepted vals x.count x.kept x.end
+done_values (values vs to) x h = record { vs = vs; is = cc; count = cc; keeps = cc }
+done_values (wrong f s at) x h = let z : ◌≡◌ {A = ℕ} 0 1 = cc in absurd (omega arith)
 
 -- ---- the pass
 

@@ -6,15 +6,15 @@ use Prim.Native.Nat.{ℕ, zero, suc, ◌+◌, ◌-◌, ◌*◌, ◌^◌, ◌≤�
 use native.Mathlib.Nat.{add-zero, sub-zero}
 use native.Mathlib.Omega.{arith}
 use lib.ListN.{length, replicate}
-use Rattle.columns.specs.declared.Fault.{Fault}
 use Rattle.columns.specs.Columns.{text_of}
 use Rattle.values.specs.declared.Value.{Value}
 use Rattle.values.specs.declared.Value.TheVariants.{Default, Whole, Real, Text}
 use Rattle.values.specs.Value.{Item, default, whole, real, item_of, is_default, head, spelled, is_missing}
 use Rattle.values.specs.Writing.{front}
-use Rattle.records.specs.declared.Got.{Got}
-use Rattle.records.specs.declared.Got.TheVariants.{Found, Refused}
-use Rattle.records.specs.Record.{Values, values, wrong, more, value_at, values_at, trim, trimmed}
+use Rattle.std.specs.Prelude.{Ok, Err}
+use Rattle.records.specs.declared.Found.{Found}
+use Rattle.records.specs.declared.Misspelt.{Misspelt}
+use Rattle.records.specs.Record.{Got, found_at, Values, values, wrong, more, value_at, values_at, trim, trimmed}
 use Rattle.records.specs.Reading.{Stands, Writable, Sane}
 use Rattle.records.specs.Written.{copied}
 use Rattle.records.proofs.Texts.{length-text, small}
@@ -160,26 +160,26 @@ module _ (types : List ℕ) (g : Option LayoutState) (owed size : ℕ) (t : List
 module _ {file : List ℕ} {base lines : ℕ} (st : Stands file base 64 lines) {c d : ℕ} (pc : 0 < c) (pd : 0 < d) (types : List ℕ) where
   module _ (q owed size : ℕ) (g : Option LayoutState) {got : Got} {f : EntityWalked} (h : q ≤ lines * 64) (eg : got ≡ value_at 64 c d (text_of file base 64 lines) q)
       (inv : walked_from types g owed size (values_at 64 c d (text_of file base 64 lines) q) ≡ f) where
-    pub walk_wrong : {fault : Fault} {s at : ℕ} → got ≡ Refused fault s at → Wrong fault ≡ f
+    pub walk_wrong : {x : Misspelt} → got ≡ Err x → Wrong x.fault ≡ f
     walk_wrong e = sym (ap (walked_from types g owed size) (at-wrong 64 c d (text_of file base 64 lines) pc pd q (sym eg ∙ e))) ∙ inv
 
-    module _ (sane : Sane q (lines * 64) got) {v : Value} {s next : ℕ} {last : Bool} (e : got ≡ Found v s next last) {u : Option LayoutState} {size' : ℕ}
-        (eu : u ≡ state_after types g owed v) (el : size' ≡ length_after size owed v) where
-      can : Writable (length (text_of file base 64 lines)) v
+    module _ (sane : Sane q (lines * 64) got) {x : Found} (e : got ≡ Ok x) {u : Option LayoutState} {size' : ℕ}
+        (eu : u ≡ state_after types g owed x.value) (el : size' ≡ length_after size owed x.value) where
+      can : Writable (length (text_of file base 64 lines)) x.value
       can = rw (length-text file base 64 lines st) (can_write q (lines * 64) e sane)
 
-      pub walk_last : last ≡ true → Done u size' ≡ f
+      pub walk_last : x.last ≡ true → Done u size' ≡ f
       walk_last l =
           let t = text_of file base 64 lines in
           ap₂ Done eu el
-          ∙ sym (ap (walked_from types g owed size) (at_last 64 c d t pc pd q (sym eg ∙ e ∙ ap (Found v s next) l)) ∙ walk_all types g owed size t v next can) ∙ inv
+          ∙ sym (ap (walked_from types g owed size) (at_last 64 c d t pc pd q (sym eg ∙ e ∙ ap (found_at x.value x.start x.next) l)) ∙ walk_all types g owed size t x.value x.next can) ∙ inv
 
-      pub walk_more : {o' : ℕ} → o' ≡ owed_after owed v → last ≡ false → walked_from types u o' size' (values_at 64 c d (text_of file base 64 lines) next) ≡ f
+      pub walk_more : {o' : ℕ} → o' ≡ owed_after owed x.value → x.last ≡ false → walked_from types u o' size' (values_at 64 c d (text_of file base 64 lines) x.next) ≡ f
       walk_more eo l =
           let t = text_of file base 64 lines in
           let i : q ≤ length t = omega (arith, length-text file base 64 lines st) in
           rw (eu, eo, el)
-          (sym (ap (walked_from types g owed size) (at_more 64 c d t pc pd q i (sym eg ∙ e ∙ ap (Found v s next) l)) ∙ walk_one types g owed size t v (values_at 64 c d t next) can) ∙ inv)
+          (sym (ap (walked_from types g owed size) (at_more 64 c d t pc pd q i (sym eg ∙ e ∙ ap (found_at x.value x.start x.next) l)) ∙ walk_one types g owed size t x.value (values_at 64 c d t x.next) can) ∙ inv)
 
 -- ---- its bounds: each value takes a character, and its line 1046 bytes at most
 
@@ -192,12 +192,12 @@ same_length : (b : Bool) (size size' x : ℕ) → size' ≡ cond b size x → si
 same_length true size size' x e = e
 same_length false size size' x e = refl
 
-module _ (q owed size lines : ℕ) (i : size + 1100 * owed ≤ 1100 * q) {got : Got} (sane : Sane q (lines * 64) got) {v : Value} {s next : ℕ} {last : Bool} (e : got ≡ Found v s next last)
-    {o' size' : ℕ} (el : size' ≡ length_after size owed v) (k : size' ≤ size + 3 * owed + 1046) (eo : o' ≡ owed_after owed v) where
-  pub light_next : size' + 1100 * o' ≤ 1100 * next
+module _ (q owed size lines : ℕ) (i : size + 1100 * owed ≤ 1100 * q) {got : Got} (sane : Sane q (lines * 64) got) {x : Found} (e : got ≡ Ok x)
+    {o' size' : ℕ} (el : size' ≡ length_after size owed x.value) (k : size' ≤ size + 3 * owed + 1046) (eo : o' ≡ owed_after owed x.value) where
+  pub light_next : size' + 1100 * o' ≤ 1100 * x.next
   light_next =
-      lighter (is_missing v) size size' owed o' q next i (next_more q (lines * 64) e sane) k
-      (same_length (is_missing v) size size' (size + 3 * owed + 3 + length (front v) + copied v) el) eo
+      lighter (is_missing x.value) size size' owed o' q x.next i (next_more q (lines * 64) e sane) k
+      (same_length (is_missing x.value) size size' (size + 3 * owed + 3 + length (front x.value) + copied x.value) el) eo
 
   pub light_all : size' ≤ 70400 * lines
   light_all = omega (arith, light_next, next_in q (lines * 64) e sane)
@@ -209,7 +209,7 @@ module _ {file : List ℕ} {base lines : ℕ} (st : Stands file base 64 lines) (
   pub owed_small : owed < 2 ^ 60
   owed_small = omega (arith, small file base 64 lines st)
 
-pub copied-fits : (q m : ℕ) {got : Got} {v : Value} {s next : ℕ} {last : Bool} → got ≡ Found v s next last → Sane q m got → copied v ≤ 999
-copied-fits q m {got} {v} e h = copied_few m v (can_write q m e h)
+pub copied-fits : (q m : ℕ) {got : Got} {x : Found} → got ≡ Ok x → Sane q m got → copied x.value ≤ 999
+copied-fits q m {got} {x} e h = copied_few m x.value (can_write q m e h)
 
 pub ruleset walks = (walk_wrong, walk_last, walk_more, light_next, light_all, length_small, owed_small, copied-fits, next_in, next_less)

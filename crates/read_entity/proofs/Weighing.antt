@@ -9,11 +9,11 @@ use borrow.Author.Tests.{not-true, not-false}
 use Rattle.columns.specs.declared.Fault.{Fault}
 use Rattle.columns.specs.declared.Fault.TheVariants.{FirstValue, Layout as LayoutFault}
 use Rattle.columns.specs.Refusal.{Outcome, accepted, demand, ◌then◌}
-use Rattle.values.specs.declared.Value.{Value}
 use Rattle.values.specs.Value.{Item, item_of}
-use Rattle.records.specs.declared.Got.{Got}
-use Rattle.records.specs.declared.Got.TheVariants.{Found, Refused as RefusedValue}
-use Rattle.records.specs.Record.{Values, values, wrong, more, value_at, values_at, trimmed}
+use Rattle.std.specs.Prelude.{Ok, Err}
+use Rattle.records.specs.declared.Found.{Found}
+use Rattle.records.specs.declared.Misspelt.{Misspelt}
+use Rattle.records.specs.Record.{Got, found_at, Values, values, wrong, more, value_at, values_at, trimmed}
 use Rattle.records.proofs.Bounds.{next_in}
 use Rattle.records.proofs.Steps.{at_last, at_more, at-wrong}
 use Rattle.layouts.specs.declared.LayoutState.{LayoutState}
@@ -109,26 +109,26 @@ all_carried types i (values vs to) g u size h =
 all_carried types i (wrong n s at) g u size h = let z : ◌≡◌ {A = ℕ} 0 1 = cc in absurd (omega arith)
 
 module _ {c d : ℕ} (pc : 0 < c) (pd : 0 < d) (t : List ℕ) {got : Got} (eg : got ≡ value_at 64 c d t 0) where
-  pub weigh_refused : {f : Fault} {s at : ℕ} → got ≡ RefusedValue f s at → 0 ≡ carried_length (carried_in (values_at 64 c d t 0))
+  pub weigh_refused : {x : Misspelt} → got ≡ Err x → 0 ≡ carried_length (carried_in (values_at 64 c d t 0))
   unfolding carried_length
   weigh_refused e = sym (ap (λ (vs : Values). carried_length (carried_in vs)) (at-wrong 64 c d t pc pd 0 (sym eg ∙ e)))
 
-  module _ {v : Value} {s next : ℕ} {last : Bool} (e : got ≡ Found v s next last) where
-    pub weigh_single : last ≡ true → 0 ≡ carried_length (carried_in (values_at 64 c d t 0))
+  module _ {x : Found} (e : got ≡ Ok x) where
+    pub weigh_single : x.last ≡ true → 0 ≡ carried_length (carried_in (values_at 64 c d t 0))
     unfolding carried_length
-    weigh_single l = sym (ap (λ (vs : Values). carried_length (carried_in vs)) (at_last 64 c d t pc pd 0 (sym eg ∙ e ∙ ap (Found v s next) l)))
+    weigh_single l = sym (ap (λ (vs : Values). carried_length (carried_in vs)) (at_last 64 c d t pc pd 0 (sym eg ∙ e ∙ ap (found_at x.value x.start x.next) l)))
 
-    module _ (l : last ≡ false) (types : List ℕ) (g : Option LayoutState) {w : EntityWalked} (ew : w ≡ walked_from types g 0 0 (values_at 64 c d t next)) where
-      whole : carried_length (carried_in (more (item_of t v) (values_at 64 c d t next))) ≡ carried_length (carried_in (values_at 64 c d t 0))
-      whole = sym (ap (λ (vs : Values). carried_length (carried_in vs)) (at_more 64 c d t pc pd 0 (omega arith) (sym eg ∙ e ∙ ap (Found v s next) l)))
+    module _ (l : x.last ≡ false) (types : List ℕ) (g : Option LayoutState) {w : EntityWalked} (ew : w ≡ walked_from types g 0 0 (values_at 64 c d t x.next)) where
+      whole : carried_length (carried_in (more (item_of t x.value) (values_at 64 c d t x.next))) ≡ carried_length (carried_in (values_at 64 c d t 0))
+      whole = sym (ap (λ (vs : Values). carried_length (carried_in vs)) (at_more 64 c d t pc pd 0 (omega arith) (sym eg ∙ e ∙ ap (found_at x.value x.start x.next) l)))
 
       pub weigh_walked : (typed inside : Bool) {r : Weighed} → r ≡ weighed_of typed inside w → r.length ≡ carried_length (carried_in (values_at 64 c d t 0))
       unfolding weighed_of
       weigh_walked typed inside er = ap (λ (y : Weighed). y.length) er ∙ by w ew
         where
-          by : (x : EntityWalked) → x ≡ walked_from types g 0 0 (values_at 64 c d t next) → (weighed_of typed inside x).length ≡ carried_length (carried_in (values_at 64 c d t 0))
-          by (Wrong f) ex = none-carried types (item_of t v) (values_at 64 c d t next) g f (sym ex) ∙ whole
-          by (Done u size) ex = all_carried types (item_of t v) (values_at 64 c d t next) g u size (sym ex) ∙ whole
+          by : (y : EntityWalked) → y ≡ walked_from types g 0 0 (values_at 64 c d t x.next) → (weighed_of typed inside y).length ≡ carried_length (carried_in (values_at 64 c d t 0))
+          by (Wrong f) ex = none-carried types (item_of t x.value) (values_at 64 c d t x.next) g f (sym ex) ∙ whole
+          by (Done u size) ex = all_carried types (item_of t x.value) (values_at 64 c d t x.next) g u size (sym ex) ∙ whole
 
 pub weigh_light : (m : ℕ) (w : EntityWalked) (typed inside : Bool) {r : Weighed} → r ≡ weighed_of typed inside w → Light m w → r.length ≤ m
 unfolding weighed_of
@@ -142,32 +142,32 @@ weigh_light m w typed inside er h = by w er h
 
 module _ (list : ℕ) (types : List ℕ) (typ form : ℕ) where
   module _ {c d : ℕ} (pc : 0 < c) (pd : 0 < d) (t : List ℕ) {got : Got} (eg : got ≡ value_at 64 c d t 0) where
-    pub pass_refused : {f : Fault} {s at : ℕ} → got ≡ RefusedValue f s at → Refused f ≡ entity_pass_of list types typ form (values_at 64 c d t 0)
+    pub pass_refused : {x : Misspelt} → got ≡ Err x → Refused x.fault ≡ entity_pass_of list types typ form (values_at 64 c d t 0)
     unfolding entity_pass_of
     pass_refused e = sym (ap (entity_pass_of list types typ form) (at-wrong 64 c d t pc pd 0 (sym eg ∙ e)))
 
-    module _ {v : Value} {s next : ℕ} {last : Bool} (e : got ≡ Found v s next last) {typed inside : Bool} {g : Option LayoutState}
-        (et : typed ≡ type_read typ v) (ei : inside ≡ known list typ form) (eb : g ≡ marks_begun list typ form) where
-      its_type : typed ≡ is_type typ (item_of t v)
-      its_type = et ∙ sym (read_type typ t v)
+    module _ {x : Found} (e : got ≡ Ok x) {typed inside : Bool} {g : Option LayoutState}
+        (et : typed ≡ type_read typ x.value) (ei : inside ≡ known list typ form) (eb : g ≡ marks_begun list typ form) where
+      its_type : typed ≡ is_type typ (item_of t x.value)
+      its_type = et ∙ sym (read_type typ t x.value)
 
-      pub pass_single : {r : EntityAnswer} → last ≡ true → r ≡ pass_answer typed inside g → r ≡ entity_pass_of list types typ form (values_at 64 c d t 0)
+      pub pass_single : {r : EntityAnswer} → x.last ≡ true → r ≡ pass_answer typed inside g → r ≡ entity_pass_of list types typ form (values_at 64 c d t 0)
       unfolding run
       pass_single l er =
-          er ∙ rw (its_type, ei, eb) (pass_all list types typ form (item_of t v) [] next)
-          ∙ sym (ap (entity_pass_of list types typ form) (at_last 64 c d t pc pd 0 (sym eg ∙ e ∙ ap (Found v s next) l)))
+          er ∙ rw (its_type, ei, eb) (pass_all list types typ form (item_of t x.value) [] x.next)
+          ∙ sym (ap (entity_pass_of list types typ form) (at_last 64 c d t pc pd 0 (sym eg ∙ e ∙ ap (found_at x.value x.start x.next) l)))
 
-      module _ (l : last ≡ false) {w : EntityWalked} (ew : w ≡ walked_from types g 0 0 (values_at 64 c d t next)) where
-        rest : values_at 64 c d t 0 ≡ more (item_of t v) (values_at 64 c d t next)
-        rest = at_more 64 c d t pc pd 0 (omega arith) (sym eg ∙ e ∙ ap (Found v s next) l)
+      module _ (l : x.last ≡ false) {w : EntityWalked} (ew : w ≡ walked_from types g 0 0 (values_at 64 c d t x.next)) where
+        rest : values_at 64 c d t 0 ≡ more (item_of t x.value) (values_at 64 c d t x.next)
+        rest = at_more 64 c d t pc pd 0 (omega arith) (sym eg ∙ e ∙ ap (found_at x.value x.start x.next) l)
 
         pub pass_walked : {r : Weighed} → r ≡ weighed_of typed inside w → r.answer ≡ entity_pass_of list types typ form (values_at 64 c d t 0)
         unfolding weighed_of
         pass_walked er = ap (λ (y : Weighed). y.answer) er ∙ by w ew ∙ sym (ap (entity_pass_of list types typ form) rest)
           where
-            by : (x : EntityWalked) → x ≡ walked_from types g 0 0 (values_at 64 c d t next) → (weighed_of typed inside x).answer ≡ entity_pass_of list types typ form (more (item_of t v) (values_at 64 c d t next))
-            by (Wrong f) ex = values_wrong list types typ form (item_of t v) (values_at 64 c d t next) g f (sym ex)
+            by : (z : EntityWalked) → z ≡ walked_from types g 0 0 (values_at 64 c d t x.next) → (weighed_of typed inside z).answer ≡ entity_pass_of list types typ form (more (item_of t x.value) (values_at 64 c d t x.next))
+            by (Wrong f) ex = values_wrong list types typ form (item_of t x.value) (values_at 64 c d t x.next) g f (sym ex)
             by (Done u size) ex =
-                rw (its_type, ei) (values_done list types typ form (item_of t v) (values_at 64 c d t next) u size (ap (λ (y : Option LayoutState). walked_from types y 0 0 (values_at 64 c d t next)) (sym eb) ∙ sym ex))
+                rw (its_type, ei) (values_done list types typ form (item_of t x.value) (values_at 64 c d t x.next) u size (ap (λ (y : Option LayoutState). walked_from types y 0 0 (values_at 64 c d t x.next)) (sym eb) ∙ sym ex))
 
 pub ruleset passes = (pass_refused, pass_single, pass_walked, weigh_refused, weigh_single, weigh_walked, weigh_light, next_in)

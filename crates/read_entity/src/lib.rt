@@ -18,7 +18,7 @@ use layouts_machine::end;
 use read_entities::marks::marks_begun;
 use read_entities::{EntityAnswer, EntityWalked, Weighed};
 use read_walk::walk;
-use records::Got;
+use records::{Found, Misspelt};
 use records_read::value_at;
 use values::Value;
 
@@ -108,16 +108,18 @@ pub fn entity_pass(
 {
     let g = value_at(file, base, PARAMETER_COLUMNS, lines, c, d, 0);
     match g {
-        Got::Refused { fault, .. } => Weighed {
+        Err(Misspelt { fault, .. }) => Weighed {
             answer: EntityAnswer::Refused(fault),
             length: 0,
         },
-        Got::Found {
-            value,
-            next,
-            last,
-            ..
-        } => {
+        Ok(
+            Found {
+                value,
+                next,
+                last,
+                ..
+            },
+        ) => {
             let typed = is_type(typ, value);
             let inside = known(list, typ, form);
             let begun = marks_begun(list, typ, form);

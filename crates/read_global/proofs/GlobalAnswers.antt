@@ -19,9 +19,9 @@ use Rattle.cards.specs.Rules.{Holds}
 use Rattle.cards.specs.Shared.{file_line}
 use Rattle.values.specs.Value.{Item, default, seen}
 use Rattle.records.specs.declared.Check.{Check}
-use Rattle.records.specs.declared.Check.TheVariants.{Done, Wrong}
+use Rattle.records.specs.declared.Misspelt.{Misspelt}
 use Rattle.records.specs.declared.Opening.{Opening}
-use Rattle.records.specs.declared.Opening.TheVariants.{Opened, Wrong as WrongOpening}
+use Rattle.std.specs.Prelude.{Option, Some, None, Result, Ok, Err}
 use Rattle.records.specs.Record.{Values, values, wrong, value_at, values_at, behind, position_of, start_at}
 use Rattle.records.specs.Global.{first_field, opening_of, global_fits}
 use Rattle.records.specs.Items.{got_item, items_from}
@@ -72,28 +72,28 @@ module _ (c : Counts) (t : List ℕ) (p d from : ℕ) where
       rw e (by_parts (no_stray c t end) (eqb (first_not (field_fits vs) 0 (length vs)) (length vs)) Global (global_line c (start_at 72 p d t from (first_not (field_fits vs) 0 (length vs)))) (global_read p d (given first_field vs))
       ∙ ap (λ (k : ℕ). or_else (pass_of (no_stray c t end)) (pass_of (demand (eqb k (length vs)) Global (global_line c (start_at 72 p d t from k))))) (fields_same vs end e))
 
-  pub pass_done : (k : Check) (n m end : ℕ) (r : FilePass) → k ≡ checked (values_at 72 p d t from) → k ≡ Done n m end
-      → r ≡ or_else (pass_of (no_stray c t end)) (pass_of (fields_fit c p d t from n)) → r ≡ pass_of (values_outcome c t p d from)
-  pass_done k n m end r ek e er = by (values_at 72 p d t from) refl (sym ek ∙ e)
+  pub pass_done : (k : Result Check Misspelt) (x : Check) (r : FilePass) → k ≡ checked (values_at 72 p d t from) → k ≡ Ok x
+      → r ≡ or_else (pass_of (no_stray c t x.end)) (pass_of (fields_fit c p d t from x.count)) → r ≡ pass_of (values_outcome c t p d from)
+  pass_done k x r ek e er = by (values_at 72 p d t from) refl (sym ek ∙ e)
     where
-      by : (vs : Values) → values_at 72 p d t from ≡ vs → checked vs ≡ Done n m end → r ≡ pass_of (values_outcome c t p d from)
+      by : (vs : Values) → values_at 72 p d t from ≡ vs → checked vs ≡ Ok x → r ≡ pass_of (values_outcome c t p d from)
       by (values vs to) ev h =
-          let en : length vs ≡ n = cc in
-          let ee : to ≡ end = cc in
+          let en : length vs ≡ x.count = cc in
+          let ee : to ≡ x.end = cc in
           er ∙ sym (values_pass vs to ev ∙ rw (en, ee))
       by (wrong f s at) ev h = let z : ◌≡◌ {A = ℕ} 0 1 = cc in absurd (omega arith)
 
-  pub pass-wrong : (k : Check) (n : Fault) (s at : ℕ) (l : FileLine) → k ≡ checked (values_at 72 p d t from) → k ≡ Wrong n s at
-      → l ≡ file_line (spelling_line c t s at) → Refused n l ≡ pass_of (values_outcome c t p d from)
+  pub pass-wrong : (k : Result Check Misspelt) (x : Misspelt) (l : FileLine) → k ≡ checked (values_at 72 p d t from) → k ≡ Err x
+      → l ≡ file_line (spelling_line c t x.start x.at) → Refused x.fault l ≡ pass_of (values_outcome c t p d from)
   unfolding values_outcome
-  pass-wrong k n s at l ek e el = by (values_at 72 p d t from) refl (sym ek ∙ e)
+  pass-wrong k x l ek e el = by (values_at 72 p d t from) refl (sym ek ∙ e)
     where
-      by : (vs : Values) → values_at 72 p d t from ≡ vs → checked vs ≡ Wrong n s at → Refused n l ≡ pass_of (by_values c t p d from (values_at 72 p d t from))
+      by : (vs : Values) → values_at 72 p d t from ≡ vs → checked vs ≡ Err x → Refused x.fault l ≡ pass_of (by_values c t p d from (values_at 72 p d t from))
       by (values vs to) ev h = let z : ◌≡◌ {A = ℕ} 0 1 = cc in absurd (omega arith)
       by (wrong f s₁ at₁) ev h =
-          let en : f ≡ n = cc in
-          let es : s₁ ≡ s = cc in
-          let ea : at₁ ≡ at = cc in
+          let en : f ≡ x.fault = cc in
+          let es : s₁ ≡ x.start = cc in
+          let ea : at₁ ≡ x.at = cc in
           rw (el, ev, en, es, ea)
 
   answer-parts : (o : Outcome (Unit {0})) (b : Bool) (n : Fault) (q : ℕ) (gs : List (ℕ × Item))
@@ -138,55 +138,55 @@ module _ (f : List ℕ) (c : Counts) (s g : ℕ) (es : s ≡ c.s) (eg : g ≡ c.
   same_text : text_of f (81 * s) 72 g ≡ global_text f c
   same_text = rw (es, eg)
 
-  module _ (p d from : ℕ) (k : Check) (ek : k ≡ checked (values_at 72 p d (text_of f (81 * s) 72 g) from)) where
+  module _ (p d from : ℕ) (k : Result Check Misspelt) (ek : k ≡ checked (values_at 72 p d (text_of f (81 * s) 72 g) from)) where
     ek_is : k ≡ checked (values_at 72 p d (global_text f c) from)
     ek_is = ek ∙ ap (λ (t : List ℕ). checked (values_at 72 p d t from)) same_text
 
-    pub record_done : (n m end : ℕ) (r : FilePass) → k ≡ Done n m end
-        → r ≡ or_else (pass_of (no_stray c (global_text f c) end)) (pass_of (fields_fit c p d (global_text f c) from n)) → r ≡ pass_of (values_outcome c (global_text f c) p d from)
-    record_done n m end r e er = pass_done c (global_text f c) p d from k n m end r ek_is e er
+    pub record_done : (x : Check) (r : FilePass) → k ≡ Ok x
+        → r ≡ or_else (pass_of (no_stray c (global_text f c) x.end)) (pass_of (fields_fit c p d (global_text f c) from x.count)) → r ≡ pass_of (values_outcome c (global_text f c) p d from)
+    record_done x r e er = pass_done c (global_text f c) p d from k x r ek_is e er
 
-    pub record_wrong : (n : Fault) (a at : ℕ) (l : FileLine) → k ≡ Wrong n a at → l ≡ file_line (spelling_line c (global_text f c) a at) → Refused n l ≡ pass_of (values_outcome c (global_text f c) p d from)
-    record_wrong n a at l e el = pass-wrong c (global_text f c) p d from k n a at l ek_is e el
+    pub record_wrong : (x : Misspelt) (l : FileLine) → k ≡ Err x → l ≡ file_line (spelling_line c (global_text f c) x.start x.at) → Refused x.fault l ≡ pass_of (values_outcome c (global_text f c) p d from)
+    record_wrong x l e el = pass-wrong c (global_text f c) p d from k x l ek_is e el
 
-  module _ (o : Opening) (eo : o ≡ opening_of (text_of f (81 * s) 72 g)) where
-    eo_is : opening_of (global_text f c) ≡ o
+  module _ (v : Option Opening) (eo : v ≡ opening_of (text_of f (81 * s) 72 g)) where
+    eo_is : opening_of (global_text f c) ≡ v
     eo_is = sym (eo ∙ ap opening_of same_text)
 
-    pub opening-wrong : o ≡ WrongOpening → GlobalRefused Spelling (file_line (s + 1)) ≡ global_answer (global_in f c)
+    pub opening-wrong : v ≡ None → GlobalRefused Spelling (file_line (s + 1)) ≡ global_answer (global_in f c)
     unfolding global_in
     opening-wrong e = rw (eo_is, e, es)
 
-    module _ (p d next : ℕ) (last : Bool) (e : o ≡ Opened p d next last) (x : FilePass) (r : GlobalAnswer) (er : r ≡ answer_of x p d) where
-      pub opening_last : last ≡ true → x ≡ pass_of (no_stray c (global_text f c) next) → r ≡ global_answer (global_in f c)
+    module _ (o : Opening) (e : v ≡ Some o) (x : FilePass) (r : GlobalAnswer) (er : r ≡ answer_of x o.parameter o.closing) where
+      pub opening_last : o.last ≡ true → x ≡ pass_of (no_stray c (global_text f c) o.next) → r ≡ global_answer (global_in f c)
       unfolding global_in
-      opening_last l ex = rw (eo_is, e, l) (er ∙ ap (λ (y : FilePass). answer_of y p d) ex ∙ answer_alone c (global_text f c) p d next (no_stray c (global_text f c) next))
+      opening_last l ex = rw (eo_is, e, l) (er ∙ ap (λ (y : FilePass). answer_of y o.parameter o.closing) ex ∙ answer_alone c (global_text f c) o.parameter o.closing o.next (no_stray c (global_text f c) o.next))
 
-      pub opening-more : last ≡ false → x ≡ pass_of (values_outcome c (global_text f c) p d next) → r ≡ global_answer (global_in f c)
+      pub opening-more : o.last ≡ false → x ≡ pass_of (values_outcome c (global_text f c) o.parameter o.closing o.next) → r ≡ global_answer (global_in f c)
       unfolding global_in values_outcome
-      opening-more l ex = rw (eo_is, e, l) (er ∙ ap (λ (y : FilePass). answer_of y p d) ex ∙ answer_values c (global_text f c) p d next)
+      opening-more l ex = rw (eo_is, e, l) (er ∙ ap (λ (y : FilePass). answer_of y o.parameter o.closing) ex ∙ answer_values c (global_text f c) o.parameter o.closing o.next)
 
 -- ---- bounds
 
-module _ (o : Opening) (p d next : ℕ) (last : Bool) (e : o ≡ Opened p d next last) (h : Delimits 8 o) where
-  pub parameter_some : 0 < p
+module _ (v : Option Opening) (o : Opening) (e : v ≡ Some o) (h : Delimits 8 v) where
+  pub parameter_some : 0 < o.parameter
   parameter_some = omega (arith, parameter_above 8 e h)
 
-  pub closing_some : 0 < d
+  pub closing_some : 0 < o.closing
   closing_some = omega (arith, record_above 8 e h)
 
-  pub behind-opening : (f : List ℕ) (c : Counts) → Holds f c → next ≤ c.g * 72
+  pub behind-opening : (f : List ℕ) (c : Counts) → Holds f c → o.next ≤ c.g * 72
   behind-opening f c ho = omega (arith, opening_in 8 e h, ho.has_g)
 
-module _ (f : List ℕ) (c : Counts) (ho : Holds f c) (g p : ℕ) (eg : g ≡ c.g) (k : Check) (h : SaneCheck p (g * 72) k) where
-  pub wrong_small : (n : Fault) (s at : ℕ) → k ≡ Wrong n s at → s ≤ 16000000
-  wrong_small n s at e = omega (arith, failed_start p (g * 72) e h, text_small f c ho)
+module _ (f : List ℕ) (c : Counts) (ho : Holds f c) (g p : ℕ) (eg : g ≡ c.g) (k : Result Check Misspelt) (h : SaneCheck p (g * 72) k) where
+  pub wrong_small : (x : Misspelt) → k ≡ Err x → x.start ≤ 16000000
+  wrong_small x e = omega (arith, failed_start p (g * 72) e h, text_small f c ho)
 
-  module _ (n m end : ℕ) (e : k ≡ Done n m end) where
-    pub done_small : n ≤ 16000000
+  module _ (x : Check) (e : k ≡ Ok x) where
+    pub done_small : x.count ≤ 16000000
     done_small = omega (arith, done_count p (g * 72) e h, done_end p (g * 72) e h, text_small f c ho)
 
-    pub done_within : end ≤ c.g * 72
+    pub done_within : x.end ≤ c.g * 72
     done_within = omega (arith, done_end p (g * 72) e h)
 
 pub ruleset answering = (text_stands, else_here, else_next, answers_good, answers_refused, record_done, record_wrong, opening-wrong, opening_last, opening-more, parameter_some, closing_some, behind-opening, wrong_small, done_small, done_within)

@@ -14,7 +14,7 @@ use cards::Counts;
 use columns::format::{LINE_BYTES, TEXT_COLUMNS};
 use columns::{Fault, FileLine, wide};
 use read_passes::{FilePass, GlobalAnswer};
-use records::{Check, Got, Opening};
+use records::{Check, Got, Misspelt, Opening};
 use values::Value;
 
 const FIRST_FIELD: u32 = 3;
@@ -63,8 +63,8 @@ fn value_of(g: Got) -> Value
     ensures { result ≡ got_value g }
 {
     match g {
-        Got::Found { value, .. } => value,
-        Got::Refused { .. } => Value::Default,
+        Ok(found) => found.value,
+        Err(_) => Value::Default,
     }
 }
 
@@ -72,8 +72,8 @@ fn start_of(g: Got) -> usize
     ensures { result ≡ start_of g }
 {
     match g {
-        Got::Found { start, .. } => start,
-        Got::Refused { start, .. } => start,
+        Ok(found) => found.start,
+        Err(missed) => missed.start,
     }
 }
 
@@ -81,8 +81,8 @@ fn behind_of(g: Got) -> usize
     ensures { result ≡ behind g }
 {
     match g {
-        Got::Found { next, .. } => next,
-        Got::Refused { at, .. } => at,
+        Ok(found) => found.next,
+        Err(missed) => missed.at,
     }
 }
 
@@ -155,11 +155,11 @@ fn values_pass(file: &[u8], c: Counts, parameter: u8, closing: u8, from: usize) 
     let base = LINE_BYTES * wide(c.s);
     let check = records_read::check_from(file, base, TEXT_COLUMNS, lines, parameter, closing, from);
     match check {
-        Check::Wrong { fault, start, at } => {
+        Err(Misspelt { fault, start, at }) => {
             let line = spelling_line(file, c, start, at);
             FilePass::Refused { fault, line }
         }
-        Check::Done { count, end, .. } => done_pass(file, c, parameter, closing, from, count, end),
+        Ok(Check { count, end, .. }) => done_pass(file, c, parameter, closing, from, count, end),
     }
 }
 
@@ -179,12 +179,14 @@ pub fn globals(file: &[u8], c: Counts) -> GlobalAnswer
 {
     let first = wide(c.s);
     let opening = records_global::opening_of(file, LINE_BYTES * first, wide(c.g));
-    let Opening::Opened {
-        parameter,
-        record: closing,
-        next,
-        last,
-    } = opening
+    let Some(
+        Opening {
+            parameter,
+            closing,
+            next,
+            last,
+        },
+    ) = opening
     else {
         return GlobalAnswer::Refused {
             fault: Fault::Spelling,

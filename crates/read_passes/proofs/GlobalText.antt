@@ -17,11 +17,8 @@ use Rattle.cards.specs.declared.Counts.{Counts}
 use Rattle.cards.specs.Rules.{Holds}
 use Rattle.cards.specs.Shared.{file_line}
 use Rattle.values.specs.declared.Value.{Value}
-use Rattle.values.specs.declared.Value.TheVariants.{Default}
 use Rattle.values.specs.Value.{seen}
 use Rattle.std.specs.Prelude.{Ok, Err}
-use Rattle.records.specs.declared.Found.{Found}
-use Rattle.records.specs.declared.Misspelt.{Misspelt}
 use Rattle.records.specs.Record.{Got, blanks, value_at, start_of, behind, position_of, start_at}
 use Rattle.records.specs.Global.{global_fits}
 use Rattle.records.specs.Items.{got_item}
@@ -34,29 +31,6 @@ use Rattle.read_passes.specs.Passes.{pass_of}
 use Rattle.read_passes.specs.Walks.{got_value, value_fits, fields_fit}
 
 -- ---- what was read
-
-module _ (g : Got) where
-  module _ (x : Found) (e : g ≡ Ok x) where
-    pub value_found : x.value ≡ got_value g
-    value_found = rw e
-
-    pub start-found : x.start ≡ start_of g
-    start-found = rw e
-
-    pub behind-found : x.next ≡ behind g
-    behind-found = rw e
-
-  module _ (x : Misspelt) (e : g ≡ Err x) where
-    pub value_refused : Default ≡ got_value g
-    value_refused = rw e
-
-    pub start_refused : x.start ≡ start_of g
-    start_refused = rw e
-
-    pub behind_refused : x.at ≡ behind g
-    behind_refused = rw e
-
-pub ruleset gots = (value_found, start-found, behind-found, value_refused, start_refused, behind_refused)
 
 -- it stands in its text
 pub start_in : (p m : ℕ) (g : Got) → Sane p m g → start_of g ≤ m

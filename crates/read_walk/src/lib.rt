@@ -17,7 +17,7 @@ use layouts::LayoutState;
 use layouts_machine::{runs_on, with_left};
 use read_entities::EntityWalked;
 use read_entities::marks::mark_step;
-use records::Got;
+use records::{Found, Misspelt};
 use records_read::value_at;
 use values::{Value, is_missing};
 use values_spell::{head_len, real_len, whole_len};
@@ -118,15 +118,17 @@ pub fn walk(
     loop {
         let g = value_at(file, base, PARAMETER_COLUMNS, lines, c, d, q);
         match g {
-            Got::Refused { fault, .. } => {
+            Err(Misspelt { fault, .. }) => {
                 return EntityWalked::Wrong(fault);
             }
-            Got::Found {
-                value,
-                next,
-                last,
-                ..
-            } => {
+            Ok(
+                Found {
+                    value,
+                    next,
+                    last,
+                    ..
+                },
+            ) => {
                 state = state_after(file, first, n, state, owed, value);
                 length = length_after(length, owed, value);
                 owed = owed_after(owed, value);

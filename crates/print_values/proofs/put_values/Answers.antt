@@ -23,16 +23,16 @@ value_at-got-requires c = search rules
 pub enum_told-1 : goal.enum_told-1
 enum_told-1 c = search rules
 
-pub shape_of-out-in-Refused : goal.shape_of-out-in-Refused
-shape_of-out-in-Refused c = search (rules, wrote_length)
+pub shape_of-out-in-Err : goal.shape_of-out-in-Err
+shape_of-out-in-Err c = search (rules, wrote_length)
 
-pub returns-in-Refused : goal.returns-in-Refused
-returns-in-Refused c =
+pub returns-in-Err : goal.returns-in-Err
+returns-in-Err c =
     let inv = c.loop-last.invariant in
     let pre = c.requires.values_stand in
     record {
       wrote = values_refused _ _ _ pre.stands _ _ pre.parameter pre.closing _ _ _ _ inv.3 (search rules) inv.0 c.value_at-got.ensures.value
-          c.in-Refused.is;
+          c.in-Err.is;
       upper_bound = omega (arith, inv.0, inv.1);
     }
 
@@ -47,19 +47,19 @@ overflow_add-owed c = search (rules, values_owed)
 
 pub loop-last-smaller-then-is_missing : goal.loop-last-smaller-then-is_missing
 loop-last-smaller-then-is_missing c =
-    let sane = found_sane _ _ c.value_at-got.ensures.sane c.in-Found.is in
+    let sane = found_sane _ _ c.value_at-got.ensures.sane c.in-Ok.is in
     omega (arith, sane.0, sane.1)
 
 pub loop-last-preserved-then-is_missing : goal.loop-last-preserved-then-is_missing
 loop-last-preserved-then-is_missing c =
     let inv = c.loop-last.invariant in
     let pre = c.requires.values_stand in
-    let sane = found_sane _ _ c.value_at-got.ensures.sane c.in-Found.is in (
+    let sane = found_sane _ _ c.value_at-got.ensures.sane c.in-Ok.is in (
       sane.1,
       omega (arith, inv.1, sane.0),
       inv.2,
       found_default _ _ _ pre.stands _ _ pre.parameter pre.closing _ _ _ _ inv.3 (search rules) inv.0 c.value_at-got.ensures.value
-          c.in-Found.is c.is_missing.ensures c.if-is_missing.true,
+          c.in-Ok.is c.is_missing.ensures c.if-is_missing.true,
     )
 
 pub enum_known-g : goal.enum_known-g
@@ -75,7 +75,7 @@ pub put_mostly_real-next-requires : goal.put_mostly_real-next-requires
 put_mostly_real-next-requires c =
     let inv = c.loop-last.invariant in
     let pre = c.requires.values_stand in
-    let sane = found_sane _ _ c.value_at-got.ensures.sane c.in-Found.is in
+    let sane = found_sane _ _ c.value_at-got.ensures.sane c.in-Ok.is in
     record {
       stands = pre.stands;
       writable = sane.2;
@@ -90,31 +90,28 @@ with_left-requires c = search rules
 
 pub loop-last-smaller-then-runs_on : goal.loop-last-smaller-then-runs_on
 loop-last-smaller-then-runs_on c =
-    let sane = found_sane _ _ c.value_at-got.ensures.sane c.in-Found.is in
+    let sane = found_sane _ _ c.value_at-got.ensures.sane c.in-Ok.is in
     omega (arith, sane.0, sane.1)
 
 pub loop-last-preserved-then-runs_on : goal.loop-last-preserved-then-runs_on
 loop-last-preserved-then-runs_on c =
     let inv = c.loop-last.invariant in
     let pre = c.requires.values_stand in
-    let sane = found_sane _ _ c.value_at-got.ensures.sane c.in-Found.is in
+    let sane = found_sane _ _ c.value_at-got.ensures.sane c.in-Ok.is in
     let put = given_runs _ _ _ _ _ _ _ c.if-owed-eq0.true c.in-Some.is c.runs_on.ensures c.if-runs_on.true c.with_left.ensures
     c.is_reference-reference.ensures c.put_mostly_real-next.ensures.wrote c.put_mostly_real-next.ensures.upper_bound in (
       sane.1,
       omega (arith, inv.1, sane.0, c.put_mostly_real-next.ensures.upper_bound),
       search (rules, wrote_length),
       rw c.if-owed-eq0.true (found-given _ _ _ pre.stands _ _ pre.parameter pre.closing _ _ _ _ inv.3 (search rules) inv.0
-          c.value_at-got.ensures.value c.in-Found.is c.is_missing.ensures c.if-is_missing.false put.marks put.laid),
+          c.value_at-got.ensures.value c.in-Ok.is c.is_missing.ensures c.if-is_missing.false put.marks put.laid),
     )
-
-pub enum_told-in-None : goal.enum_told-in-None
-enum_told-in-None c = search rules
 
 pub put_owed-z-requires : goal.put_owed-z-requires
 put_owed-z-requires c =
     let inv = c.loop-last.invariant in
     let pre = c.requires.values_stand in
-    let sane = found_sane _ _ c.value_at-got.ensures.sane c.in-Found.is in
+    let sane = found_sane _ _ c.value_at-got.ensures.sane c.in-Ok.is in
     record {
       stands = pre.stands;
       writable = sane.2;
@@ -124,14 +121,14 @@ put_owed-z-requires c =
 
 pub loop-last-smaller : goal.loop-last-smaller
 loop-last-smaller c =
-    let sane = found_sane _ _ c.value_at-got.ensures.sane c.in-Found.is in
+    let sane = found_sane _ _ c.value_at-got.ensures.sane c.in-Ok.is in
     omega (arith, sane.0, sane.1)
 
 pub loop-last-preserved : goal.loop-last-preserved
 loop-last-preserved c =
     let inv = c.loop-last.invariant in
     let pre = c.requires.values_stand in
-    let sane = found_sane _ _ c.value_at-got.ensures.sane c.in-Found.is in
+    let sane = found_sane _ _ c.value_at-got.ensures.sane c.in-Ok.is in
     let same : c.if-owed-eq0.g ≡ c.loop-last.g = elim c.if-owed-eq0.branch [
       | then-owed-eq0+in-Some+else-runs_on w ↦ w.g-is ∙ sym w.in-Some.is
       | then-owed-eq0+in-None w ↦ w.g-is
@@ -142,7 +139,7 @@ loop-last-preserved c =
       omega (arith, inv.1, sane.0, c.put_owed-z.ensures.near),
       search (rules, wrote_length),
       found-given _ _ _ pre.stands _ _ pre.parameter pre.closing _ _ _ _ inv.3 (search rules) inv.0 c.value_at-got.ensures.value
-          c.in-Found.is c.is_missing.ensures c.if-is_missing.false put.marks put.laid,
+          c.in-Ok.is c.is_missing.ensures c.if-is_missing.false put.marks put.laid,
     )
 
 pub shape_of-out : goal.shape_of-out

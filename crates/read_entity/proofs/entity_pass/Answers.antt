@@ -9,9 +9,6 @@ value_at-g-requires c = search (rules, passes)
 pub enum_known-g : goal.enum_known-g
 enum_known-g c = search (rules, passes)
 
-pub enum_known-g-in-Found-1 : goal.enum_known-g-in-Found-1
-enum_known-g-in-Found-1 c = search (rules, passes)
-
 pub is_type-typed-requires : goal.is_type-typed-requires
 is_type-typed-requires c = search (rules, passes)
 
@@ -37,8 +34,8 @@ walk-walked-requires c = search (rules, passes)
 pub weighed_by-requires : goal.weighed_by-requires
 weighed_by-requires c = search (rules, passes)
 
-pub returns-in-Refused : goal.returns-in-Refused
-returns-in-Refused c = record {
+pub returns-in-Err : goal.returns-in-Err
+returns-in-Err c = record {
   answer_value = search (rules, passes);
   length_value = search (rules, passes);
   length_bound = search (rules, passes);
