@@ -12,7 +12,7 @@ use Rattle.columns.specs.Columns.{columns}
 use Rattle.columns.specs.Refusal.{Outcome, accepted, refused, demand, ◌then◌}
 use Rattle.columns.proofs.Tests.{and_assoc}
 use Rattle.values.specs.declared.Value.{Value}
-use Rattle.std.specs.Prelude.{Option, None, Option, Some, None}
+use Rattle.std.specs.Prelude.{Option, Some, None}
 use Rattle.values.specs.Value.{Item, item_of}
 use Rattle.values.specs.Strict.{strict_of}
 use Rattle.directory.specs.declared.Fields.{Fields}
