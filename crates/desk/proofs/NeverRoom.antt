@@ -6,6 +6,7 @@ use Prim.Native.Nat.{ℕ, zero, suc, ◌+◌, ◌-◌, ◌/◌, ◌%◌}
 use native.Mathlib.Omega.{arith}
 use lib.Dec.{leb, eqb}
 use lib.ListN.{length, get_or, drop, take}
+use Rattle.std.proofs.Common.{Err, Ok}
 use Rattle.columns.specs.declared.Fault.{Fault}
 use Rattle.columns.specs.declared.Fault.TheVariants.{Byte, Sequence, Terminate, ListOrLength, Spelling, Global, Directory, Macro, Reference, FirstValue, Mark, TooLong}
 use Rattle.columns.specs.Refusal.{Outcome, accepted, refused, number, demand, each_at, ◌then◌}
@@ -19,7 +20,7 @@ use Rattle.values.specs.Head.{head_of}
 use Rattle.values.specs.Value.{Item, default, item_of, seen}
 use Rattle.records.specs.declared.Next.{Next}
 use Rattle.records.specs.declared.Next.TheVariants.{Delimiter, Other}
-use Rattle.std.specs.Prelude.{Option, Some, None, Ok, Err}
+use Rattle.std.specs.Prelude.{Option, Some, None}
 use Rattle.records.specs.declared.Opening.{Opening}
 use Rattle.records.specs.Global.{opens, opening_of, global_fits}
 use Rattle.records.specs.Record.{Got, found_at, refused_at, Values, values, wrong, blanks, trimmed, start_at, found, beyond, plain, headed, by_next, more, after, next_at, value_at, values_from, values_at}
@@ -48,10 +49,8 @@ use Rattle.layouts.specs.declared.LayoutVerdict.{LayoutVerdict}
 use Rattle.layouts.specs.declared.LayoutVerdict.TheVariants.{Good, Layout, LayoutReference}
 use Rattle.layouts.specs.Known.{known}
 use Rattle.layouts.specs.Entities.{Entity, fault, verdict, entity_check}
-use Rattle.sheets.specs.declared.SheetVerdict.{SheetVerdict}
-use Rattle.sheets.specs.declared.SheetVerdict.TheVariants.{Good as GoodSheet, Wrong as WrongSheet}
 use Rattle.sheets.specs.Sheet.{Sheet, lines_in, sheet_of}
-use Rattle.sheets.specs.Order.{read_sheet, verdict_of, outcome as sheet_outcome}
+use Rattle.sheets.specs.Order.{read_sheet, verdict_of, outcome as sheet_outcome, SheetVerdict}
 use Rattle.model.specs.Read.{Listed, GlobalRead, two, global_text, global_line, field_fits, is_type, parameters_of, references_of, no_stray, by_values, by_opening, global_in, by_entry, entry_in, entries_in, references_in, by_parameters, entity_in, last_pass, before, read_model, reads}
 use Rattle.model.specs.Model.{type_of, entity_of}
 use Rattle.model.specs.Canonical.{line_total}
@@ -281,8 +280,8 @@ unfolding read_sheet
 sheet-not t = pick (verdict_of t)
   where
     pick : (v : SheetVerdict) → NotRoom (sheet_outcome (sheet_of (lines_in t)) v)
-    pick (GoodSheet n) = tt
-    pick (WrongSheet n) = λ e. omega arith
+    pick (Ok n) = tt
+    pick (Err n) = λ e. omega arith
 
 sheet_rules_not : (list : ℕ) (s : Sheet) → NotRoom (sheet_rules list s)
 unfolding sheet_rules

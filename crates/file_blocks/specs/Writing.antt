@@ -1,6 +1,6 @@
 -- The code's form: values with their delimiters before the record ends, the ends of lines, and what the line at a place says.
 use Rattle.std.specs.Prelude.{◌≡◌, false, List, [], ◌∷◌, ◌++◌, ℕ, zero, suc, ◌+◌, ◌-◌, ◌≤◌, ◌<◌}
-use Rattle.std.specs.Prelude.{length, take, drop}
+use Rattle.std.specs.Prelude.{length, take, drop, Option, Some, None}
 use Rattle.columns.specs.Decimal.{dec, padded}
 use Rattle.columns.specs.Laid.{laid}
 use Rattle.columns.specs.Format.{line_bytes, number_columns}
@@ -12,7 +12,6 @@ use Rattle.records.specs.Global.{last_field}
 use Rattle.records.specs.Reading.{Writable}
 use Rattle.sheets_rows.specs.Rows.{lines_at}
 use Rattle.file_blocks.specs.declared.GlobalLine.{GlobalLine}
-use Rattle.file_blocks.specs.declared.GlobalLine.TheVariants.{Field, Otherwise}
 use Rattle.file_blocks.specs.Blocks.{fields_at, behind_globals, tail_of}
 
 -- ---- a record before it ends
@@ -51,6 +50,6 @@ pub record FieldsEnd (t : List ℕ) (at : ℕ) : Type 0 where
   pub behind : behind_globals (lines_at t at) ≡ lines_at t at
 
 -- there is a G line, or they end
-abbrev pub FieldAt : List ℕ → ℕ → GlobalLine → Type 0
-FieldAt t at (Field number from end v) = FieldStands t at number from end v
-FieldAt t at Otherwise = FieldsEnd t at
+abbrev pub FieldAt : List ℕ → ℕ → Option GlobalLine → Type 0
+FieldAt t at (Some g) = FieldStands t at g.number g.from g.end g.value
+FieldAt t at None = FieldsEnd t at

@@ -33,14 +33,11 @@ pub struct Flowed {
     pub end: usize,
 }
 
-// A G line with its number: what follows its second tab goes from `from` up to `end`. Or the G lines end.
+// A G line with its number: what follows its second tab goes from `from` up to `end`.
 #[derive(Clone, Copy)]
-pub enum GlobalLine {
-    Field {
-        number: u32,
-        from: usize,
-        end: usize,
-        value: Value,
-    },
-    Otherwise,
+pub struct GlobalLine {
+    pub number: u32,
+    pub from: usize,
+    pub end: usize,
+    pub value: Value,
 }

@@ -6,23 +6,23 @@ use Prim.Native.Nat.{ℕ, ◌+◌, ◌≤◌, ◌<◌}
 use native.Mathlib.Omega.{arith}
 use lib.Dec.{leb}
 use borrow.Author.Tests.{le-leb, lt-leb, leb-false}
+use Rattle.std.proofs.Common.{None, Some}
 use Rattle.columns.specs.Format.{parameter_columns, most_lines}
 use Rattle.values.specs.Value.{Item}
 use Rattle.records.specs.Flow.{line_count}
 use Rattle.records.proofs.Lines.{lines_hold}
 use Rattle.sheets.specs.Sheet.{Line, start, global, entry, value, last, none}
 use Rattle.file_canonical.specs.declared.Tally.{Tally}
-use Rattle.file_canonical.specs.declared.Lines.TheVariants.{Are, TooMany}
 use Rattle.file_canonical.specs.Counting.{behind, skipped, with_value, tally_line, counts_in, total_in, tallied, within, most_columns, behind_value, full, capped}
 
 -- ---- what a tally tells
 
 module _ (x : Tally) {m : ℕ} (e : total_in x ≡ m) where
-  pub within_few : m ≤ most_lines → within x ≡ Are (counts_in x)
+  pub within_few : m ≤ most_lines → within x ≡ Some (counts_in x)
   unfolding within
   within_few h = simp (le-leb (total_in x) most_lines (omega arith))
 
-  pub within-many : most_lines < m → within x ≡ TooMany
+  pub within-many : most_lines < m → within x ≡ None
   unfolding within
   within-many h = simp (lt-leb (total_in x) most_lines (omega arith))
 
@@ -52,7 +52,7 @@ lines_grow x [] = omega arith
 lines_grow x (l ∷ ls) = omega (arith, line_grows x l, lines_grow (tally_line x l) ls)
 
 -- too many stay too many
-many_more : (x : Tally) (ls : List Line) → most_lines < total_in x → within (tallied x ls) ≡ TooMany
+many_more : (x : Tally) (ls : List Line) → most_lines < total_in x → within (tallied x ls) ≡ None
 many_more x ls h = within-many (tallied x ls) refl (omega (arith, lines_grow x ls))
 
 -- ---- a line too many stands for them

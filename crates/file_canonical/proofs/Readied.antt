@@ -7,6 +7,7 @@ use native.Mathlib.Omega.{arith}
 use lib.ListN.{length, length-append, length-map}
 use lib.Dec.{leb}
 use borrow.Author.Tests.{leb-true, leb-false}
+use Rattle.std.proofs.Common.{Ok, None, Some}
 use Rattle.columns.specs.Columns.{joined}
 use Rattle.columns.specs.Decimal.{to_left}
 use Rattle.columns.specs.Laid.{Wrote}
@@ -17,7 +18,6 @@ use Rattle.records.specs.Flow.{line_count}
 use Rattle.cards.specs.declared.Counts.{Counts}
 use Rattle.cards.specs.Cards.{total}
 use Rattle.cards.specs.Written.{line_of, section, totals_of, file_lines, file_of, one}
-use Rattle.sheets.specs.declared.SheetVerdict.TheVariants.{Good}
 use Rattle.sheets.specs.Sheet.{Line, Sheet, row_lines, lines_of, lines_in, sheet_of}
 use Rattle.sheets.specs.Order.{verdict_of}
 use Rattle.sheets.specs.WellFormed.{Each}
@@ -25,7 +25,6 @@ use Rattle.sheets.proofs.Sheets.{good_written}
 use Rattle.model.specs.Model.{Carried, Model, carried_of, model_of}
 use Rattle.model.specs.Canonical.{start_lines as start_texts, global_text, global_lines as global_texts, directory_lines, parameter_lines, line_total, canonical}
 use Rattle.file_blocks.specs.Blocks.{behind_globals, global_bytes}
-use Rattle.file_canonical.specs.declared.Lines.TheVariants.{Are, TooMany}
 use Rattle.file_canonical.specs.Counting.{lines_of_sheet}
 use Rattle.file_canonical.specs.Laying.{starts_first, behind_starts, start_bytes, entries_in, directory_bytes, parameter_bytes, fields_in, file_bytes, Ranged, Ready}
 use Rattle.file_canonical.proofs.Totals.{counts_for, directory_two, global_count, start-count}
@@ -37,10 +36,10 @@ use Rattle.file_canonical.proofs.Wides.{directory_wide, starts_wide, last_length
 
 -- ---- a good sheet
 
-same_counts : {a b : Counts} → Are a ≡ Are b → a ≡ b
+same_counts : {a b : Counts} → Some a ≡ Some b → a ≡ b
 same_counts e = cc
 
-never_many : {a : Counts} → TooMany ≡ Are a → ⊥
+never_many : {a : Counts} → None ≡ Some a → ⊥
 never_many e = let z : ◌≡◌ {A = ℕ} 0 1 = cc in omega arith
 
 five : (a b c d e : List (List ℕ)) → joined (a ++ (b ++ (c ++ (d ++ e)))) ≡ joined a ++ (joined b ++ (joined c ++ (joined d ++ joined e)))
@@ -57,7 +56,7 @@ whole_file m =
     let x = line_of (totals_of (counts_for m)) 84 1 in
     sym (five (section 83 1 S) (section 71 1 G) (section 68 1 D) (section 80 1 P) (x ∷ []) ∙ rw (last_joined x))
 
-module _ (t : List ℕ) (n : ℕ) (c : Counts) (good : verdict_of t ≡ Good n) (counted : lines_of_sheet (lines_in t) ≡ Are c) where
+module _ (t : List ℕ) (n : ℕ) (c : Counts) (good : verdict_of t ≡ Ok n) (counted : lines_of_sheet (lines_in t) ≡ Some c) where
   abbrev sheet : Sheet
   sheet = sheet_of (lines_in t)
 

@@ -5,6 +5,7 @@ use mathlib.Core.List.{List, [], ◌∷◌}
 use Prim.Native.Nat.{ℕ, ◌+◌, ◌*◌, ◌^◌, ◌≤◌, ◌<◌}
 use native.Mathlib.Omega.{arith}
 use lib.ListN.{length, drop}
+use Rattle.std.proofs.Common.{Option, Some, None}
 use Rattle.columns.specs.declared.Signed.{Signed}
 use Rattle.columns.specs.Columns.{columns, joined}
 use Rattle.columns.specs.Laid.{laid, length-laid, Wrote}
@@ -16,7 +17,6 @@ use Rattle.cards.specs.Written.{section}
 use Rattle.directory.specs.declared.Fields.{Fields}
 use Rattle.directory.specs.Lines.{entry_lines}
 use Rattle.sheets.specs.declared.EntryLine.{EntryLine}
-use Rattle.sheets.specs.declared.EntryLine.TheVariants.{Got, Wrong}
 use Rattle.sheets.specs.Line.{run, entry_of}
 use Rattle.sheets.specs.Sheet.{lines_in}
 use Rattle.model.specs.Model.{Carried}
@@ -147,18 +147,18 @@ module _ {number : ℕ} (t : List ℕ) (x : EntryPlace) (k end typ : ℕ) (f : E
 
 pub ruleset entering = (entry-laid, count_few, block_fits, number-next, wrote_length, length-laid)
 
-module _ (t : List ℕ) (x : EntryPlace) (k e : ℕ) (u : Turn t x k) (some : 0 < length (entries_at t x.at)) (en : e ≡ x.at + run 10 (drop x.at t)) (lo : x.at ≤ e) (hi : e ≤ length t) {y : EntryLine} (p : y ≡ entry_of (columns t x.at e)) where
-  module _ {known : Bool} {n : Signed} {f : Fields} (g : y ≡ Got known n f) where
-    read : EntryStands t x.at k e f
+module _ (t : List ℕ) (x : EntryPlace) (k e : ℕ) (u : Turn t x k) (some : 0 < length (entries_at t x.at)) (en : e ≡ x.at + run 10 (drop x.at t)) (lo : x.at ≤ e) (hi : e ≤ length t) {y : Option EntryLine} (p : y ≡ entry_of (columns t x.at e)) where
+  module _ {r : EntryLine} (g : y ≡ Some r) where
+    read : EntryStands t x.at k e r.fields
     read = entry_stands t x.at k e u.rows u.lines some en lo hi p g
 
-    pub turn_fits : EntryHasRoom t x k e f.entity.size
-    turn_fits = row_fits t x k e f u read
+    pub turn_fits : EntryHasRoom t x k e r.fields.entity.size
+    turn_fits = row_fits t x k e r.fields u read
 
-    pub turn_turned : {o o' : List ℕ} {z : EntryPlace} → EntryLaid o t x k e f o' z → Turned o t x k o' z
-    turn_turned {o} {o'} {z} w = row_turned t x k e f u read o o' z w
+    pub turn_turned : {o o' : List ℕ} {z : EntryPlace} → EntryLaid o t x k e r.fields o' z → Turned o t x k o' z
+    turn_turned {o} {o'} {z} w = row_turned t x k e r.fields u read o o' z w
 
-  pub turn_never : {o o' : List ℕ} {z : EntryPlace} → y ≡ Wrong → Turned o t x k o' z
+  pub turn_never : {o o' : List ℕ} {z : EntryPlace} → y ≡ None → Turned o t x k o' z
   turn_never g = absurd (entry_never t x.at k e u.rows u.lines some en lo hi p g)
 
 pub turn_inside : (t : List ℕ) (x : EntryPlace) (k : ℕ) → Turn t x k → x.at ≤ length t

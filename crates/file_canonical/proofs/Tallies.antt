@@ -6,11 +6,11 @@ use Prim.Native.Nat.{ℕ, ◌+◌, ◌^◌, ◌≤◌, ◌<◌}
 use native.Mathlib.Omega.{arith}
 use lib.ListN.{length, drop}
 use borrow.Author.Tests.{le-leb, lt-leb}
+use Rattle.std.proofs.Common.{None, Some}
 use Rattle.columns.specs.declared.Signed.{Signed}
 use Rattle.columns.specs.Format.{text_columns, parameter_columns, most_lines}
 use Rattle.values.specs.declared.Value.{Value}
 use Rattle.values.specs.declared.Value.TheVariants.{Whole}
-use Rattle.std.specs.Prelude.{Some}
 use Rattle.values.specs.Value.{Item, whole, item_of}
 use Rattle.values.specs.Strict.{strict_of}
 use Rattle.values.specs.Writing.{front}
@@ -31,7 +31,6 @@ use Rattle.sheets.specs.Sheet.{line_from, says_of, said_by}
 use Rattle.values.proofs.Backs.{strict_inside}
 use Rattle.sheets.proofs.Walk.{line_says}
 use Rattle.file_canonical.specs.declared.Tally.{Tally}
-use Rattle.file_canonical.specs.declared.Lines.TheVariants.{Are, TooMany}
 use Rattle.file_canonical.specs.Counting.{behind, skipped, with_start, with_global, with_entry, with_value, tally_line, tally_said, counts_in, total_in, within, most_columns, behind_value, full, capped, Under, Few, Short}
 use Rattle.sheets.proofs.Limits.{Can, says_can}
 use Rattle.file_canonical.proofs.Counted.{within_few, within-many}
@@ -168,15 +167,15 @@ module _ (x : Tally) {m : ℕ} (e : m ≡ total_in x) where
     unfolding capped
     capped-here = simp (le-leb (total_in x) most_lines (omega arith))
 
-    pub within-here : {c : Counts} → c ≡ counts_in x → Are c ≡ within x
-    within-here q = ap Are q ∙ sym (within_few x (sym e) h)
+    pub within-here : {c : Counts} → c ≡ counts_in x → Some c ≡ within x
+    within-here q = ap Some q ∙ sym (within_few x (sym e) h)
 
   module _ (h : most_lines < m) where
     pub capped-full : full ≡ capped x
     unfolding capped
     capped-full = simp (lt-leb (total_in x) most_lines (omega arith))
 
-    pub within-not : TooMany ≡ within x
+    pub within-not : None ≡ within x
     within-not = sym (within-many x (sym e) h)
 
 pub full_under : Under (2 ^ 36) full

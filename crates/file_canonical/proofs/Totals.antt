@@ -7,6 +7,7 @@ use native.Mathlib.Nat.{zero-add, add-zero, add_assoc, mod-lt}
 use native.Mathlib.Omega.{arith}
 use lib.ListN.{length, replicate, length-append, length-map}
 use borrow.Author.Tests.{le-leb}
+use Rattle.std.proofs.Common.{None, Some}
 use Rattle.columns.specs.Format.{most_lines}
 use Rattle.values.specs.Value.{Item, default, whole, spelled}
 use Rattle.records.specs.Flow.{firm, gap, piece, none as no_more, flow, line_count, in_lines}
@@ -21,7 +22,6 @@ use Rattle.sheets.specs.Sheet.{Line, Row, Sheet, start_lines, global_lines, valu
 use Rattle.model.specs.Model.{Carried, Model, value_in, carried_of, model_of}
 use Rattle.model.specs.Canonical.{start_lines as start_texts, filled, global_text, global_lines as global_texts, parameter_text, owned, block_of, directory_lines, parameter_lines, line_total}
 use Rattle.file_canonical.specs.declared.Tally.{Tally}
-use Rattle.file_canonical.specs.declared.Lines.TheVariants.{Are, TooMany}
 use Rattle.file_canonical.specs.Counting.{behind, skipped, tally, begun, with_start, with_global, with_entry, with_value, counts_in, total_in, tallied, lines_of_sheet}
 use Rattle.file_canonical.proofs.Counted.{within_few, within-many}
 
@@ -175,11 +175,11 @@ module _ (s : Sheet) where
   total-is = ap total sheet-counts
 
   -- a file may have its lines: these are their counts
-  pub sheet_few : line_total (model_of s) ≤ most_lines → lines_of_sheet (lines_of s) ≡ Are (counts_for (model_of s))
+  pub sheet_few : line_total (model_of s) ≤ most_lines → lines_of_sheet (lines_of s) ≡ Some (counts_for (model_of s))
   unfolding lines_of_sheet
-  sheet_few h = within_few (tallied begun (lines_of s)) total-is h ∙ ap Are sheet-counts
+  sheet_few h = within_few (tallied begun (lines_of s)) total-is h ∙ ap Some sheet-counts
 
   -- they are too many
-  pub sheet-many : most_lines < line_total (model_of s) → lines_of_sheet (lines_of s) ≡ TooMany
+  pub sheet-many : most_lines < line_total (model_of s) → lines_of_sheet (lines_of s) ≡ None
   unfolding lines_of_sheet
   sheet-many h = within-many (tallied begun (lines_of s)) total-is h

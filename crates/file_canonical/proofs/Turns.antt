@@ -6,19 +6,19 @@ use Prim.Native.Nat.{ℕ, ◌+◌, ◌-◌, ◌*◌, ◌≤◌, ◌<◌}
 use native.Mathlib.Omega.{arith}
 use native.Mathlib.Decide.{ℕ_discrete}
 use lib.ListN.{length, drop, length-drop}
+use Rattle.std.proofs.Common.{Option, None}
 use Rattle.columns.specs.declared.Signed.{Signed}
 use Rattle.columns.specs.Columns.{columns}
 use Rattle.columns.proofs.Columns.{length-columns}
 use Rattle.values.specs.Value.{Item}
 use Rattle.directory.specs.declared.Fields.{Fields}
 use Rattle.sheets.specs.declared.EntryLine.{EntryLine}
-use Rattle.sheets.specs.declared.EntryLine.TheVariants.{Got, Wrong}
 use Rattle.sheets.specs.declared.Said.{Said}
 use Rattle.sheets.specs.declared.Said.TheVariants.{Start, Global, Entry, Value as Given, Last, Nothing}
 use Rattle.sheets.specs.Plain.{sized}
-use Rattle.sheets.specs.Line.{run, entry_of, label_of}
+use Rattle.sheets.specs.Line.{run, entry_of, label_of, entry_got}
 use Rattle.sheets.specs.Sheet.{Line, entry, line_from, last_piece, says_of, said_by, lines_in, Row, value_lines, row_lines}
-use Rattle.sheets.proofs.Round.{Fits, eight, plain, AllFit, cons, Spelt, entry_back, label_eight}
+use Rattle.sheets.proofs.Round.{Fits, eight, plain, AllFit, cons, Spelt, same_line, entry_back, label_eight}
 use Rattle.sheets.proofs.Walk.{lines_first, line_says}
 use Rattle.model.specs.Model.{value_in, carried_of}
 use Rattle.sheets_rows.specs.Rows.{value_given, values_first}
@@ -53,7 +53,7 @@ pub record RowStands (t : List ℕ) (at k e : ℕ) : Type 0 where
   pub row : Row
   pub rest : List Row
   pub number : Signed
-  pub got : entry_of (columns t at e) ≡ Got row.known number row.fields
+  pub got : entry_of (columns t at e) ≡ entry_got row.known number row.fields
   pub label : label_of (columns t at e) ≡ row.label
   pub high : e < length t
   pub whole : lines_in (drop at t) ≡ row_lines k (row ∷ rest)
@@ -65,7 +65,7 @@ no_entry_lem [] e = let z : ◌≡◌ {A = ℕ} 0 1 = cc in omega arith
 no_entry_lem (b ∷ bs) e = let z : ◌≡◌ {A = ℕ} 0 1 = cc in omega arith
 
 -- what is read of an entry line
-said-entry : (l : List ℕ) (y : Said) → Can l y → {known : Bool} {n : Signed} {x : Fields} {label : List ℕ} → line_from l y ≡ entry known n x label → (entry_of l ≡ Got known n x) × (label_of l ≡ label)
+said-entry : (l : List ℕ) (y : Said) → Can l y → {known : Bool} {n : Signed} {x : Fields} {label : List ℕ} → line_from l y ≡ entry known n x label → (entry_of l ≡ entry_got known n x) × (label_of l ≡ label)
 said-entry l Start c q = let z : ◌≡◌ {A = ℕ} 0 1 = cc in absurd (omega arith)
 said-entry l (Global n k v) c q = let z : ◌≡◌ {A = ℕ} 0 1 = cc in absurd (omega arith)
 said-entry l (Entry known n x) c q = (cc, cc)
@@ -136,16 +136,13 @@ module _ {t : List ℕ} {at k e : ℕ} (s : RowStands t at k e) (lo : at ≤ e) 
       ap entries_in s.whole ∙ entries-rows k (s.row ∷ s.rest)
       ∙ rw (stands_values, ← stands_label, entries-rows (k + 1) s.rest)
 
-  pub stands_fields : {y : EntryLine} {known : Bool} {n : Signed} {f : Fields} → y ≡ entry_of (columns t at e) → y ≡ Got known n f → s.row.fields ≡ f
-  stands_fields p q = let w = s.got in same (sym w ∙ sym p ∙ q)
-    where
-      same : {a b : Bool} {n m : Signed} {x y : Fields} → Got a n x ≡ Got b m y → x ≡ y
-      same h = cc
+  pub stands_fields : {y : Option EntryLine} {known : Bool} {n : Signed} {f : Fields} → y ≡ entry_of (columns t at e) → y ≡ entry_got known n f → s.row.fields ≡ f
+  stands_fields p q = let w = s.got in (same_line (sym w ∙ sym p ∙ q)).2
 
-  pub stands_never : {y : EntryLine} → y ≡ entry_of (columns t at e) → y ≡ Wrong → ⊥
+  pub stands_never : {y : Option EntryLine} → y ≡ entry_of (columns t at e) → y ≡ None → ⊥
   stands_never p q = let w = s.got in let z : ◌≡◌ {A = ℕ} 0 1 = differ (sym w ∙ sym p ∙ q) in omega arith
     where
-      differ : {a : Bool} {n : Signed} {x : Fields} → Got a n x ≡ Wrong → ◌≡◌ {A = ℕ} 0 1
+      differ : {a : Bool} {n : Signed} {x : Fields} → entry_got a n x ≡ None → ◌≡◌ {A = ℕ} 0 1
       differ h = cc
 
 -- ---- the entry by what was read of its line
@@ -158,11 +155,11 @@ pub record EntryStands (t : List ℕ) (at k e : ℕ) (f : Fields) : Type 0 where
   pub rest : List Row
   pub behind : behind_values (lines_in (drop (e + 1) t)) ≡ row_lines (k + 1) rest
 
-module _ (t : List ℕ) (at k e : ℕ) (rs : List Row) (q : lines_in (drop at t) ≡ row_lines k rs) (some : 0 < length (entries_at t at)) (en : e ≡ at + run 10 (drop at t)) (lo : at ≤ e) (hi : e ≤ length t) {y : EntryLine} (p : y ≡ entry_of (columns t at e)) where
+module _ (t : List ℕ) (at k e : ℕ) (rs : List Row) (q : lines_in (drop at t) ≡ row_lines k rs) (some : 0 < length (entries_at t at)) (en : e ≡ at + run 10 (drop at t)) (lo : at ≤ e) (hi : e ≤ length t) {y : Option EntryLine} (p : y ≡ entry_of (columns t at e)) where
   stood : RowStands t at k e
   stood = row_stands t at k e en lo hi rs q (rw q at some)
 
-  pub entry_stands : {known : Bool} {n : Signed} {f : Fields} → y ≡ Got known n f → EntryStands t at k e f
+  pub entry_stands : {known : Bool} {n : Signed} {f : Fields} → y ≡ entry_got known n f → EntryStands t at k e f
   entry_stands {f = f} g =
       let s = stood in
       let w : s.row.fields ≡ f = stands_fields s lo p g in
@@ -175,5 +172,5 @@ module _ (t : List ℕ) (at k e : ℕ) (rs : List Row) (q : lines_in (drop at t)
         behind = stands_behind s lo;
       }
 
-  pub entry_never : y ≡ Wrong → ⊥
+  pub entry_never : y ≡ None → ⊥
   entry_never g = stands_never stood lo p g

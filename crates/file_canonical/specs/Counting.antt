@@ -1,6 +1,7 @@
 -- The code's form: how many lines the canonical file of a sheet has, line by line of the sheet: where the G record and the last entry's
 -- record end tells their lines.
-use Rattle.std.specs.Prelude.{false, cond, List, [], ◌∷◌, ℕ, suc, ◌+◌, ◌-◌, ◌*◌, ◌≤◌, length, leb}
+use Rattle.std.specs.Prelude.{false, cond, List, [], ◌∷◌, ℕ, suc, ◌+◌, ◌-◌, ◌*◌, ◌≤◌, length, leb, None, Some}
+use Rattle.std.specs.Prelude.{Option}
 use Rattle.columns.specs.Format.{text_columns, parameter_columns, most_lines, opening_columns}
 use Rattle.values.specs.declared.Value.TheVariants.{Whole}
 use Rattle.values.specs.Value.{Item, whole}
@@ -12,8 +13,6 @@ use Rattle.sheets.specs.declared.Said.{Said}
 use Rattle.sheets.specs.declared.Said.TheVariants.{Start, Global, Entry, Value as Given, Last, Nothing}
 use Rattle.sheets.specs.Sheet.{Line, start, global, entry, value, last, none}
 use Rattle.file_canonical.specs.declared.Tally.{Tally}
-use Rattle.file_canonical.specs.declared.Lines.{Lines}
-use Rattle.file_canonical.specs.declared.Lines.TheVariants.{Are, TooMany}
 
 -- the position behind a value's piece at p
 unfoldable pub behind : ℕ → ℕ → Item → ℕ
@@ -85,8 +84,11 @@ tallied x [] = x
 tallied x (l ∷ ls) = tallied (tally_line x l) ls
 
 -- the counts, if a file may have so many lines
+abbrev pub Lines : Type 0
+Lines = Option Counts
+
 unfoldable pub within : Tally → Lines
-within x = cond (leb (total_in x) most_lines) (Are (counts_in x)) TooMany
+within x = cond (leb (total_in x) most_lines) (Some (counts_in x)) None
 
 -- of all lines
 unfoldable pub lines_of_sheet : List Line → Lines

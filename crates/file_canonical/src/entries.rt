@@ -47,8 +47,8 @@ fn put_row(out: &mut [u8], t: &[u8], x: EntryPlace, k: usize) -> EntryPlace
     let at = x.at;
     let end = end_of(t, at);
     match entry_at(t, at, end) {
-        EntryLine::Got(_, _, fields) => put_entry(out, t, x, k, end, fields),
-        EntryLine::Wrong => x,
+        Some(EntryLine { fields, .. }) => put_entry(out, t, x, k, end, fields),
+        None => x,
     }
 }
 

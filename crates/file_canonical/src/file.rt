@@ -1,15 +1,13 @@
 // The canonical file of a sheet: S, G, D and P lines and the T line, laid over a lent buffer and clipped to it.
-ghost use Rattle.std.specs.Prelude.{◌≡◌, ◌*◌};
+ghost use Rattle.std.specs.Prelude.{◌≡◌, ◌*◌, Some, Ok};
 ghost use Rattle.columns.specs.Laid.{Wrote};
 ghost use Rattle.columns.specs.Format.{line_bytes};
 ghost use Rattle.cards.specs.Cards.{total};
-ghost use Rattle.sheets.specs.declared.SheetVerdict.TheVariants.{Good};
 ghost use Rattle.sheets.specs.Sheet.{lines_in, sheet_of};
 ghost use Rattle.sheets.specs.Order.{verdict_of};
 ghost use Rattle.sheets.specs.WellFormed.{Each};
 ghost use Rattle.model.specs.Model.{model_of};
 ghost use Rattle.model.specs.Canonical.{canonical};
-ghost use Rattle.file_canonical.specs.declared.Lines.TheVariants.{Are};
 ghost use Rattle.file_canonical.specs.Counting.{lines_of_sheet};
 ghost use Rattle.file_canonical.specs.Laying.{file_bytes, TextsFit, TextsLaid, Ranged, Ready};
 
@@ -54,8 +52,8 @@ fn put_sections(out: &mut [u8], t: &[u8], c: Counts, n: usize) -> usize
 
 // Lays the canonical file of a good sheet of n entries with these counts over out, from its start on.
 pub fn put_file(out: &mut [u8], t: &[u8], c: Counts, n: usize) -> usize
-    requires t_value { verdict_of t.now ≡ Good n }
-    requires t_value_2 { lines_of_sheet (lines_in t.now) ≡ Are c }
+    requires t_value { verdict_of t.now ≡ Ok n }
+    requires t_value_2 { lines_of_sheet (lines_in t.now) ≡ Some c }
     requires each { Each Ranged (sheet_of (lines_in t.now)).rows }
     ensures wrote { Wrote out.old 0 (canonical (model_of (sheet_of (lines_in t.now)))) out.new result }
     ensures value { result ≡ line_bytes * total c }

@@ -21,13 +21,6 @@ pub struct Tally {
     pub at: usize,
 }
 
-// How many lines of each section the file has, or that they are more than a file may have.
-#[derive(Clone, Copy)]
-pub enum Lines {
-    Are(Counts),
-    TooMany,
-}
-
 // Where the next entry stands: its line on the sheet, its D and P lines in the file, and the number of its first P line.
 #[derive(Clone, Copy)]
 pub struct EntryPlace {

@@ -8,6 +8,7 @@ use native.Mathlib.Numerals.{add-one}
 use native.Mathlib.Omega.{arith}
 use lib.ListN.{length, take, drop, replicate, length-take, length-drop, length-append}
 use borrow.Author.Tests.{le-leb}
+use Rattle.std.proofs.Common.{Option, Some, None}
 use Rattle.columns.specs.declared.Signed.{Signed}
 use Rattle.columns.specs.Columns.{columns}
 use Rattle.values.specs.declared.Value.{Value}
@@ -25,7 +26,6 @@ use Rattle.sheets.specs.Reading.{Within}
 use Rattle.sheets.proofs.Walk.{line_says, lines_first}
 use Rattle.model.specs.Canonical.{filled}
 use Rattle.file_blocks.specs.declared.GlobalLine.{GlobalLine}
-use Rattle.file_blocks.specs.declared.GlobalLine.TheVariants.{Field, Otherwise}
 use Rattle.sheets_rows.proofs.Rows.{behind-none, piece_gives_none}
 use Rattle.file_blocks.specs.Blocks.{global_given, globals_first, behind_globals}
 use Rattle.file_blocks.specs.Writing.{parted, FieldStands, FieldsEnd, FieldAt}
@@ -150,49 +150,49 @@ pub ruleset one = (one_field, run_room, piece-room, put-length)
 
 -- ---- all of them
 
-module _ (t : List ℕ) (at : ℕ) {x : GlobalLine} (h : FieldAt t at x) {number from end : ℕ} {v : Value} (q : x ≡ Field number from end v) where
-  stands : FieldStands t at number from end v
+module _ (t : List ℕ) (at : ℕ) {x : Option GlobalLine} (h : FieldAt t at x) {l : GlobalLine} (q : x ≡ Some l) where
+  stands : FieldStands t at l.number l.from l.end l.value
   stands = rw q at h
 
-  pub field_low : from ≤ end
+  pub field_low : l.from ≤ l.end
   field_low = stands.inside
 
-  pub field_high : end ≤ length t
+  pub field_high : l.end ≤ length t
   field_high = omega (arith, stands.high)
 
-  pub field_next : end + 1 ≤ length t
+  pub field_next : l.end + 1 ≤ length t
   field_next = omega (arith, stands.high)
 
-  pub field-on : (a : ℕ) → a ≤ at → a ≤ end + 1
+  pub field-on : (a : ℕ) → a ≤ at → a ≤ l.end + 1
   field-on a k = omega (arith, stands.low, stands.inside)
 
-  pub field-sum : length t < 2 ^ 64 → end + 1 < 2 ^ 64
+  pub field-sum : length t < 2 ^ 64 → l.end + 1 < 2 ^ 64
   field-sum k = omega (arith, stands.high)
 
-  pub field_less : length t - (end + 1) < length t - at
+  pub field_less : length t - (l.end + 1) < length t - at
   field_less = omega (arith, stands.low, stands.inside, stands.high)
 
-  pub field_few : number ≤ 24
+  pub field_few : l.number ≤ 24
   field_few = stands.field
 
-  pub field-behind : (ls : List Line) → behind_globals (lines_in (drop at t)) ≡ ls → behind_globals (lines_in (drop (end + 1) t)) ≡ ls
+  pub field-behind : (ls : List Line) → behind_globals (lines_in (drop at t)) ≡ ls → behind_globals (lines_in (drop (l.end + 1) t)) ≡ ls
   field-behind ls e = sym stands.behind ∙ e
 
-  pub field-written : Writable (length (take (end - from) (drop from t))) v
-  field-written = rw (part t from end stands.inside (omega (arith, stands.high))) stands.writable
+  pub field-written : Writable (length (take (l.end - l.from) (drop l.from t))) l.value
+  field-written = rw (part t l.from l.end stands.inside (omega (arith, stands.high))) stands.writable
     where
       part : (t : List ℕ) (from end : ℕ) → from ≤ end → end ≤ length t → length (take (end - from) (drop from t)) ≡ end - from
       part t from end a b = simp (length-take, length-drop) (omega arith)
 
   pub field-more : {base p r r' : ℕ} {o bs o1 o2 : List ℕ} (n : ℕ) → Owed base 72 o p bs o1 r (parted 72 r (filled n (globals_first (lines_in (drop at t)))))
-      → Put base 72 o1 r (parted 72 r (filled n ((number, item_of (take (end - from) (drop from t)) v) ∷ []))) o2 r'
-      → Owed base 72 o p bs o2 r' (parted 72 r' (filled (number + 1) (globals_first (lines_in (drop (end + 1) t)))))
+      → Put base 72 o1 r (parted 72 r (filled n ((l.number, item_of (take (l.end - l.from) (drop l.from t)) l.value) ∷ []))) o2 r'
+      → Owed base 72 o p bs o2 r' (parted 72 r' (filled (l.number + 1) (globals_first (lines_in (drop (l.end + 1) t)))))
   field-more {r = r} n a y =
-      let gs = globals_first (lines_in (drop (end + 1) t)) in
-      let g : ℕ × Item = (number, item_of (take (end - from) (drop from t)) v) in
-      rw (y.next, add-one number) (owed_less (rw (stands.fields, first_field_lem 72 r n g gs) at a) (rw y.next at y))
+      let gs = globals_first (lines_in (drop (l.end + 1) t)) in
+      let g : ℕ × Item = (l.number, item_of (take (l.end - l.from) (drop l.from t)) l.value) in
+      rw (y.next, add-one l.number) (owed_less (rw (stands.fields, first_field_lem 72 r n g gs) at a) (rw y.next at y))
 
-module _ (t : List ℕ) (at : ℕ) {x : GlobalLine} (h : FieldAt t at x) (q : x ≡ Otherwise) where
+module _ (t : List ℕ) (at : ℕ) {x : Option GlobalLine} (h : FieldAt t at x) (q : x ≡ None) where
   done : FieldsEnd t at
   done = rw q at h
 

@@ -26,13 +26,13 @@ const COMMA: u8 = b',';
 const FIRST: usize = 3;
 
 // What the line at `at` says, if it is a G line.
-fn field_at(t: &[u8], at: usize) -> GlobalLine
+fn field_at(t: &[u8], at: usize) -> Option<GlobalLine>
     requires { at ≤ length t.now }
     ensures { FieldAt t.now at result }
 {
     let end = sheets_read::end_of(t, at);
     if end == t.len() {
-        return GlobalLine::Otherwise;
+        return None;
     }
     let said = sheets_read::line_at(t, at, end);
     match said {
@@ -40,17 +40,17 @@ fn field_at(t: &[u8], at: usize) -> GlobalLine
             number,
             at: k,
             value,
-        } => GlobalLine::Field {
+        } => Some(GlobalLine {
             number,
             from: at + k,
             end,
             value,
-        },
-        Said::Start => GlobalLine::Otherwise,
-        Said::Value { .. } => GlobalLine::Otherwise,
-        Said::Entry { .. } => GlobalLine::Otherwise,
-        Said::Last(_) => GlobalLine::Otherwise,
-        Said::Nothing(_) => GlobalLine::Otherwise,
+        }),
+        Said::Start => None,
+        Said::Value { .. } => None,
+        Said::Entry { .. } => None,
+        Said::Last(_) => None,
+        Said::Nothing(_) => None,
     }
 }
 
@@ -97,21 +97,12 @@ fn put_fields(out: &mut [u8], base: usize, t: &[u8], at: usize, p: usize) -> Flo
     let mut end = p;
     let mut n = FIRST;
     loop {
-        match field_at(t, next) {
-            GlobalLine::Otherwise => {
-                return Flowed { next, end };
-            }
-            GlobalLine::Field {
-                number,
-                from,
-                end: stop,
-                value,
-            } => {
-                end = put_field(out, base, end, n, number, &t[from..stop], value);
-                next = stop + 1;
-                n = number as usize + 1;
-            }
-        }
+        let Some(g) = field_at(t, next) else {
+            return Flowed { next, end };
+        };
+        end = put_field(out, base, end, n, g.number, &t[g.from..g.end], g.value);
+        next = g.end + 1;
+        n = g.number as usize + 1;
     }
 }
 

@@ -13,7 +13,7 @@ ghost use Rattle.file_canonical.specs.Counting.{tally_said, counts_in, total_in,
 
 use cards::Counts;
 use columns::format::{MOST_LINES, PARAMETER_COLUMNS, TEXT_COLUMNS};
-use file_canonical::{Lines, Tally};
+use file_canonical::Tally;
 use records_flow::{line_count, piece_end, spelled_end};
 use sheets::Said;
 use values::Value;
@@ -194,13 +194,13 @@ fn counts_in(x: Tally) -> Counts
     }
 }
 
-// The lines of a tally.
-pub fn lines_of(x: Tally) -> Lines
+// The lines of a tally, unless they are more than a file may have.
+pub fn lines_of(x: Tally) -> Option<Counts>
     requires { Under (2 ^ 36) x }
     ensures { result ≡ within x }
 {
     if total_of(x) <= MOST_LINES {
-        return Lines::Are(counts_in(x));
+        return Some(counts_in(x));
     }
-    Lines::TooMany
+    None
 }

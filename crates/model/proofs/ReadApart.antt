@@ -21,7 +21,6 @@ use Rattle.records.specs.Global.{opens, first_field, opening_of}
 use Rattle.cards.specs.declared.Counts.{Counts}
 use Rattle.cards.specs.Cards.{cards_of, outcome}
 use Rattle.directory.specs.declared.Fields.{Fields}
-use Rattle.std.specs.Prelude.{Option, Some, None}
 use Rattle.directory.specs.declared.Spelt.{Spelt}
 use Rattle.directory.specs.Lines.{entry_at, label_at, spelt_entry}
 use Rattle.directory.specs.Rules.{entry_rules}

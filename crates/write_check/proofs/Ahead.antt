@@ -1,23 +1,18 @@
 -- Value lines in order are passed over: they are asked nothing and head no entry; each steps the state, and goes on in its record. Assumes nothing.
-use Rattle.std.proofs.Common.{◌≡◌, ℕ, ◌+◌, Bool, List, ◌∷◌, sym, refl, ap, ◌∙◌}
+use Rattle.std.proofs.Common.{◌≡◌, ℕ, ◌+◌, Bool, List, ◌∷◌, sym, refl, ap, ◌∙◌, Ok}
 use Rattle.columns.specs.Laid.{laid}
 use Rattle.values.specs.declared.Value.{Value}
 use Rattle.values.specs.Value.{item_of, is_missing}
 use Rattle.sheets.specs.declared.Said.TheVariants.{Value as Given}
 use Rattle.sheets.specs.declared.SheetState.{SheetState}
-use Rattle.sheets.specs.declared.SheetStep.{SheetStep}
-use Rattle.sheets.specs.declared.SheetStep.TheVariants.{On}
-use Rattle.sheets.specs.declared.SheetVerdict.{SheetVerdict}
 use Rattle.sheets.specs.Sheet.{Line, value}
-use Rattle.sheets.specs.Order.{value_step, step_line, go_lines}
+use Rattle.sheets.specs.Order.{value_step, step_line, go_lines, SheetStep, SheetVerdict}
 use Rattle.sheets.proofs.Walk.{step-said}
 use Rattle.sheets_rows.specs.Rows.{types_in}
 use Rattle.file_canonical.specs.declared.Tally.{Tally}
-use Rattle.file_canonical.specs.declared.Lines.{Lines}
-use Rattle.file_canonical.specs.Counting.{with_value, tallied, within, behind_value, capped}
+use Rattle.file_canonical.specs.Counting.{with_value, tallied, within, behind_value, capped, Lines}
 use Rattle.file_canonical.proofs.Counted.{capped_same, value_same}
-use Rattle.write_lines.specs.declared.SheetPass.{SheetPass}
-use Rattle.write_lines.specs.Lines.{OfGlobal, OfRow, or_else, lines_pass}
+use Rattle.write_lines.specs.Lines.{OfGlobal, OfRow, or_else, lines_pass, SheetPass}
 use Rattle.write_lines.specs.Classes.{classes_in}
 use Rattle.write_check.specs.Ahead.{Ahead}
 use Rattle.write_check.proofs.Walking.{next_place}
@@ -26,11 +21,11 @@ pub ahead_none : (st : SheetState) (p : ℕ) (ls : List Line) → Ahead st p ls 
 ahead_none st p ls = record { verdict = refl; asked = λ g f. refl; classes = refl; counted = λ x. refl }
 
 -- one value line more
-module _ (ls rest : List Line) (r : Bool) (s : List ℕ) (v : Value) (line : ls ≡ value r (item_of s v) ∷ rest) (st y : SheetState) (x : SheetStep) (p : x ≡ value_step st (is_missing v)) (q : x ≡ On y) where
+module _ (ls rest : List Line) (r : Bool) (s : List ℕ) (v : Value) (line : ls ≡ value r (item_of s v) ∷ rest) (st y : SheetState) (x : SheetStep) (p : x ≡ value_step st (is_missing v)) (q : x ≡ Ok y) where
   go_value : go_lines y rest ≡ go_lines st ls
   unfolding go_lines
   go_value =
-      let h : step_line st (value r (item_of s v)) ≡ On y = sym (step-said st (Given r v) (0 ∷ 0 ∷ s)) ∙ sym p ∙ q in
+      let h : step_line st (value r (item_of s v)) ≡ Ok y = sym (step-said st (Given r v) (0 ∷ 0 ∷ s)) ∙ sym p ∙ q in
       let w : go_lines st (value r (item_of s v) ∷ rest) ≡ go_lines y rest = rw (go_lines, h) in
       sym (ap (go_lines st) line ∙ w)
 

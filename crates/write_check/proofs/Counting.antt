@@ -6,8 +6,7 @@ use Rattle.sheets.specs.Line.{run}
 use Rattle.sheets.specs.Sheet.{says_of, said_by, lines_in}
 use Rattle.sheets.proofs.Walk.{lines_first}
 use Rattle.file_canonical.specs.declared.Tally.{Tally}
-use Rattle.file_canonical.specs.declared.Lines.{Lines}
-use Rattle.file_canonical.specs.Counting.{begun, tally_line, tally_said, tallied, within, lines_of_sheet, Under}
+use Rattle.file_canonical.specs.Counting.{begun, tally_line, tally_said, tallied, within, lines_of_sheet, Under, Lines}
 use Rattle.file_canonical.proofs.Tallies.{tally-line}
 use Rattle.write_lines.proofs.Lines.{lines-piece, lines_none}
 

@@ -1,5 +1,5 @@
 -- The passes over a sheet's lines ask what the paper asks of the sheet, in its order and at its places. Assumes nothing.
-use Rattle.std.proofs.Common.{◌≡◌, ℕ, suc, ◌+◌, Bool, List, [], ◌∷◌, map, length, sym, refl, ap, ◌∙◌, arith}
+use Rattle.std.proofs.Common.{◌≡◌, ℕ, suc, ◌+◌, Bool, List, [], ◌∷◌, map, length, sym, refl, ap, ◌∙◌, arith, Ok}
 use Rattle.columns.specs.Refusal.{Outcome, accepted, refused, each_at, ◌then◌}
 use Rattle.values.specs.Value.{Item}
 use Rattle.sheets.specs.Sheet.{Line, Row, Sheet, start_lines, global_lines, value_lines, row_lines, lines_of, lines_in}
@@ -7,9 +7,7 @@ use Rattle.sheets_rows.specs.Rows.{types_in}
 use Rattle.sheets_rows.proofs.Rows.{values_first_lem, row_type, types-sheet}
 use Rattle.model.specs.Model.{type_of, fields_in, carried_of, model_of}
 use Rattle.model.specs.Write.{one, row_size, first_global, first_row, global_rule, row_rules, row_references, row_entity_rules, row_types, sheet_rules}
-use Rattle.write_lines.specs.declared.SheetPass.{SheetPass}
-use Rattle.write_lines.specs.declared.SheetPass.TheVariants.{Good}
-use Rattle.write_lines.specs.Lines.{pass_of, or_else, OfGlobal, OfRow, no_rule, lines_pass}
+use Rattle.write_lines.specs.Lines.{pass_of, or_else, OfGlobal, OfRow, no_rule, lines_pass, SheetPass}
 use Rattle.write_lines.specs.Classes.{sheet_types}
 use Rattle.write_lines.specs.Passes.{rules_pass, references_pass, entities_pass, sheet_pass}
 use Rattle.write_lines.proofs.Lines.{or_assoc}
@@ -64,7 +62,7 @@ module _ (g : OfGlobal) (f : OfRow) where
       ∙ ap (or_else (pass_of (each_at one g (first_global s) s.globals))) (moved (first_global s + length s.globals) (first_row s) (row_lines 0 s.rows) b ∙ pass-rows s.rows 0 (first_row s))
 
 -- where nothing is asked of G lines
-none-asked : (gs : List (ℕ × Item)) (k : ℕ) → pass_of (each_at one no_rule k gs) ≡ Good
+none-asked : (gs : List (ℕ × Item)) (k : ℕ) → pass_of (each_at one no_rule k gs) ≡ Ok tt
 unfolding each_at
 none-asked [] k = refl
 none-asked (x ∷ gs) k = pass_each (accepted tt) (each_at one no_rule (k + 1) gs) ∙ none-asked gs (k + 1)

@@ -1,24 +1,18 @@
 -- The first walk: the lines from a place on, taken from the state so far, have the verdict of all lines.
-use Rattle.std.proofs.Common.{◌≡◌, ℕ, ◌+◌, ◌<◌, ◌≤◌, Bool, List, [], ◌∷◌, length, get_or, drop, replicate, sym, refl, ap, ◌∙◌, arith}
+use Rattle.std.proofs.Common.{◌≡◌, ℕ, ◌+◌, ◌<◌, ◌≤◌, Bool, List, [], ◌∷◌, length, get_or, drop, replicate, sym, refl, ap, ◌∙◌, arith, Err, Ok}
 use Rattle.columns.specs.declared.SheetLine.{SheetLine}
 use Rattle.columns.specs.Columns.{columns}
 use Rattle.columns.specs.Laid.{laid}
 use Rattle.sheets.specs.declared.Said.{Said}
 use Rattle.sheets.specs.declared.SheetState.{SheetState}
-use Rattle.sheets.specs.declared.SheetStep.{SheetStep}
-use Rattle.sheets.specs.declared.SheetStep.TheVariants.{On, Off}
-use Rattle.sheets.specs.declared.SheetVerdict.{SheetVerdict}
-use Rattle.sheets.specs.declared.SheetVerdict.TheVariants.{Good, Wrong}
 use Rattle.sheets.specs.Line.{run}
 use Rattle.sheets.specs.Sheet.{Line, none, is_mark, says_of, said_by, lines_in}
-use Rattle.sheets.specs.Order.{begin, step_line, verdict, finish, go_lines, verdict_of}
+use Rattle.sheets.specs.Order.{begin, step_line, verdict, finish, go_lines, verdict_of, SheetStep, SheetVerdict}
 use Rattle.sheets.specs.Reading.{step_said, piece_verdict}
 use Rattle.sheets.proofs.Walk.{lines_first, none-off, step-said, line_says, line_sizes}
 use Rattle.file_canonical.specs.declared.Tally.{Tally}
-use Rattle.file_canonical.specs.declared.Lines.{Lines}
-use Rattle.file_canonical.specs.Counting.{within, lines_of_sheet}
-use Rattle.write_lines.specs.declared.SheetPass.{SheetPass}
-use Rattle.write_lines.specs.Lines.{OfGlobal, OfRow, or_else, lines_pass}
+use Rattle.file_canonical.specs.Counting.{within, lines_of_sheet, Lines}
+use Rattle.write_lines.specs.Lines.{OfGlobal, OfRow, or_else, lines_pass, SheetPass}
 use Rattle.write_lines.specs.Classes.{classes_in, table_size, Tabled}
 use Rattle.write_lines.specs.Passes.{rules_pass}
 use Rattle.write_check.specs.Answers.{IfGood}
@@ -30,7 +24,7 @@ use Rattle.write_check.proofs.Checking.{good_count}
 pub if_good : {A : Type 0} (v : SheetVerdict) → A → IfGood v A
 if_good v a = record { so = λ n e. a }
 
-pub if_wrong : {A : Type 0} (w : SheetLine) → IfGood (Wrong w) A
+pub if_wrong : {A : Type 0} (w : SheetLine) → IfGood (Err w) A
 if_wrong w = record { so = λ n e. let k : ◌≡◌ {A = ℕ} 0 1 = cc in absurd (omega arith) }
 
 step_line_lem : (st : SheetState) (l : List ℕ) (x : SheetStep) (y : Said) → y ≡ says_of l → x ≡ step_said st y → x ≡ step_line st (said_by l)
@@ -51,21 +45,21 @@ module _ (f : SheetVerdict) (t : List ℕ) (st : SheetState) (at n : ℕ) (inv :
         q ∙ ap (piece_verdict st) p ∙ ap verdict o.1 ∙ (rw (go_lines, o.1) at i)
 
     module _ (x : SheetStep) (y : Said) (h : e ≡ n → ⊥) (d : y ≡ says_of (columns t at e)) (p : x ≡ step_said st y) where
-      gone : elim x [ On st' ↦ go_lines st' (lines_in (drop (e + 1) t)) | Off w ↦ Wrong w ] ≡ f
+      gone : elim x [ Ok st' ↦ go_lines st' (lines_in (drop (e + 1) t)) | Err w ↦ Err w ] ≡ f
       unfolding go_lines
       gone = rw (step_line_lem st (columns t at e) x y d p) (rw (lines_first t at e lo (omega arith) en) at inv)
 
-      pub go_on : (z : SheetState) → x ≡ On z → go_lines z (lines_in (drop (e + 1) t)) ≡ f
+      pub go_on : (z : SheetState) → x ≡ Ok z → go_lines z (lines_in (drop (e + 1) t)) ≡ f
       go_on z q = rw q at gone
 
-      pub go_off : (w : SheetLine) → x ≡ Off w → Wrong w ≡ f
+      pub go_off : (w : SheetLine) → x ≡ Err w → Err w ≡ f
       go_off w q = rw q at gone
 
 pub go_start : (t : List ℕ) → go_lines begin (lines_in (drop 0 t)) ≡ verdict_of t
 unfolding verdict_of
 go_start t = refl
 
-module _ (st y : SheetState) (d : Said) (x : SheetStep) (p : x ≡ step_said st d) (q : x ≡ On y) where
+module _ (st y : SheetState) (d : Said) (x : SheetStep) (p : x ≡ step_said st d) (q : x ≡ Ok y) where
   pub next_place : y.line ≡ st.line + 1
   next_place = (line_sizes st y d (sym p ∙ q)).0
 
@@ -81,7 +75,7 @@ module _ (st y : SheetState) (d : Said) (x : SheetStep) (p : x ≡ step_said st 
 
 -- ---- behind the walk
 
-module _ (v : SheetVerdict) (n : ℕ) (e : v ≡ Good n) (t : List ℕ) where
+module _ (v : SheetVerdict) (n : ℕ) (e : v ≡ Ok n) (t : List ℕ) where
   pub walked_rules : (p : SheetPass) → IfGood v (p ≡ rules_pass t) → p ≡ rules_pass t
   walked_rules p h = h.so n e
 

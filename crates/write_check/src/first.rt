@@ -16,7 +16,7 @@ use columns::SheetLine;
 use columns::format::OPENING_COLUMNS;
 use file_canonical::Tally;
 use file_tally::{behind_value, tally_said, with_values};
-use sheets::{BEFORE_STARTS, NO_FIELD, NO_RUN, SheetState, SheetStep, SheetVerdict, order};
+use sheets::{BEFORE_STARTS, NO_FIELD, NO_RUN, SheetState, order};
 use sheets_read::{end_of, is_mark, is_value, line_at, strict_at};
 use values::is_missing;
 use write_lines::SheetPass;
@@ -67,13 +67,18 @@ fn past_values(t: &[u8], from: usize, begun: SheetState, p: usize) -> Past
         }
         let spelled = next + 2;
         match strict_at(t, spelled, end) {
+<<<<<<< HEAD
             Some(value) => match order::value_step(state, is_missing(value)) {
                 SheetStep::On(st) => {
+=======
+            Strict::Is(value) => match order::value_step(state, is_missing(value)) {
+                Ok(st) => {
+>>>>>>> he2/he2
                     at = behind_value(at, &t[spelled..end], value);
                     state = st;
                     next = end + 1;
                 }
-                SheetStep::Off(_) => {
+                Err(_) => {
                     return Past { state, next, at };
                 }
             },
@@ -86,7 +91,7 @@ fn past_values(t: &[u8], from: usize, begun: SheetState, p: usize) -> Past
 }
 
 // What the walk tells behind the last line that it read.
-fn told(verdict: SheetVerdict, pass: SheetPass, tally: Tally) -> SheetWalked
+fn told(verdict: Result<usize, SheetLine>, pass: SheetPass, tally: Tally) -> SheetWalked
     ensures { result ≡ walked_so verdict pass tally }
 {
     SheetWalked {
@@ -108,7 +113,7 @@ pub fn walk(classes: &mut [u8], t: &[u8]) -> SheetWalked
     let n = t.len();
     let mut st = BEGIN;
     let mut tally = BEGUN;
-    let mut pass = SheetPass::Good;
+    let mut pass = Ok(());
     let mut at = 0;
     let mut k = 0;
     while at < n {
@@ -121,14 +126,14 @@ pub fn walk(classes: &mut [u8], t: &[u8]) -> SheetWalked
         k = keep(classes, k, said);
         let more = tally_said(tally, said);
         match order::step_line(st, said) {
-            SheetStep::On(next) => {
+            Ok(next) => {
                 let past = past_values(t, end + 1, next, more.at);
                 tally = with_values(more, past.at);
                 st = past.state;
                 at = past.next;
             }
-            SheetStep::Off(line) => {
-                return told(SheetVerdict::Wrong(line), pass, tally);
+            Err(line) => {
+                return told(Err(line), pass, tally);
             }
         }
     }

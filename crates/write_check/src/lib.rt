@@ -14,10 +14,11 @@ ghost use Rattle.write_lines.specs.Classes.{Tabled};
 ghost use Rattle.write_lines.specs.Passes.{rules_pass, sheet_pass};
 ghost use Rattle.write_check.specs.Answers.{ruled_of};
 
-use columns::{Fault, SheetLine};
-use file_canonical::{Lines, Tally};
+use cards::Counts;
+use columns::{Fault, Refusal, SheetLine};
+use file_canonical::Tally;
 use file_tally::lines_of;
-use sheets::{SheetState, SheetVerdict};
+use sheets::SheetState;
 use write_lines::SheetPass;
 use write_lines::table::TABLE;
 
@@ -33,57 +34,48 @@ pub struct Past {
 // themselves, and what its lines come to.
 #[derive(Clone, Copy)]
 pub struct SheetWalked {
-    pub verdict: SheetVerdict,
+    pub verdict: Result<usize, SheetLine>,
     pub pass: SheetPass,
     pub tally: Tally,
 }
 
-// The number of entries of a sheet that passes all checks, and the lines of its file; or its first refusal.
+// The number of entries of a sheet that passes all checks, and the lines of its file, unless they are more than a file may have.
 #[derive(Clone, Copy)]
-pub enum Ruled {
-    Good { entries: usize, lines: Lines },
-    Refused { fault: Fault, line: SheetLine },
+pub struct Ruled {
+    pub entries: usize,
+    pub lines: Option<Counts>,
 }
 
 // The passes behind 17 over a sheet of n entries, the first of which found this.
+#[tactic(auto, using(crate::proofs::Checking::passing))]
 fn passes(list: u64, classes: &[u8], n: usize, t: &[u8], first: SheetPass) -> SheetPass
     requires tabled { Tabled classes.now n t.now }
     requires first_value { first ≡ rules_pass t.now }
     ensures { result ≡ sheet_pass list t.now }
 {
-    match first {
-        SheetPass::Refused { fault, line } => SheetPass::Refused { fault, line },
-        SheetPass::Good => write_entities::named_rules(list, classes, n, t),
-    }
+    first?;
+    write_entities::named_rules(list, classes, n, t)
 }
 
-// All checks of a sheet under a list.
-pub fn check(list: u64, t: &[u8]) -> Ruled
+// All checks of a sheet under a list; or its first refusal.
+#[tactic(auto, using(crate::proofs::Checking::checks, crate::proofs::Walking::walked))]
+pub fn check(list: u64, t: &[u8]) -> Result<Ruled, Refusal<SheetLine>>
     ensures { result ≡ ruled_of list t.now }
 {
     if !layouts_lists::is_list(list) {
-        return Ruled::Refused {
+        return Err(Refusal {
             fault: Fault::ListOrLength,
             line: SheetLine(0),
-        };
+        });
     }
     let mut classes = [0u8; TABLE];
     let walked = first::walk(&mut classes, t);
-    let verdict = walked.verdict;
-    let first = walked.pass;
     let lines = lines_of(walked.tally);
-    match verdict {
-        SheetVerdict::Wrong(line) => Ruled::Refused {
-            fault: Fault::SheetLine,
-            line,
-        },
-        SheetVerdict::Good(n) => {
-            marks::mark(&mut classes, n, t);
-            let found = passes(list, &classes, n, t, first);
-            match found {
-                SheetPass::Refused { fault, line } => Ruled::Refused { fault, line },
-                SheetPass::Good => Ruled::Good { entries: n, lines },
-            }
-        }
-    }
+    let n = walked.verdict.map_err(|line| Refusal {
+        fault: Fault::SheetLine,
+        line,
+    })?;
+    marks::mark(&mut classes, n, t);
+    passes(list, &classes, n, t, walked.pass)?;
+    Ok(Ruled { entries: n, lines })
 }

@@ -6,10 +6,11 @@ use Prim.Native.Nat.{ℕ, ◌+◌, ◌≤◌, ◌<◌}
 use native.Mathlib.Omega.{arith}
 use lib.ListN.{length, drop}
 use borrow.Author.Tests.{not-true, not-false}
+use Rattle.std.proofs.Common.{Ok, Err, is_err}
 use Rattle.columns.specs.declared.Fault.TheVariants.{Mark, Layout as LayoutFault, LayoutReference as LayoutReferenceFault}
 use Rattle.columns.specs.declared.Signed.{Signed}
 use Rattle.columns.specs.Columns.{columns}
-use Rattle.columns.specs.Refusal.{Outcome, accepted, refused, demand, ◌then◌}
+use Rattle.columns.specs.Refusal.{Outcome, accepted, refused, demand, ◌then◌, refusal_at}
 use Rattle.columns.proofs.Tests.{and_assoc}
 use Rattle.values.specs.declared.Value.{Value}
 use Rattle.std.specs.Prelude.{Option, None, Some}
@@ -42,9 +43,7 @@ use Rattle.sheets_rows.specs.Rows.{values_first}
 use Rattle.sheets_rows.proofs.Rows.{no_values}
 use Rattle.write_entities.specs.declared.Judged.{Judged}
 use Rattle.write_entities.specs.declared.Values.{Values}
-use Rattle.write_lines.specs.declared.SheetPass.{SheetPass}
-use Rattle.write_lines.specs.declared.SheetPass.TheVariants.{Good, Refused}
-use Rattle.write_lines.specs.Lines.{pass_of, Skipped}
+use Rattle.write_lines.specs.Lines.{pass_of, Skipped, SheetPass}
 use Rattle.write_lines.specs.Heads.{said_entity}
 use Rattle.write_entities.specs.Judging.{right_too, judged_so, judged, values_of, verdict_if, answer_of}
 use Rattle.write_lines.proofs.Lines.{lines-piece, lines_none, line_read, skipped-none}
@@ -133,19 +132,19 @@ module _ (inside marked : Bool) (j : Judged) (place : ℕ) (g : Option LayoutSta
   unfolding answer_of
   answer = rw (← eg, ← ew, ← eb)
 
-  pub answer_layout : w ≡ Layout → Refused LayoutFault (sheet_line place) ≡ answer_of inside marked j place
+  pub answer_layout : w ≡ Layout → Err (refusal_at LayoutFault (sheet_line place)) ≡ answer_of inside marked j place
   answer_layout e = sym (answer ∙ rw e)
 
-  pub answer_reference : w ≡ LayoutReference → Refused LayoutReferenceFault (sheet_line place) ≡ answer_of inside marked j place
+  pub answer_reference : w ≡ LayoutReference → Err (refusal_at LayoutReferenceFault (sheet_line place)) ≡ answer_of inside marked j place
   answer_reference e = sym (answer ∙ rw e)
 
-  pub answer_good : w ≡ GoodVerdict → b ≡ true → j.right ≡ true → Good ≡ answer_of inside marked j place
+  pub answer_good : w ≡ GoodVerdict → b ≡ true → j.right ≡ true → Ok tt ≡ answer_of inside marked j place
   answer_good e h k = sym (answer ∙ rw (e, h, k))
 
-  pub answer-value : w ≡ GoodVerdict → b ≡ true → j.right ≡ false → Refused Mark (sheet_line place) ≡ answer_of inside marked j place
+  pub answer-value : w ≡ GoodVerdict → b ≡ true → j.right ≡ false → Err (refusal_at Mark (sheet_line place)) ≡ answer_of inside marked j place
   answer-value e h k = sym (answer ∙ rw (e, h, k))
 
-  pub answer-entry : w ≡ GoodVerdict → b ≡ false → Refused Mark (sheet_line place) ≡ answer_of inside marked j place
+  pub answer-entry : w ≡ GoodVerdict → b ≡ false → Err (refusal_at Mark (sheet_line place)) ≡ answer_of inside marked j place
   answer-entry e h = sym (answer ∙ rw (e, h))
 
 pub ruleset answers = (answer_layout, answer_reference, answer_good, answer-value, answer-entry)
@@ -202,3 +201,9 @@ module _ (list : ℕ) (types : List ℕ) (place : ℕ) (marked : Bool) (x : Fiel
   entity-told s n inside g j r e ei eg ej er = rw e (er ∙ rw (ei, ej, eg) answer-row)
 
 pub ruleset entities = (entity-told, entity-other, skipped-none)
+
+-- ---- a line that is not refused
+
+pub not_refused : (p : SheetPass) → is_err p ≡ false → p ≡ Ok tt
+not_refused (Ok u) h = refl
+not_refused (Err w) h = absurd (let z : ◌≡◌ {A = ℕ} 0 1 = cc in omega arith)

@@ -11,8 +11,7 @@ use Rattle.layouts.specs.Walk.{feed, mark, ended}
 use Rattle.model.specs.Write.{equal}
 use Rattle.write_entities.specs.declared.Judged.{Judged}
 use Rattle.write_entities.specs.declared.Values.{Values}
-use Rattle.write_lines.specs.declared.SheetPass.{SheetPass}
-use Rattle.write_lines.specs.Lines.{pass_of}
+use Rattle.write_lines.specs.Lines.{pass_of, SheetPass}
 
 -- whether a mark is right too
 abbrev pub right_too : Bool → Bool → Option LayoutState → Bool

@@ -15,8 +15,13 @@ ghost use Rattle.write_entities.specs.Judging.{right_too, judged_so, judged, val
 ghost use Rattle.write_lines.specs.Passes.{references_from, references_pass, entities_pass};
 
 use crate::naming::named_for;
+<<<<<<< HEAD
 use columns::{Fault, SheetLine};
 use layouts::{LayoutState, LayoutVerdict};
+=======
+use columns::{Fault, Refusal, SheetLine};
+use layouts::{LayoutVerdict, Stepped};
+>>>>>>> he2/he2
 use layouts_lists::known;
 use read_entities::marks::{mark_of, marks_begun};
 use sheets::Said;
@@ -146,6 +151,7 @@ fn verdict_if(inside: bool, g: Option<LayoutState>) -> LayoutVerdict
 }
 
 // 14 and 15 come before 18.
+#[tactic(auto, using(crate::proofs::Judging::answers))]
 fn answer_of(inside: bool, marked: bool, j: Judged, line: SheetLine) -> SheetPass
     ensures { result ≡ answer_of inside marked j line.0 }
 {
@@ -153,29 +159,30 @@ fn answer_of(inside: bool, marked: bool, j: Judged, line: SheetLine) -> SheetPas
     let verdict = verdict_if(inside, g);
     let right = same(marked, inside);
     match verdict {
-        LayoutVerdict::Layout => SheetPass::Refused {
+        LayoutVerdict::Layout => Err(Refusal {
             fault: Fault::Layout,
             line,
-        },
-        LayoutVerdict::LayoutReference => SheetPass::Refused {
+        }),
+        LayoutVerdict::LayoutReference => Err(Refusal {
             fault: Fault::LayoutReference,
             line,
-        },
+        }),
         LayoutVerdict::Good => {
             if right {
                 if j.right {
-                    return SheetPass::Good;
+                    return Ok(());
                 }
             }
-            SheetPass::Refused {
+            Err(Refusal {
                 fault: Fault::Mark,
                 line,
-            }
+            })
         }
     }
 }
 
 // What a line says, at its place; its values stand from `from` on.
+#[tactic(auto, using(crate::proofs::Judging::entities))]
 fn entity_of(
     list: u64,
     classes: &[u8],
@@ -199,7 +206,7 @@ fn entity_of(
     } = said
     else {
         return Asked {
-            found: SheetPass::Good,
+            found: Ok(()),
             next: from,
             lines: 0,
         };
@@ -221,6 +228,7 @@ fn entity_of(
 }
 
 // Behind an entity with this refusal: what 10 refuses from `from` on comes first.
+#[tactic(auto, using(write_lines::proofs::Naming::firsts))]
 fn refused_later(
     classes: &[u8],
     n: usize,
@@ -234,14 +242,12 @@ fn refused_later(
     requires place_bound { place.0 ≤ from + 1 }
     ensures { result ≡ or_else (references_from (sheet_types t.now) t.now place.0 from) found }
 {
-    let named = references(classes, n, t, from, place);
-    match named {
-        SheetPass::Refused { fault, line } => SheetPass::Refused { fault, line },
-        SheetPass::Good => found,
-    }
+    references(classes, n, t, from, place)?;
+    found
 }
 
 // All 10, then each entity 14, 15, 18, of a sheet of n entries. Behind a refused entity only 10 is left to ask.
+#[tactic(auto, using(write_lines::proofs::Naming::naming))]
 pub fn named_rules(list: u64, classes: &[u8], n: usize, t: &[u8]) -> SheetPass
     requires { Tabled classes.now n t.now }
     ensures { result ≡ or_else (references_pass t.now) (entities_pass list t.now) }
@@ -252,29 +258,17 @@ pub fn named_rules(list: u64, classes: &[u8], n: usize, t: &[u8]) -> SheetPass
     while at < size {
         let end = end_of(t, at);
         if end == size {
-            return SheetPass::Good;
+            return Ok(());
         }
         let said = head_at(t, at, end);
-        let named = reference_of(classes, n, t, said, SheetLine(place));
-        match named {
-            SheetPass::Refused { fault, line } => {
-                return SheetPass::Refused { fault, line };
-            }
-            SheetPass::Good => {
-                let asked = entity_of(list, classes, n, t, end + 1, said, SheetLine(place));
-                let found = asked.found;
-                match found {
-                    SheetPass::Refused { fault, line } => {
-                        let first = SheetPass::Refused { fault, line };
-                        return refused_later(classes, n, t, end + 1, SheetLine(place + 1), first);
-                    }
-                    SheetPass::Good => {
-                        at = asked.next;
-                        place += 1 + asked.lines;
-                    }
-                }
-            }
+        reference_of(classes, n, t, said, SheetLine(place))?;
+        let asked = entity_of(list, classes, n, t, end + 1, said, SheetLine(place));
+        let found = asked.found;
+        if found.is_err() {
+            return refused_later(classes, n, t, end + 1, SheetLine(place + 1), found);
         }
+        at = asked.next;
+        place += 1 + asked.lines;
     }
-    SheetPass::Good
+    Ok(())
 }

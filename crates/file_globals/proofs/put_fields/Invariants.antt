@@ -10,12 +10,12 @@ use Rattle.file_blocks.specs.Blocks.{globals_first, behind_globals}
 use Rattle.file_blocks.specs.Writing.{parted}
 use Rattle.file_globals.proofs.put_fields.Given as goal
 
-abbrev pub invariant-loop-number : goal.invariant-loop-number
-invariant-loop-number l =
+abbrev pub invariant-loop-g : goal.invariant-loop-g
+invariant-loop-g l =
     (l.at ≤ l.next) × (l.next ≤ length l.t) × (length l.out ≡ length l.initial.out)
     × (behind_globals (lines_in (drop l.next l.t)) ≡ behind_globals (lines_in (drop l.at l.t)))
     × Owed l.base 72 l.initial.out l.p (parted 72 l.p (filled first_field (globals_first (lines_in (drop l.at l.t)))))
     l.out l.end (parted 72 l.end (filled l.n (globals_first (lines_in (drop l.next l.t)))))
 
-abbrev pub decreases-loop-number : goal.decreases-loop-number
-decreases-loop-number l = length l.t - l.next
+abbrev pub decreases-loop-g : goal.decreases-loop-g
+decreases-loop-g l = length l.t - l.next

@@ -31,17 +31,11 @@ strict_at-requires c = record {
   end_in_bounds = search rules;
 }
 
-pub enum_known-value : goal.enum_known-value
-enum_known-value c = search (rules)
-
 pub is_missing-requires : goal.is_missing-requires
 is_missing-requires c = search (rules)
 
 pub value_step-requires : goal.value_step-requires
 value_step-requires c = search (rules)
-
-pub enum_known-st : goal.enum_known-st
-enum_known-st c = search (rules)
 
 pub slice_bounds-behind_value-count : goal.slice_bounds-behind_value-count
 slice_bounds-behind_value-count c =
@@ -75,6 +69,7 @@ loop-next-preserved c =
       search rules,
       search rules,
       c.behind_value-at.ensures.upper_bound,
+<<<<<<< HEAD
       next-line _ _ (Given false c.in-Some.value) _ step c.in-On.is _ _ inv.4 (search rules),
       next-entries _ _ (Given false c.in-Some.value) _ step c.in-On.is inv.5,
       ahead-on _ _ _ _ c.in-Some.value line _ _ _ step c.in-On.is _ _ _ _ _ c.behind_value-at.ensures.value inv.6,
@@ -88,6 +83,15 @@ returns-in-Off c = search (rules)
 
 pub enum_told-in-None : goal.enum_told-in-None
 enum_told-in-None c = search (rules)
+=======
+      next-line _ _ (Given false c.in-Is.value) _ step c.in-Ok.is _ _ inv.4 (search rules),
+      next-entries _ _ (Given false c.in-Is.value) _ step c.in-Ok.is inv.5,
+      ahead-on _ _ _ _ c.in-Is.value line _ _ _ step c.in-Ok.is _ _ _ _ _ c.behind_value-at.ensures.value inv.6,
+    )
+
+pub returns-in-Err : goal.returns-in-Err
+returns-in-Err c = search (rules)
+>>>>>>> he2/he2
 
 pub returns-in-None : goal.returns-in-None
 returns-in-None c = search (rules)

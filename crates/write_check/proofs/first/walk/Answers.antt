@@ -58,9 +58,6 @@ tally_said-more-requires c = search (rules, line_short)
 pub step_line-requires : goal.step_line-requires
 step_line-requires c = search (rules, asking, laying, ordering)
 
-pub enum_known-next : goal.enum_known-next
-enum_known-next c = search (rules, asking, laying, ordering)
-
 pub overflow_add-end : goal.overflow_add-end
 overflow_add-end c = search (rules, c.end_of-end.ensures)
 
@@ -71,8 +68,8 @@ past_values-past-requires c =
     let end = c.end_of-end.ensures.lower_bound in
     record {
       from_in_bounds = behind c.args.t.now _ _ inv.3 end.1 c.if-end-n.false;
-      line_le_from = next-line _ _ said _ c.step_line.ensures c.in-On.is _ _ inv.0 end.0;
-      entries_le_line = next-entries _ _ said _ c.step_line.ensures c.in-On.is inv.1;
+      line_le_from = next-line _ _ said _ c.step_line.ensures c.in-Ok.is _ _ inv.0 end.0;
+      entries_le_line = next-entries _ _ said _ c.step_line.ensures c.in-Ok.is inv.1;
       p_bound = c.tally_said-more.ensures.under_2.at;
     }
 
@@ -110,9 +107,9 @@ loop-at-preserved c =
       omega (arith, past.from_le_next, lo, hi, c.keep-k.ensures.lower_bound, inv.4),
       wrote_length c.keep-k.ensures.wrote _ inv.5,
       ahead_go _ _ _ _ _ _ past.ahead _ (go_on _ t st at _ inv.6 inv.3 _ taken lo hi end.value c.step_line.result said.result more
-          said.ensures.value c.step_line.ensures _ c.in-On.is),
+          said.ensures.value c.step_line.ensures _ c.in-Ok.is),
       ahead-asked _ _ _ _ _ _ past.ahead global_rule row_rules c.rule_too-pass.result _
-          (next-asked st _ said.result c.step_line.result c.step_line.ensures c.in-On.is global_rule row_rules c.rule_too-pass.result _ _
+          (next-asked st _ said.result c.step_line.result c.step_line.ensures c.in-Ok.is global_rule row_rules c.rule_too-pass.result _ _
           (rules_said _ t at (st.line + 1) c.loop-at.pass inv.7 _ inv.3 _ taken lo hi end.value more said.result _ said.ensures.value
           c.rule_too-pass.ensures)),
       ahead-laid _ _ _ _ _ _ past.ahead _ _ _ (fill_said t at _ inv.3 _ taken lo hi end.value _ _ _ inv.8 more said.result
@@ -123,23 +120,20 @@ loop-at-preserved c =
           c.tally_said-more.ensures.value),
     )
 
-pub enum_known-line : goal.enum_known-line
-enum_known-line c = search (rules, asking, laying, ordering)
+pub told-requires-in-Err : goal.told-requires-in-Err
+told-requires-in-Err c = search rules
 
-pub told-requires-in-Off : goal.told-requires-in-Off
-told-requires-in-Off c = search rules
+pub shape_of-classes-in-Err : goal.shape_of-classes-in-Err
+shape_of-classes-in-Err c = wrote_length c.keep-k.ensures.wrote _ c.loop-at.invariant.5
 
-pub shape_of-classes-in-Off : goal.shape_of-classes-in-Off
-shape_of-classes-in-Off c = wrote_length c.keep-k.ensures.wrote _ c.loop-at.invariant.5
-
-pub returns-in-Off : goal.returns-in-Off
-returns-in-Off c =
+pub returns-in-Err : goal.returns-in-Err
+returns-in-Err c =
     let inv = c.loop-at.invariant in
     let said = c.line_at-said in
     let end = c.end_of-end.ensures in
-    rw c.told-in-Off.ensures (record {
+    rw c.told-in-Err.ensures (record {
       verdict_value = go_off _ c.args.t.now _ _ _ inv.6 inv.3 _ c.loop-at-test.true end.lower_bound.0 end.lower_bound.1 end.value
-          c.step_line.result said.result c.if-end-n.false said.ensures.value c.step_line.ensures _ c.in-Off.is;
+          c.step_line.result said.result c.if-end-n.false said.ensures.value c.step_line.ensures _ c.in-Err.is;
       if_good = if_wrong _;
       if_good_2 = if_wrong _;
       if_good_3 = if_wrong _;
