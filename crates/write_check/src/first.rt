@@ -67,13 +67,8 @@ fn past_values(t: &[u8], from: usize, begun: SheetState, p: usize) -> Past
         }
         let spelled = next + 2;
         match strict_at(t, spelled, end) {
-<<<<<<< HEAD
             Some(value) => match order::value_step(state, is_missing(value)) {
-                SheetStep::On(st) => {
-=======
-            Strict::Is(value) => match order::value_step(state, is_missing(value)) {
                 Ok(st) => {
->>>>>>> he2/he2
                     at = behind_value(at, &t[spelled..end], value);
                     state = st;
                     next = end + 1;

@@ -15,13 +15,8 @@ ghost use Rattle.write_entities.specs.Judging.{right_too, judged_so, judged, val
 ghost use Rattle.write_lines.specs.Passes.{references_from, references_pass, entities_pass};
 
 use crate::naming::named_for;
-<<<<<<< HEAD
-use columns::{Fault, SheetLine};
-use layouts::{LayoutState, LayoutVerdict};
-=======
 use columns::{Fault, Refusal, SheetLine};
-use layouts::{LayoutVerdict, Stepped};
->>>>>>> he2/he2
+use layouts::{LayoutState, LayoutVerdict};
 use layouts_lists::known;
 use read_entities::marks::{mark_of, marks_begun};
 use sheets::Said;

@@ -69,29 +69,13 @@ loop-next-preserved c =
       search rules,
       search rules,
       c.behind_value-at.ensures.upper_bound,
-<<<<<<< HEAD
-      next-line _ _ (Given false c.in-Some.value) _ step c.in-On.is _ _ inv.4 (search rules),
-      next-entries _ _ (Given false c.in-Some.value) _ step c.in-On.is inv.5,
-      ahead-on _ _ _ _ c.in-Some.value line _ _ _ step c.in-On.is _ _ _ _ _ c.behind_value-at.ensures.value inv.6,
-    )
-
-pub enum_told-1 : goal.enum_told-1
-enum_told-1 c = search (rules)
-
-pub returns-in-Off : goal.returns-in-Off
-returns-in-Off c = search (rules)
-
-pub enum_told-in-None : goal.enum_told-in-None
-enum_told-in-None c = search (rules)
-=======
-      next-line _ _ (Given false c.in-Is.value) _ step c.in-Ok.is _ _ inv.4 (search rules),
-      next-entries _ _ (Given false c.in-Is.value) _ step c.in-Ok.is inv.5,
-      ahead-on _ _ _ _ c.in-Is.value line _ _ _ step c.in-Ok.is _ _ _ _ _ c.behind_value-at.ensures.value inv.6,
+      next-line _ _ (Given false c.in-Some.value) _ step c.in-Ok.is _ _ inv.4 (search rules),
+      next-entries _ _ (Given false c.in-Some.value) _ step c.in-Ok.is inv.5,
+      ahead-on _ _ _ _ c.in-Some.value line _ _ _ step c.in-Ok.is _ _ _ _ _ c.behind_value-at.ensures.value inv.6,
     )
 
 pub returns-in-Err : goal.returns-in-Err
 returns-in-Err c = search (rules)
->>>>>>> he2/he2
 
 pub returns-in-None : goal.returns-in-None
 returns-in-None c = search (rules)
