@@ -1,16 +1,12 @@
 -- What is taken of a record keeps its limits; what is met in a record that is not refused ends behind its start. Assumes nothing.
 use mathlib.Core.Path.{◌≡◌, sym, ap, ◌∙◌}
-use mathlib.Core.Bool.{Bool, true}
 use mathlib.Core.List.{List}
 use Prim.Native.Nat.{ℕ, ◌*◌, ◌≤◌, ◌<◌}
 use native.Mathlib.Omega.{arith}
 use lib.ListN.{length}
 use Rattle.columns.specs.Columns.{text_of}
-use Rattle.values.specs.declared.Value.{Value}
-use Rattle.values.specs.declared.Value.TheVariants.{Default}
 use Rattle.std.specs.Prelude.{Ok, Err}
 use Rattle.records.specs.declared.Found.{Found}
-use Rattle.records.specs.declared.Misspelt.{Misspelt}
 use Rattle.records.specs.Record.{Got, value_at, values_at}
 use Rattle.records.specs.Reading.{Stands, Writable, Sane}
 use Rattle.records.proofs.Texts.{length-text}
@@ -31,16 +27,6 @@ taken-fits p m g h e = rw e (fits p m g h)
 pub ruleset taking = (taken_in, taken_at, taken-fits)
 
 -- ---- a value that is met
-
-abbrev met_as : Value → ℕ → Bool → Met
-met_as v next last = record { value = v; next = next; last = last }
-
-module _ {g : Got} where
-  pub met-found : {x : Found} → g ≡ Ok x → met_as x.value x.next x.last ≡ met_of g
-  met-found e = rw e
-
-  pub met_refused : {x : Misspelt} → g ≡ Err x → met_as Default x.at true ≡ met_of g
-  met_refused e = rw e
 
 pub met_same : (g got : Got) {x : Met} → x ≡ met_of g → g ≡ got → x ≡ met_of got
 met_same g got e h = e ∙ ap met_of h
@@ -76,4 +62,4 @@ found_sane p m h e =
     let k = rw e at h in
     (omega arith, omega arith, k.3)
 
-pub ruleset meeting = (met-found, met_refused, met_same, met_in, met-fits, met-more)
+pub ruleset meeting = (met_same, met_in, met-fits, met-more)

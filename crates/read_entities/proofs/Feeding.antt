@@ -3,12 +3,8 @@ use mathlib.Core.Path.{◌≡◌, refl, ap, ◌∙◌}
 use mathlib.Core.List.{List}
 use Prim.Native.Nat.{ℕ, ◌≤◌}
 use native.Mathlib.Omega.{arith}
-use Rattle.values.specs.declared.Value.{Value}
-use Rattle.values.specs.declared.Value.TheVariants.{Default}
 use Rattle.values.specs.Value.{item_of}
 use Rattle.std.specs.Prelude.{Ok, Err}
-use Rattle.records.specs.declared.Found.{Found}
-use Rattle.records.specs.declared.Misspelt.{Misspelt}
 use Rattle.records.specs.Record.{Got, behind}
 use Rattle.records.specs.Reading.{Sane}
 use Rattle.records.specs.Items.{got_item}
@@ -16,16 +12,6 @@ use Rattle.read_entities.specs.declared.Taken.{Taken}
 use Rattle.read_entities.specs.Taking.{taken_of}
 
 -- ---- a value taken
-
-abbrev with : Value → ℕ → Taken
-with v next = record { value = v; next = next }
-
-module _ {g : Got} where
-  pub taken-found : {x : Found} → g ≡ Ok x → with x.value x.next ≡ taken_of g
-  taken-found e = rw e
-
-  pub taken_refused : {x : Misspelt} → g ≡ Err x → with Default x.at ≡ taken_of g
-  taken_refused e = rw e
 
 pub taken_item : (t : List ℕ) (g : Got) → item_of t (taken_of g).value ≡ got_item t g
 taken_item t (Ok x) = refl
@@ -45,4 +31,4 @@ taken_in p m g h e = rw e (next_le p m g h)
 pub taken_at : (g got : Got) {x : Taken} → x ≡ taken_of g → g ≡ got → x ≡ taken_of got
 taken_at g got e h = e ∙ ap taken_of h
 
-pub ruleset feeding = (taken-found, taken_refused, taken_in, taken_at)
+pub ruleset feeding = (taken_in, taken_at)

@@ -13,8 +13,8 @@ use Rattle.columns.specs.Refusal.{accepted}
 use Rattle.columns.proofs.Writes.{wrote_same, wrote_length}
 use Rattle.cards.specs.declared.Counts.{Counts}
 use Rattle.cards.specs.Cards.{first_d, first_p, entries, parameter_line}
+use Rattle.std.specs.Prelude.{Option, Some, None}
 use Rattle.records.specs.declared.Opening.{Opening}
-use Rattle.records.specs.declared.Opening.TheVariants.{Opened, Wrong}
 use Rattle.records.specs.Record.{values_at}
 use Rattle.records.specs.Global.{first_field, opening_of}
 use Rattle.records.specs.Reading.{Stands, Delimits}
@@ -89,8 +89,8 @@ module _ (list : ℕ) (f : List ℕ) (c : Counts) (p d : ℕ) (h : Good c p d �
   pub opening_stands : (s g : ℕ) → s ≡ c.s → g ≡ c.g → Stands f (81 * s) 72 g
   opening_stands s g es eg = record { wide = omega arith; narrow = omega arith; size = file_small; inside = omega (arith, ready.holds.size) }
 
-  pub opening-within : (g : ℕ) (o : Opening) (x y next : ℕ) (last : Bool) → g ≡ c.g → Delimits 8 o → o ≡ Opened x y next last → next ≤ g * 72
-  opening-within g o x y next last eg k e = omega (arith, opening_in 8 e k, ready.holds.has_g)
+  pub opening-within : (g : ℕ) (v : Option Opening) (o : Opening) → g ≡ c.g → Delimits 8 v → v ≡ Some o → o.next ≤ g * 72
+  opening-within g v o eg k e = omega (arith, opening_in 8 e k, ready.holds.has_g)
 
   pub parameter_some : 0 < p
   parameter_some = checked_parameter list f (Good c p d) h c p d refl
@@ -109,18 +109,19 @@ module _ (list : ℕ) (f : List ℕ) (c : Counts) (p d : ℕ) (h : Good c p d �
 
   -- ---- what is printed
 
-  module _ (s g : ℕ) (es : s ≡ c.s) (eg : g ≡ c.g) (o : Opening) (eo : o ≡ opening_of (text_of f (81 * s) 72 g)) where
-    opening-is : opening_of (global_text f c) ≡ o
+  module _ (s g : ℕ) (es : s ≡ c.s) (eg : g ≡ c.g) (v : Option Opening) (eo : v ≡ opening_of (text_of f (81 * s) 72 g)) where
+    opening-is : opening_of (global_text f c) ≡ v
     opening-is = sym (eo ∙ ap₂ (λ (a b : ℕ). opening_of (text_of f (81 * a) 72 b)) es eg)
 
     -- a wrong opening was refused
-    pub opening_never : (u : List ℕ) (bs : List ℕ) → o ≡ Wrong → Wrote u 0 bs u 0
+    pub opening_never : (u : List ℕ) (bs : List ℕ) → v ≡ None → Wrote u 0 bs u 0
     opening_never u bs e = absurd (opening_right f c said globals_are (opening-is ∙ e))
 
-    whole_is : (b q x y next : ℕ) (last : Bool) → b ≡ c.d → q ≡ parameter_line c 1 → o ≡ Opened x y next last → whole_bytes list f s g (b / 2) q p d next last ≡ sheet_in list f
-    whole_is b q x y next last eb eq e =
+    whole_is : (b q : ℕ) (o : Opening) → b ≡ c.d → q ≡ parameter_line c 1 → v ≡ Some o → whole_bytes list f s g (b / 2) q p d o.next o.last ≡ sheet_in list f
+    whole_is b q o eb eq e =
+        let (next, last) : ℕ × Bool = (o.next, o.last) in
         let t : List ℕ = global_text f c in
-        let a = opened-read f c x y next last said (opening-is ∙ e) globals_are in
+        let a = opened-read f c o said (opening-is ∙ e) globals_are in
         let fields : field_bytes said.parameter said.record_end t next last ≡ global_bytes said.fields = ap₂ (λ (i j : ℕ). field_bytes i j t next last) a.0 a.1 ∙ a.2 in
         let passes : last_pass list f c said (all_entries f c) ≡ accepted carry
         = last_any list f c p d said (all_entries f c) model.told.parameter model.told.closing ∙ model.passes in
@@ -130,13 +131,13 @@ module _ (list : ℕ) (f : List ℕ) (c : Counts) (p d : ℕ) (h : Good c p d �
         = whole_same list f next last es eg (ap (λ (j : ℕ). j / 2) eb) (omega arith) (sym model.told.parameter) (sym model.told.closing) in
         same ∙ whole_sheet list f c said (all_entries f c) carry next last (good_entries f c ready.spelt) passes room fields ∙ sym sheet-is
 
-    pub sheet_whole : (b q x y next : ℕ) (last : Bool) (u v : List ℕ) (at r : ℕ) → b ≡ c.d → q ≡ parameter_line c 1 → o ≡ Opened x y next last
-        → Wrote u at (whole_bytes list f s g (b / 2) q p d next last) v r → Wrote u at (sheet_in list f) v r
-    sheet_whole b q x y next last u v at r eb eq e w = wrote_same w (whole_is b q x y next last eb eq e)
+    pub sheet_whole : (b q : ℕ) (o : Opening) (u u' : List ℕ) (at r : ℕ) → b ≡ c.d → q ≡ parameter_line c 1 → v ≡ Some o
+        → Wrote u at (whole_bytes list f s g (b / 2) q p d o.next o.last) u' r → Wrote u at (sheet_in list f) u' r
+    sheet_whole b q o u u' at r eb eq e w = wrote_same w (whole_is b q o eb eq e)
 
     -- ---- how long it is
 
-    pub measured_never : (k : ℕ) → o ≡ Wrong → 0 ≡ k
+    pub measured_never : (k : ℕ) → v ≡ None → 0 ≡ k
     measured_never k e = absurd (opening_right f c said globals_are (opening-is ∙ e))
 
     whole_length : (next : ℕ) (last : Bool) → length (whole_bytes list f s g (entries c) (first_p c) p d next last)
@@ -144,11 +145,11 @@ module _ (list : ℕ) (f : List ℕ) (c : Counts) (p d : ℕ) (h : Good c p d �
     unfolding whole_bytes rows_from
     whole_length next last = rw (es, eg) (simp length-append (omega arith))
 
-    pub measured : (x y next : ℕ) (last : Bool) (a k n : ℕ) {u v : List ℕ} → o ≡ Opened x y next last → Wrote u 0 (start_bytes (map (start_text f) (up_from 0 s))) v a
-        → k ≡ length (field_bytes p d (text_of f (81 * s) 72 g) next last) → n ≡ rows_length list f c p d → a + k + n ≡ length (sheet_in list f)
-    measured x y next last a k n e w ek en =
-        let t : length (whole_bytes list f s g (entries c) (first_p c) p d next last) ≡ length (sheet_in list f) = ap length (whole_is c.d (first_p c) x y next last refl (omega arith) e) in
-        omega (arith, whole_length next last, w.next)
+    pub measured : (o : Opening) (a k n : ℕ) {u u' : List ℕ} → v ≡ Some o → Wrote u 0 (start_bytes (map (start_text f) (up_from 0 s))) u' a
+        → k ≡ length (field_bytes p d (text_of f (81 * s) 72 g) o.next o.last) → n ≡ rows_length list f c p d → a + k + n ≡ length (sheet_in list f)
+    measured o a k n e w ek en =
+        let t : length (whole_bytes list f s g (entries c) (first_p c) p d o.next o.last) ≡ length (sheet_in list f) = ap length (whole_is c.d (first_p c) o refl (omega arith) e) in
+        omega (arith, whole_length o.next o.last, w.next)
 
   module _ (s g : ℕ) (es : s ≡ c.s) (eg : g ≡ c.g) where
     pub starts-inside : 81 * s ≤ length f

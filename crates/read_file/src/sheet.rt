@@ -32,7 +32,7 @@ pub fn put_file(
     let n = wide(c.d) / 2;
     let first = cards::parameter_line(c, ParameterLine(1));
     let opening = records_global::opening_of(file, LINE_BYTES * s, g);
-    let Opening::Opened { next, last, .. } = opening else {
+    let Some(Opening { next, last, .. }) = opening else {
         return 0;
     };
     print_sheet::put_sheet(
@@ -75,7 +75,7 @@ pub fn measure(list: u64, file: &[u8], c: Counts, parameter: u8, closing: u8, ro
     let g = wide(c.g);
     let base = LINE_BYTES * s;
     let opening = records_global::opening_of(file, base, g);
-    let Opening::Opened { next, last, .. } = opening else {
+    let Some(Opening { next, last, .. }) = opening else {
         return 0;
     };
     let mut none = [0u8; 1];

@@ -1,64 +1,37 @@
 -- What the functions that read go by, one law for each need. Assumes nothing.
 use mathlib.Core.Path.{◌≡◌, refl, sym, ap, ◌∙◌}
-use mathlib.Core.Bool.{Bool, true, false, cond}
+use mathlib.Core.Bool.{Bool, true, false}
 use mathlib.Core.List.{List, []}
-use Prim.Native.Nat.{ℕ, suc, ◌+◌, ◌-◌, ◌*◌, ◌/◌, ◌%◌, ◌^◌, ◌≤◌, ◌<◌}
+use Prim.Native.Nat.{ℕ, suc, ◌+◌, ◌-◌, ◌*◌, ◌/◌, ◌%◌, ◌≤◌, ◌<◌}
 use native.Mathlib.Nat.{add-zero}
 use native.Mathlib.Numerals.{add-one}
 use native.Mathlib.Omega.{arith}
 use lib.ListN.{length, get_or, drop, take, length-take, drop_of_length-le}
 use lib.Seq.{drop-cons, take-nil}
-use lib.Dec.{leb, eqb}
-use borrow.Author.Tests.{eq-eqb, ne_eqb, le-leb, lt-leb, leb-true, leb-false}
+use lib.Dec.{leb}
+use borrow.Author.Tests.{ne_eqb, le-leb, lt-leb, leb-true, leb-false}
 use Rattle.values.specs.declared.Token.{Token}
-use Rattle.values.specs.declared.Number.{Number}
-use Rattle.values.specs.declared.Number.TheVariants.{Whole as WholeOf, Real as RealOf, Beyond, Bad}
+use Rattle.values.specs.declared.Number.TheVariants.{Bad}
 use Rattle.values.specs.Head.{head_of}
 use Rattle.values.specs.Number.{number_of}
 use Rattle.values.specs.Reading.{Within}
-use Rattle.values.proofs.Heads.{count_few, count_in_lem, plain_in}
-use Rattle.columns.specs.declared.Fault.TheVariants.{Spelling, Limit}
-use Rattle.values.specs.declared.Value.{Value}
-use Rattle.values.specs.declared.Value.TheVariants.{Default, Whole, Real, Text}
+use Rattle.columns.specs.declared.Fault.TheVariants.{Spelling}
+use Rattle.values.specs.declared.Value.TheVariants.{Default, Text}
 use Rattle.values.specs.declared.Head.{Head}
 use Rattle.values.specs.declared.Head.TheVariants.{Count, Plain}
 use Rattle.records.specs.declared.Next.{Next}
 use Rattle.records.specs.declared.Next.TheVariants.{Delimiter, Other}
 use Rattle.columns.specs.Columns.{text_of}
-use Rattle.records.specs.Reading.{Stands, place, Sane}
-use Rattle.records.specs.Record.{Got, found_at, refused_at, blanks, mark, next_at, found, beyond, plain, headed, by_next, value_at}
+use Rattle.records.specs.Reading.{Stands, Sane}
+use Rattle.records.specs.Record.{Got, found_at, refused_at, blanks, mark, next_at, found, headed, by_next, value_at}
 use Rattle.records.proofs.Bounds.{within, sane}
-use Rattle.records.proofs.Texts.{length-text, small, column, index, char_of, char_end, rest_of, rest_in}
+use Rattle.records.proofs.Texts.{length-text, char_of, char_end, rest_of, rest_in}
 
 module _ {file : List ℕ} {base w lines : ℕ} (st : Stands file base w lines) where
-  pub product_fits : lines * w < 2 ^ 64
-  product_fits = omega (arith, small file base w lines st)
-
   module _ {p : ℕ} (h : p < lines * w) where
-    pub turn_fits : p + 1 < 2 ^ 64
-    turn_fits = omega (arith, small file base w lines st)
-
-    pub index_fits : base + p / w * 81 + p % w < 2 ^ 64
-    index_fits = omega (arith, index file base w lines st p h)
-
     module _ {i : ℕ} (e : i ≡ base + p / w * 81 + p % w) where
-      pub index_in : i < length file
-      index_in = omega (arith, index file base w lines st p h, column file base w lines st p h)
-
       pub char_in : get_or file i 0 ≡ get_or (text_of file base w lines) p 0
       char_in = ap (λ (n : ℕ). get_or file n 0) e ∙ sym (char_of file base w lines st p h)
-
-    -- the rest of its line
-    module _ {j : ℕ} (ej : j ≡ p % w) where
-      pub column_in : j ≤ w
-      column_in = omega (arith, column file base w lines st p h)
-
-      module _ {a : ℕ} (ea : a ≡ base + p / w * 81 + p % w) where
-        pub end_fits : a + (w - j) < 2 ^ 64
-        end_fits = omega (arith, index file base w lines st p h)
-
-        pub end_in : a + (w - j) ≤ length file
-        end_in = omega (arith, index file base w lines st p h)
 
   pub char_out : {p : ℕ} → lines * w ≤ p → 0 ≡ get_or (text_of file base w lines) p 0
   char_out {p} h = sym (char_end file base w lines st p h)
@@ -105,31 +78,10 @@ module _ {file : List ℕ} {base w lines : ℕ} (st : Stands file base w lines) 
         pick true e = absurd (omega (arith, g, n, char_end file base w lines st p (leb-true (lines * w) p e)))
         pick false e = leb-false (lines * w) p e
 
-    pub blank-fits : x ≡ 32 → p + 1 < 2 ^ 64
-    blank-fits n = turn_fits (blank_in n)
-
     pub blank_turn : x ≡ 32 → p + 1 ≤ lines * w
     blank_turn n = omega (arith, blank_in n)
 
--- ---- marks
-
-module _ (c d x q : ℕ) where
-  pub mark-part : x ≡ c → Delimiter q false ≡ mark c d x q
-  mark-part e = simp (eq-eqb x c e)
-
-  pub mark-end : (x ≡ c → ⊥) → x ≡ d → Delimiter q true ≡ mark c d x q
-  mark-end n e = simp (ne_eqb x c n, eq-eqb x d e)
-
-  pub mark-other : (x ≡ c → ⊥) → (x ≡ d → ⊥) → Other q ≡ mark c d x q
-  mark-other n m = simp (ne_eqb x c n, ne_eqb x d m)
-
-  place-mark : place (mark c d x q) ≡ q
-  place-mark = pick (eqb x c) (eqb x d)
-    where
-      pick : (a b : Bool) → place (cond a (Delimiter q false) (cond b (Delimiter q true) (Other q))) ≡ q
-      pick true b = refl
-      pick false true = refl
-      pick false false = refl
+-- ---- what stands behind the blanks
 
 next-parts : (c d x q : ℕ) (t : List ℕ) (p : ℕ) {n : Next} → n ≡ mark c d x q → x ≡ get_or t q 0 → q ≡ p + blanks (drop p t) → n ≡ next_at c d t p
 unfolding next_at
@@ -145,41 +97,6 @@ module _ {file : List ℕ} {base w lines : ℕ} (st : Stands file base w lines) 
   next-on {y = y} {q = q} k eq ey en =
       let t = text_of file base w lines in
       next-parts c d y q t p en ey (eq ∙ sym (skip_blank st p (p + blanks (drop p t)) refl g k (blank_in st p g k)))
-
-pub next_place : (c d x q : ℕ) {m : ℕ} {n : Next} → n ≡ mark c d x q → q ≤ m → place n ≤ m
-next_place c d x q en h = rw (en, place-mark c d x q) h
-
--- ---- what is found
-
-module _ (v : Value) (s : ℕ) (n : Next) where
-  pub found_some : {at : ℕ} {last : Bool} → n ≡ Delimiter at last → found_at v s (at + 1) last ≡ found v s n
-  found_some e = rw e
-
-  pub found_none : {at : ℕ} → n ≡ Other at → refused_at Spelling s at ≡ found v s n
-  found_none e = rw e
-
-module _ (s : ℕ) (n : Next) where
-  pub beyond_some : {at : ℕ} {last : Bool} → n ≡ Delimiter at last → refused_at Limit s at ≡ beyond s n
-  beyond_some e = rw e
-
-  pub beyond-none : {at : ℕ} → n ≡ Other at → refused_at Spelling s at ≡ beyond s n
-  beyond-none e = rw e
-
-pub place-fits : {n : Next} {at : ℕ} {last : Bool} → n ≡ Delimiter at last → place n ≤ 16000000 → at + 1 < 2 ^ 64
-place-fits e h = omega (arith, rw e at h)
-
-module _ (s end : ℕ) (n : Next) {k : Number} {r : Got} where
-  pub plain_whole : {neg : Bool} {size : ℕ} → k ≡ WholeOf neg size → r ≡ found (Whole neg size) s n → r ≡ plain s end n k
-  plain_whole e q = q ∙ rw e
-
-  pub plain_real : {neg : Bool} {m : ℕ} {eneg : Bool} {x : ℕ} {double : Bool} → k ≡ RealOf neg m eneg x double → r ≡ found (Real neg m eneg x double) s n → r ≡ plain s end n k
-  plain_real e q = q ∙ rw e
-
-  pub plain-beyond : k ≡ Beyond → r ≡ beyond s n → r ≡ plain s end n k
-  plain-beyond e q = q ∙ rw e
-
-pub plain_bad : (s end : ℕ) (n : Next) {k : Number} → k ≡ Bad → refused_at Spelling s end ≡ plain s end n k
-plain_bad s end n e = rw e
 
 -- ---- heads
 
@@ -199,9 +116,6 @@ module _ {file : List ℕ} {base w lines : ℕ} (st : Stands file base w lines) 
       rw e (within _ (lines * w - p) m)
 
   module _ {count len : ℕ} (eh : h ≡ Count count len) where
-    pub count-within : Within (lines * w - p) (Count count len)
-    count-within = rw eh at within-here
-
     pub given-count : {r : Got} (c d : ℕ) → r ≡ headed c d (text_of file base w lines) p (Count count len) → r ≡ by_next w c d (text_of file base w lines) (Other p)
     given-count c d q = q ∙ ap (headed c d (text_of file base w lines) p) (sym eh ∙ head-here)
 
@@ -227,18 +141,6 @@ given-none {file} {base} {w} {lines} st c d s l =
 -- ---- put together
 
 module _ {file : List ℕ} {base w lines : ℕ} (st : Stands file base w lines) where
-  pub place_small : (n : Next) → place n ≤ lines * w → place n ≤ 16000000
-  place_small n h = omega (arith, small file base w lines st)
-
-  pub place_in : {n : Next} {at : ℕ} {last : Bool} → n ≡ Delimiter at last → place n ≤ lines * w → at + 1 < 2 ^ 64
-  place_in e h = omega (arith, small file base w lines st, rw e at h)
-
-  pub sum_fits : (s a : ℕ) → s ≤ lines * w → a ≤ lines * w - s → s + a < 2 ^ 64
-  sum_fits s a h k = omega (arith, small file base w lines st)
-
-  pub end_of_count : (s a n : ℕ) → s ≤ lines * w → a ≤ lines * w - s → n ≤ 999 → s + a + n < 2 ^ 64
-  end_of_count s a n h k l = omega (arith, small file base w lines st)
-
   module _ (c d s : ℕ) where
     pub count_short : (count len : ℕ) → lines * w < s + len + count → refused_at Spelling s (lines * w) ≡ headed c d (text_of file base w lines) s (Count count len)
     count_short count len h = rw (length-text file base w lines st) (simp (lt-leb (s + len + count) (lines * w) h))
@@ -246,15 +148,6 @@ module _ {file : List ℕ} {base w lines : ℕ} (st : Stands file base w lines) 
     pub count_long : (count len : ℕ) {n : Next} {r : Got} → s + len + count ≤ lines * w → n ≡ next_at c d (text_of file base w lines) (s + len + count) → r ≡ found (Text (s + len) count) s n
         → r ≡ headed c d (text_of file base w lines) s (Count count len)
     count_long count len h en er = er ∙ rw (length-text file base w lines st, en) (simp (le-leb (s + len + count) (lines * w) h))
-
-pub sum_in : (s a m : ℕ) → s ≤ m → a ≤ m - s → s + a ≤ m
-sum_in s a m h k = omega arith
-
-pub plain-parts : (c d s : ℕ) (t : List ℕ) (k : Token) {n : Next} {r : Got} → n ≡ next_at c d t (s + k.len) → r ≡ plain s (s + k.len) n k.number → r ≡ headed c d t s (Plain k)
-plain-parts c d s t k en er = er ∙ rw en
-
-pub other_in : (m : ℕ) {n : Next} {at : ℕ} → n ≡ Other at → place n ≤ m → at ≤ m
-other_in m e h = rw e at h
 
 module _ (w c d p : ℕ) (t : List ℕ) {n : Next} (en : n ≡ next_at c d t p) where
   pub value_default : {at : ℕ} {last : Bool} → n ≡ Delimiter at last → found_at Default at (at + 1) last ≡ value_at w c d t p
@@ -280,6 +173,6 @@ module _ {file : List ℕ} {base w lines : ℕ} (st : Stands file base w lines) 
     pub sane_given : {at : ℕ} {r : Got} → n ≡ Other at → r ≡ by_next w c d (text_of file base w lines) (Other at) → Sane p (lines * w) r
     sane_given e q = value_sane (value-given w c d p (text_of file base w lines) en e q)
 
-pub ruleset ends_laws = (product_fits, place_small, place_in, sum_fits, end_of_count, count_short, count_long, sum_in, plain-parts, given-none, given-count, given-plain, count-within, plain-within, index_fits, column_in, end_fits, end_in, count_few, count_in_lem, plain_in, other_in, value_default, value-given, sane_default, sane_given)
+pub ruleset ends_laws = (count_short, count_long, given-none, given-count, given-plain, plain-within, value_default, value-given, sane_default, sane_given)
 
-pub ruleset laws = (product_fits, turn_fits, index_fits, index_in, char_in, char_out, skip_ink, skip_blank, skip_all, blank-fits, blank_turn, mark-part, mark-end, mark-other, next_here, next-on, next_place, found_some, found_none, beyond_some, beyond-none, place-fits, plain_whole, plain_real, plain-beyond, plain_bad)
+pub ruleset laws = (char_in, char_out, blank_turn, next_here, next-on)

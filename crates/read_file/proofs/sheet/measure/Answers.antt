@@ -18,9 +18,6 @@ opening_of-opening-requires c = search (rules, measures)
 pub enum_known-opening : goal.enum_known-opening
 enum_known-opening c = search (rules, measures)
 
-pub enum_told-1 : goal.enum_told-1
-enum_told-1 c = search (rules, measures)
-
 pub returns-in_default : goal.returns-in_default
 returns-in_default c = search (rules, measures)
 
