@@ -38,17 +38,19 @@ run_default : (types : List ℕ) (g : Option LayoutState) (n : ℕ) → run type
 unfolding run
 run_default types g n = ap (λ (x : Option LayoutState). run types x (replicate n default)) (sym (feed-stepped types [] g Default))
 
-module _ (types : List ℕ) (g : Option LayoutState) (left : ℕ) {f : Option LayoutState} (inv : run types g (replicate left default) ≡ f) where
-  pub defaults_none : left ≤ 0 → g ≡ f
+-- behind i of them
+module _ (types : List ℕ) (g : Option LayoutState) (owed i : ℕ) {f : Option LayoutState} (inv : run types g (replicate (owed - i) default) ≡ f) where
+  pub defaults_none : owed ≤ i → g ≡ f
   unfolding run
   defaults_none h =
-      let z : left ≡ 0 = omega arith in
+      let z : owed - i ≡ 0 = omega arith in
       rw z at inv
 
-  pub defaults_more : {u : Option LayoutState} → 0 < left → u ≡ stepped types g Default → run types u (replicate (left - 1) default) ≡ f
+  pub defaults_more : {u : Option LayoutState} → i < owed → u ≡ stepped types g Default → run types u (replicate (owed - (i + 1)) default) ≡ f
   defaults_more {u} h e =
-      let z : suc (left - 1) ≡ left = omega arith in
-      ap (λ (x : Option LayoutState). run types x (replicate (left - 1) default)) e ∙ run_default types g (left - 1) ∙ ap (λ (k : ℕ). run types g (replicate k default)) z ∙ inv
+      let left : ℕ = owed - (i + 1) in
+      let z : suc left ≡ owed - i = omega arith in
+      ap (λ (x : Option LayoutState). run types x (replicate left default)) e ∙ run_default types g left ∙ ap (λ (k : ℕ). run types g (replicate k default)) z ∙ inv
 
 pub ruleset defaults = (defaults_none, defaults_more)
 
