@@ -39,13 +39,11 @@ fn put_owed(
     ensures { GivenPut file.now base lines first n g owed v out.old at out.new result }
 {
     let mut s = g;
-    let mut left = owed;
     let mut next = at;
-    while 0 < left {
+    for _behind in 0..owed {
         let reference = mark_of(s);
         next = put_value_line(out, next, file, base, lines, reference, Value::Default);
         s = mark_step(file, first, n, s, Value::Default);
-        left -= 1;
     }
     let reference = mark_of(s);
     let end = put_value_line(out, next, file, base, lines, reference, v);

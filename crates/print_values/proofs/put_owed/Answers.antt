@@ -1,30 +1,21 @@
-use borrow.Author.Rules.{rules}
-use Rattle.print.proofs.Valued.{owed}
+use Rattle.std.proofs.Common.{◌≡◌, ◌+◌, ◌-◌, ◌≤◌, rules, arith}
+use Rattle.columns.proofs.Writes.{wrote_length}
+use Rattle.print.proofs.Valued.{owed, owed_more, owed_last, owed_steps, owed_stepped}
 use Rattle.print_values.proofs.put_owed.Goals as goal
 
-pub loop-left-init : goal.loop-left-init
-loop-left-init c = search (rules, owed)
-
-pub mark_of-reference-requires : goal.mark_of-reference-requires
-mark_of-reference-requires c = search (rules, owed)
+pub loop-behind-init : goal.loop-behind-init
+loop-behind-init c = search (rules, owed)
 
 pub put_value_line-next-requires : goal.put_value_line-next-requires
 put_value_line-next-requires c = search (rules, owed)
 
-pub mark_step-s-requires : goal.mark_step-s-requires
-mark_step-s-requires c = search (rules, owed)
-
-pub overflow_sub-left : goal.overflow_sub-left
-overflow_sub-left c = search (rules, owed)
-
-pub loop-left-smaller : goal.loop-left-smaller
-loop-left-smaller c = search (rules, owed)
-
-pub loop-left-preserved : goal.loop-left-preserved
-loop-left-preserved c = search (rules, owed)
-
-pub mark_of-reference-requires-2 : goal.mark_of-reference-requires-2
-mark_of-reference-requires-2 c = search (rules, owed)
+pub loop-behind-preserved : goal.loop-behind-preserved
+loop-behind-preserved c =
+    let inv = c.loop-behind.invariant in
+    let m : c.args.owed - c.loop-behind._behind - 1 ≡ c.args.owed - (c.loop-behind._behind + 1) = omega arith in
+    let steps = owed_steps _ _ _ _ _ (c.args.owed - c.loop-behind._behind) inv.2 (omega (arith, c.loop-behind-test.true)) c.mark_step-s.ensures in
+    let lines = owed_more _ _ _ _ (c.args.owed - c.loop-behind._behind) inv.3 (omega (arith, c.loop-behind-test.true)) c.mark_of-reference.ensures c.mark_step-s.ensures c.put_value_line-next.ensures.wrote in
+    (search (rules, owed), search (rules, wrote_length), rw m at steps, rw m at lines)
 
 pub put_value_line-end-requires : goal.put_value_line-end-requires
 put_value_line-end-requires c = record {
@@ -33,11 +24,15 @@ put_value_line-end-requires c = record {
   at_bound = search (rules, owed);
 }
 
-pub mark_step-marks-requires : goal.mark_step-marks-requires
-mark_step-marks-requires c = search (rules, owed)
-
 pub shape_of-out : goal.shape_of-out
 shape_of-out c = search (rules, owed)
 
 pub returns : goal.returns
-returns c = record { laid = search (rules, owed); marks = search (rules, owed); near = search (rules, owed) }
+returns c =
+    let inv = c.loop-behind.invariant in
+    let none : c.args.owed - c.loop-behind._behind ≤ 0 = let q : c.args.owed ≤ c.loop-behind._behind = search rules in omega (arith, q) in
+    record {
+      laid = owed_last _ _ _ _ (c.args.owed - c.loop-behind._behind) inv.3 none c.mark_of-reference-2.ensures c.put_value_line-end.ensures.wrote;
+      marks = owed_stepped _ _ _ _ _ (c.args.owed - c.loop-behind._behind) inv.2 none c.mark_step-marks.ensures;
+      near = search (rules, owed);
+    }
