@@ -8,7 +8,7 @@ use lib.Dec.{leb, eqb}
 use lib.ListN.{length, get_or, drop, take}
 use Rattle.std.proofs.Common.{Err, Ok}
 use Rattle.columns.specs.declared.Fault.{Fault}
-use Rattle.columns.specs.declared.Fault.TheVariants.{Byte, Sequence, Terminate, ListOrLength, Spelling, Global, Directory, Macro, Reference, FirstValue, Mark, TooLong}
+use Rattle.columns.specs.declared.Fault.TheVariants.{Byte, Sequence, Terminate, ListOrLength, Spelling, Global, Directory, Macro, Reference, FirstValue, Mark, TooLong, Layout, LayoutReference}
 use Rattle.columns.specs.Refusal.{Outcome, accepted, refused, number, demand, each_at, ◌then◌}
 use Rattle.values.specs.declared.Number.{Number}
 use Rattle.values.specs.declared.Number.TheVariants.{Whole as WholeNumber, Real as RealNumber, Beyond, Bad}
@@ -45,8 +45,7 @@ use Rattle.directory.specs.Rules.{ranges_ok, all_fit, references, entry_rules, r
 use Rattle.owners.specs.declared.Owned.{Owned}
 use Rattle.owners.specs.declared.Owned.TheVariants.{Everyone, Entry, Line}
 use Rattle.owners.specs.InFile.{owners_in, outcome as ownership_outcome}
-use Rattle.layouts.specs.declared.LayoutVerdict.{LayoutVerdict}
-use Rattle.layouts.specs.declared.LayoutVerdict.TheVariants.{Good, Layout, LayoutReference}
+use Rattle.std.specs.Prelude.{Ok, Err}
 use Rattle.layouts.specs.Known.{known}
 use Rattle.layouts.specs.Entities.{Entity, fault, verdict, entity_check}
 use Rattle.sheets.specs.Sheet.{Sheet, lines_in, sheet_of}
@@ -232,14 +231,14 @@ owners_not c (Entry m) = λ e. omega arith
 owners_not c (Line k) = λ e. omega arith
 
 check_not : (list : ℕ) (types : List ℕ) (e : Entity) (place : ℕ) → NotRoom (entity_check list types e place)
-unfolding entity_check
-check_not list types e place = pick (known list e.typ e.form) (verdict types e)
+unfolding entity_check verdict
+check_not list types e place = pick (known list e.typ e.form) (everywhere suits (asked e) e.values) (everywhere (refers_well types) (asked e) e.values)
   where
-    pick : (b : Bool) (v : LayoutVerdict) → NotRoom (cond b (fault v place) (accepted tt))
-    pick true Good = tt
-    pick true Layout = λ e. omega arith
-    pick true LayoutReference = λ e. omega arith
-    pick false v = tt
+    pick : (b suit refer : Bool) → NotRoom (cond b (fault (cond suit (cond refer (Ok tt) (Err LayoutReference)) (Err Layout)) place) (accepted tt))
+    pick true true true = tt
+    pick true true false = λ e. omega arith
+    pick true false refer = λ e. omega arith
+    pick false suit refer = tt
 
 entity-not : (list : ℕ) (f : List ℕ) (c : Counts) (g : GlobalRead) (types : List ℕ) (place : ℕ) (e : Listed) → NotRoom (entity_in list f c g types place e)
 unfolding entity_in values_at

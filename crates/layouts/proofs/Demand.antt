@@ -10,15 +10,16 @@ use lib.Dec.{ltb, eqb, lit<}
 use lib.ListN.{length}
 use borrow.Author.Tests.{ltb-true, ltb-false}
 use Rattle.columns.specs.declared.Fault.{Fault}
-use Rattle.columns.specs.declared.Fault.TheVariants.{Layout as LayoutFault, LayoutReference as LayoutReferenceFault}
+use Rattle.columns.specs.declared.Fault.TheVariants.{Layout, LayoutReference}
 use Rattle.columns.specs.Refusal.{Outcome, accepted, refused, ◌then◌}
 use Rattle.columns.specs.Format.{most_list}
 use Rattle.columns.proofs.Stops.{Stops, here, later, not_both}
-use Rattle.layouts.specs.declared.LayoutVerdict.{LayoutVerdict}
-use Rattle.layouts.specs.declared.LayoutVerdict.TheVariants.{Good, Layout, LayoutReference}
+use Rattle.std.specs.Prelude.{Ok, Err}
+use Rattle.layouts.specs.Verdict.{Verdict}
 use Rattle.layouts.specs.Layout.{paper, bit_of}
 use Rattle.layouts.specs.Known.{bit, known, Inside}
-use Rattle.layouts.specs.Entities.{Entity, fault, verdict, marks, entity_check}
+use Rattle.layouts.specs.Fits.{suits, refers_well, asked}
+use Rattle.layouts.specs.Entities.{Entity, fault, verdict, marks, entity_check, everywhere}
 use Rattle.layouts.proofs.Tables.{up_to_at}
 use Rattle.layouts.specs.Larger.{Late}
 
@@ -107,25 +108,25 @@ module _ {E A B : Type 0} (takes : E → ℕ) (f : ℕ → E → Outcome A) (g :
 -- ---- the last pass under two lists
 
 module _ (types : List ℕ) (list more : ℕ) (inside : Inside list more) where
-  fault_late : (v : LayoutVerdict) (p : ℕ) → Added (accepted (tt {0})) (fault v p)
-  fault_late Good p = fine tt tt
-  fault_late Layout p = added tt LayoutFault p (inl refl)
-  fault_late LayoutReference p = added tt LayoutReferenceFault p (inr refl)
+  -- by whether all values suit and all references are good
+  fault_late : (suit refer : Bool) (p : ℕ) → Added (accepted (tt {0})) (fault (cond suit (cond refer (Ok tt) (Err LayoutReference)) (Err Layout)) p)
+  fault_late true true p = fine tt tt
+  fault_late true false p = added tt LayoutReference p (inr refl)
+  fault_late false refer p = added tt Layout p (inl refl)
 
-  fault_alike : (v : LayoutVerdict) (p : ℕ) → Added (fault v p) (fault v p)
-  fault_alike Good p = fine tt tt
-  fault_alike Layout p = alike LayoutFault p
-  fault_alike LayoutReference p = alike LayoutReferenceFault p
+  fault_alike : (v : Verdict) (p : ℕ) → Added (fault v p) (fault v p)
+  fault_alike (Ok a) p = fine tt tt
+  fault_alike (Err n) p = alike n p
 
   -- what a larger list may add at an entity
   pub entity-more : (e : Entity) (p : ℕ) → Added (entity_check list types e p) (entity_check more types e p)
-  unfolding entity_check
+  unfolding entity_check verdict
   entity-more e p = go (known list e.typ e.form) (known more e.typ e.form) (knows list more e.typ e.form inside)
     where
       go : (a b : Bool) → (a ≡ true → b ≡ true) → Added (cond a (fault (verdict types e) p) (accepted tt)) (cond b (fault (verdict types e) p) (accepted tt))
       go true true k = fault_alike (verdict types e) p
       go true false k = absurd (false≢true (k refl))
-      go false true k = fault_late (verdict types e) p
+      go false true k = fault_late (everywhere suits (asked e) e.values) (everywhere (refers_well types) (asked e) e.values) p
       go false false k = fine tt tt
 
 -- (b) the marks of an entity are the same, but where the larger list alone knows it

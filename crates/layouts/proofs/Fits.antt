@@ -12,8 +12,9 @@ use Rattle.values.specs.declared.Value.{Value}
 use Rattle.values.specs.declared.Value.TheVariants.{Default}
 use Rattle.values.specs.Value.{Item, default, seen}
 use Rattle.layouts.specs.declared.LayoutPlace.{LayoutPlace}
-use Rattle.layouts.specs.declared.LayoutVerdict.{LayoutVerdict}
-use Rattle.layouts.specs.declared.LayoutVerdict.TheVariants.{Good, Layout, LayoutReference}
+use Rattle.std.specs.Prelude.{Ok, Err}
+use Rattle.columns.specs.declared.Fault.TheVariants.{Layout, LayoutReference}
+use Rattle.layouts.specs.Verdict.{Verdict}
 use Rattle.layouts.specs.Layout.{groups}
 use Rattle.layouts.specs.Known.{known}
 use Rattle.layouts.specs.Fits.{Ask, nothing, suits, refers_well, Counts, none, counted, many, ask, value_at, Asks, close, spelled, places_of, asked, ask_at, Fits, Fails, Refers, Misrefers, Keeps}
@@ -81,36 +82,46 @@ module _ (types : List ℕ) (e : Entity) where
   refers_iff = everywhere_iff (refers_well types) refl (asked e) e.values
 
   -- by whether all values suit and all references are good
-  abbrev Says : LayoutVerdict → Bool → Bool → Type 0
-  Says Good suit refer = (suit ≡ true) × (refer ≡ true)
-  Says Layout suit refer = suit ≡ false
-  Says LayoutReference suit refer = (suit ≡ true) × (refer ≡ false)
+  abbrev told : Bool → Bool → Verdict
+  told suit refer = cond suit (cond refer (Ok tt) (Err LayoutReference)) (Err Layout)
 
-  says : Says (verdict types e) (everywhere suits (asked e) e.values) (everywhere (refers_well types) (asked e) e.values)
-  unfolding verdict
-  says = by (everywhere suits (asked e) e.values) (everywhere (refers_well types) (asked e) e.values)
-    where
-      by : (a b : Bool) → Says (cond a (cond b Good LayoutReference) Layout) a b
-      by true true = (refl, refl)
-      by true false = (refl, refl)
-      by false b = refl
+  told_good : (a b : Bool) → told a b ≡ Ok tt → (a ≡ true) × (b ≡ true)
+  told_good true true q = (refl, refl)
+  told_good true false q = let z : ◌≡◌ {A = ℕ} 0 1 = cc in absurd (omega arith)
+  told_good false b q = let z : ◌≡◌ {A = ℕ} 0 1 = cc in absurd (omega arith)
+
+  told_layout : (a b : Bool) → told a b ≡ Err Layout → a ≡ false
+  told_layout true true q = let z : ◌≡◌ {A = ℕ} 0 1 = cc in absurd (omega arith)
+  told_layout true false q = let z : ◌≡◌ {A = ℕ} 0 1 = cc in absurd (omega arith)
+  told_layout false b q = refl
+
+  told_reference : (a b : Bool) → told a b ≡ Err LayoutReference → (a ≡ true) × (b ≡ false)
+  told_reference true true q = let z : ◌≡◌ {A = ℕ} 0 1 = cc in absurd (omega arith)
+  told_reference true false q = (refl, refl)
+  told_reference false b q = let z : ◌≡◌ {A = ℕ} 0 1 = cc in absurd (omega arith)
+
+  abbrev all_suit : Bool
+  all_suit = everywhere suits (asked e) e.values
+
+  abbrev all_refer : Bool
+  all_refer = everywhere (refers_well types) (asked e) e.values
 
   -- accepted exactly if the values fit the row and every reference is good
-  pub good_iff : verdict types e ≡ Good ↔ (Fits e × Refers types e)
+  pub good_iff : verdict types e ≡ Ok tt ↔ (Fits e × Refers types e)
   unfolding verdict
-  good_iff = (λ q. let s = rw q at says in (fits_iff.0 s.0, refers_iff.0 s.1), λ h. rw (fits_iff.1 h.0, refers_iff.1 h.1))
+  good_iff = (λ q. let s = told_good all_suit all_refer q in (fits_iff.0 s.0, refers_iff.0 s.1), λ h. rw (fits_iff.1 h.0, refers_iff.1 h.1))
 
   -- 14 exactly if some place fails in kind, count or range, or a value too many stands behind
-  pub layout_iff : verdict types e ≡ Layout ↔ Fails e
+  pub layout_iff : verdict types e ≡ Err Layout ↔ Fails e
   unfolding verdict
-  layout_iff = let s = somewhere_iff suits refl (asked e) e.values in (λ q. s.0 (rw q at says), λ h. rw (s.1 h))
+  layout_iff = let s = somewhere_iff suits refl (asked e) e.values in (λ q. s.0 (told_layout all_suit all_refer q), λ h. rw (s.1 h))
 
   -- 15 exactly if all fits but some reference
-  pub reference_iff : verdict types e ≡ LayoutReference ↔ (Fits e × Misrefers types e)
+  pub reference_iff : verdict types e ≡ Err LayoutReference ↔ (Fits e × Misrefers types e)
   unfolding verdict
   reference_iff =
       let s = somewhere_iff (refers_well types) refl (asked e) e.values in
-      (λ q. let t = rw q at says in (fits_iff.0 t.0, s.0 t.1), λ h. rw (fits_iff.1 h.0, s.1 h.1))
+      (λ q. let t = told_reference all_suit all_refer q in (fits_iff.0 t.0, s.0 t.1), λ h. rw (fits_iff.1 h.0, s.1 h.1))
 
   -- ---- under a list
 
@@ -124,10 +135,9 @@ module _ (types : List ℕ) (e : Entity) where
         by true h = let k = h refl in rw (good_iff.1 (k.fits, k.refers))
         by false h = refl
 
-    fault_good : (w : LayoutVerdict) (u : Unit {0}) → fault w place ≡ accepted u → w ≡ Good
-    fault_good Good u h = refl
-    fault_good Layout u h = let z : ◌≡◌ {A = ℕ} 0 1 = cc in absurd (omega arith)
-    fault_good LayoutReference u h = let z : ◌≡◌ {A = ℕ} 0 1 = cc in absurd (omega arith)
+    fault_good : (w : Verdict) (u : Unit {0}) → fault w place ≡ accepted u → w ≡ Ok tt
+    fault_good (Ok a) u h = refl
+    fault_good (Err n) u h = let z : ◌≡◌ {A = ℕ} 0 1 = cc in absurd (omega arith)
 
     -- and what is accepted does
     pub accepts_keeps : (u : Unit {0}) → entity_check list types e place ≡ accepted u → known list e.typ e.form ≡ true → Keeps types e

@@ -11,9 +11,9 @@ use Rattle.layouts.specs.declared.Kind.TheVariants.{R, Given, Weight, S, I, Flag
 use Rattle.layouts.specs.declared.Times.TheVariants.{Fixed}
 use Rattle.layouts.specs.declared.LayoutPlace.{LayoutPlace}
 use Rattle.layouts.specs.declared.LayoutState.{LayoutState}
-use Rattle.std.specs.Prelude.{Option, Some, None}
-use Rattle.layouts.specs.declared.LayoutVerdict.{LayoutVerdict}
-use Rattle.layouts.specs.declared.LayoutVerdict.TheVariants.{Layout}
+use Rattle.std.specs.Prelude.{Option, Some, None, Err}
+use Rattle.columns.specs.declared.Fault.TheVariants.{Layout}
+use Rattle.layouts.specs.Verdict.{Verdict}
 use Rattle.values.specs.declared.Value.{Value}
 use Rattle.values.specs.declared.Value.TheVariants.{Default, Whole, Real, Text}
 use Rattle.values.specs.Value.{Item, seen, is_missing}
@@ -38,7 +38,7 @@ no_class want = go (eqb want 0) refl
     go false e = let h = eqb-false want 0 e in ne_eqb 0 want (λ z. h (sym z))
 
 both : (b suit refer suits refers : Bool)
-    → cond suit (cond suits (closed ((b || not refer) || not refers)) Layout) Layout ≡ cond (suit && suits) (closed (b || not (refer && refers))) Layout
+    → cond suit (cond suits (closed ((b || not refer) || not refers)) (Err Layout)) (Err Layout) ≡ cond (suit && suits) (closed (b || not (refer && refers))) (Err Layout)
 both b false refer suits refers = refl
 both true true refer suits refers = refl
 both false true true suits refers = refl
@@ -63,8 +63,8 @@ onward_bad s = go (ltb 1 s.left)
 
 module _ (types : List ℕ) where
   -- what is said of places and values; b: a reference was wrong before
-  abbrev said : Bool → List Ask → List Item → LayoutVerdict
-  said b ps vs = cond (everywhere suits ps vs) (closed (b || not (everywhere (refers_well types) ps vs))) Layout
+  abbrev said : Bool → List Ask → List Item → Verdict
+  said b ps vs = cond (everywhere suits ps vs) (closed (b || not (everywhere (refers_well types) ps vs))) (Err Layout)
 
   -- ---- a place takes a value
 
@@ -118,7 +118,7 @@ module _ (types : List ℕ) where
   unroll s [] = sym (trailing s)
   unroll s (v ∷ vs) = refl
 
-  lost : (vs : List Item) → verdict_from types None vs ≡ Layout
+  lost : (vs : List Item) → verdict_from types None vs ≡ Err Layout
   unfolding verdict_from run
   lost [] = refl
   lost (v ∷ vs) = lost vs
@@ -130,13 +130,13 @@ module _ (types : List ℕ) where
   rests-on s h (v ∷ vs) = ap (λ (g : Option LayoutState). verdict_from types g vs) (step-rests s (seen v) h) ∙ go (is_missing (seen v)) (rests-on s h vs)
     where
       go : (t : Bool) → verdict_from types (Some s) vs ≡ said s.bad [] vs
-          → verdict_from types (moved true (need t s)) vs ≡ cond (t && everywhere suits [] vs) (closed (s.bad || not (everywhere (refers_well types) [] vs))) Layout
+          → verdict_from types (moved true (need t s)) vs ≡ cond (t && everywhere suits [] vs) (closed (s.bad || not (everywhere (refers_well types) [] vs))) (Err Layout)
       go true ih = ih
       go false ih = lost vs
 
   -- what is said of a place and of those behind it
   said-next : (b : Bool) (a : Ask) (ps : List Ask) (vs : List Item)
-      → cond (suits a (value_at vs 0)) (said (b || not (refers_well types a (value_at vs 0))) ps (drop 1 vs)) Layout ≡ said b (a ∷ ps) vs
+      → cond (suits a (value_at vs 0)) (said (b || not (refers_well types a (value_at vs 0))) ps (drop 1 vs)) (Err Layout) ≡ said b (a ∷ ps) vs
   unfolding everywhere
   said-next b a ps [] = both b (suits a Default) (refers_well types a Default) (everywhere suits ps []) (everywhere (refers_well types) ps [])
   said-next b a ps (v ∷ vs) = both b (suits a (seen v)) (refers_well types a (seen v)) (everywhere suits ps vs) (everywhere (refers_well types) ps vs)
@@ -148,11 +148,11 @@ module _ (types : List ℕ) where
       let t = taken types s v in
       unroll s vs ∙ ap (λ (g : Option LayoutState). verdict_from types g (drop 1 vs)) (step-takes s v h.1.0)
       ∙ go (suits (ask (kind_at s) (counts_of s)) v) t (goes_verdict ps (onward t) (drop 1 vs) h.1.1 ∙ ap (λ (b : Bool). said b ps (drop 1 vs)) (onward_bad t))
-      ∙ ap (λ (x : Ask). cond (suits x v) (said (s.bad || not (refers_well types x v)) ps (drop 1 vs)) Layout) h.0
+      ∙ ap (λ (x : Ask). cond (suits x v) (said (s.bad || not (refers_well types x v)) ps (drop 1 vs)) (Err Layout)) h.0
       ∙ said-next s.bad a ps vs
     where
       go : (b : Bool) (t : LayoutState) → verdict_from types (Some (onward t)) (drop 1 vs) ≡ said t.bad ps (drop 1 vs)
-          → verdict_from types (moved false (need b t)) (drop 1 vs) ≡ cond b (said t.bad ps (drop 1 vs)) Layout
+          → verdict_from types (moved false (need b t)) (drop 1 vs) ≡ cond b (said t.bad ps (drop 1 vs)) (Err Layout)
       go true t ih = ih
       go false t ih = lost (drop 1 vs)
 

@@ -1,7 +1,7 @@
 -- A step, and the end. Assumes nothing.
 use mathlib.Core.Path.{◌≡◌, refl, sym, ap, ap₂, ◌∙◌}
 use mathlib.Core.Bool.{Bool, true, false, not, ◌||◌, ◌&&◌, false≢true}
-use Prim.Native.Nat.{ℕ, suc, ◌-◌, ◌≤◌, ◌<◌}
+use Prim.Native.Nat.{ℕ, suc, ◌+◌, ◌-◌, ◌≤◌, ◌<◌}
 use native.Mathlib.Omega.{arith}
 use lib.Dec.{eqb, ltb}
 use lib.ListN.{get_or-eq_default}
@@ -14,9 +14,9 @@ use Rattle.values.specs.declared.Value.{Value}
 use Rattle.values.specs.declared.Value.TheVariants.{Default, Whole, Real, Text}
 use Rattle.values.specs.Value.{is_missing}
 use Rattle.layouts.specs.declared.LayoutState.{LayoutState}
-use Rattle.std.specs.Prelude.{Option, Some, None}
-use Rattle.layouts.specs.declared.LayoutVerdict.{LayoutVerdict}
-use Rattle.layouts.specs.declared.LayoutVerdict.TheVariants.{Layout}
+use Rattle.std.specs.Prelude.{Option, Some, None, Err}
+use Rattle.columns.specs.declared.Fault.TheVariants.{Layout}
+use Rattle.layouts.specs.Verdict.{Verdict}
 use Rattle.layouts.specs.Layout.{most_upper, paper, bit_of}
 use Rattle.layouts.specs.Table.{place_at, starts, start_of}
 use Rattle.layouts.specs.Machine.{fresh, start, numeric, above, text, need, refer, takes, settle, onward, rests, moved, step, closed, after, finish, end, within, size, with_k1, with_k2, with_m1, with_m2, with_bad, stand, follow, enter, beyond, reals, kind_at, runs_on}
@@ -219,48 +219,49 @@ rest_takes (Q want) s e = absurd (false≢true e)
 rest_takes (Bound want) s e = absurd (false≢true e)
 rest_takes Rest s e = refl
 
-abbrev gone_on : ℕ → Option LayoutState → LayoutVerdict
-gone_on n None = Layout
+abbrev gone_on : ℕ → Option LayoutState → Verdict
+gone_on n None = Err Layout
 gone_on n (Some t) = finish n t
 
 gone_on_lem : (n : ℕ) (g : Option LayoutState) → after false g (λ (u : LayoutState). finish n (settle (beyond u))) ≡ gone_on n (passed g)
 gone_on_lem n None = refl
 gone_on_lem n (Some t) = refl
 
-module _ (o : LayoutVerdict) (n : ℕ) (t : LayoutState) (p : LayoutPlace) (b : Bool) (inv : o ≡ finish n t) (pos : 0 < n) (ep : p ≡ place_at t.at) (eb : b ≡ rests p.kind) where
-  end_step : o ≡ after b (takes (kind_at t) t Default 0) (λ (u : LayoutState). finish (n - 1) (settle (beyond u)))
+-- so many turns are done
+module _ (o : Verdict) (i : ℕ) (t : LayoutState) (p : LayoutPlace) (b : Bool) (inv : o ≡ finish (16 - i) t) (pos : i < 16) (ep : p ≡ place_at t.at) (eb : b ≡ rests p.kind) where
+  end_step : o ≡ after b (takes (kind_at t) t Default 0) (λ (u : LayoutState). finish (16 - i - 1) (settle (beyond u)))
   unfolding finish
   end_step =
-      let m : n ≡ suc (n - 1) = omega arith in
+      let m : 16 - i ≡ suc (16 - i - 1) = omega arith in
       inv ∙ ap (λ (k : ℕ). finish k t) m
-      ∙ ap (λ (x : Bool). after x (takes (kind_at t) t Default 0) (λ (u : LayoutState). finish (n - 1) (settle (beyond u)))) (ap (λ (q : LayoutPlace). rests q.kind) (sym ep) ∙ sym eb)
+      ∙ ap (λ (x : Bool). after x (takes (kind_at t) t Default 0) (λ (u : LayoutState). finish (16 - i - 1) (settle (beyond u)))) (ap (λ (q : LayoutPlace). rests q.kind) (sym ep) ∙ sym eb)
 
-  pub end_rest : (r : LayoutVerdict) → b ≡ true → r ≡ closed t.bad → r ≡ o
+  pub end_rest : (r : Verdict) → b ≡ true → r ≡ closed t.bad → r ≡ o
   end_rest r f q =
       let k : takes (kind_at t) t Default 0 ≡ Some t = rest_takes (kind_at t) t (ap (λ (x : LayoutPlace). rests x.kind) (sym ep) ∙ sym eb ∙ f) in
       q ∙ sym (end_step ∙ rw (f, k))
 
-  end_last : (x : LayoutState) (g : Option LayoutState) → b ≡ false → x ≡ stand t t.at 1 → g ≡ step x Default 0 → o ≡ gone_on (n - 1) g
+  end_last : (x : LayoutState) (g : Option LayoutState) → b ≡ false → x ≡ stand t t.at 1 → g ≡ step x Default 0 → o ≡ gone_on (16 - i - 1) g
   unfolding step
   end_last x g f ex eg =
       let z : rests (kind_at t) ≡ false = ap (λ (q : LayoutPlace). rests q.kind) (sym ep) ∙ sym eb ∙ f in
       let y : g ≡ passed (takes (kind_at t) t Default 0) =
       eg ∙ ap (λ (u : LayoutState). step u Default 0) ex ∙ ap (λ (c : Bool). moved c (takes (kind_at t) (stand t t.at 1) Default 0)) z ∙ takes_last (kind_at t) t Default 0 in
-      end_step ∙ ap (λ (c : Bool). after c (takes (kind_at t) t Default 0) (λ (u : LayoutState). finish (n - 1) (settle (beyond u)))) f
-      ∙ gone_on_lem (n - 1) (takes (kind_at t) t Default 0) ∙ ap (gone_on (n - 1)) (sym y)
+      end_step ∙ ap (λ (c : Bool). after c (takes (kind_at t) t Default 0) (λ (u : LayoutState). finish (16 - i - 1) (settle (beyond u)))) f
+      ∙ gone_on_lem (16 - i - 1) (takes (kind_at t) t Default 0) ∙ ap (gone_on (16 - i - 1)) (sym y)
 
-  pub end_bad : (x : LayoutState) (g : Option LayoutState) → b ≡ false → x ≡ stand t t.at 1 → g ≡ step x Default 0 → g ≡ None → Layout ≡ o
-  end_bad x g f ex eg h = sym (end_last x g f ex eg ∙ ap (gone_on (n - 1)) h)
+  pub end_bad : (x : LayoutState) (g : Option LayoutState) → b ≡ false → x ≡ stand t t.at 1 → g ≡ step x Default 0 → g ≡ None → Err Layout ≡ o
+  end_bad x g f ex eg h = sym (end_last x g f ex eg ∙ ap (gone_on (16 - i - 1)) h)
 
-  pub end_go : (x u : LayoutState) (g : Option LayoutState) (m : ℕ) → b ≡ false → x ≡ stand t t.at 1 → g ≡ step x Default 0 → g ≡ Some u → n ≡ suc m → o ≡ finish m u
-  end_go x u g m f ex eg h e =
-      let d : n - 1 ≡ m = omega arith in
-      end_last x g f ex eg ∙ ap (gone_on (n - 1)) h ∙ ap (λ (k : ℕ). finish k u) d
+  pub end_go : (x u : LayoutState) (g : Option LayoutState) → b ≡ false → x ≡ stand t t.at 1 → g ≡ step x Default 0 → g ≡ Some u → o ≡ finish (16 - (i + 1)) u
+  end_go x u g f ex eg h =
+      let m : 16 - i - 1 ≡ 16 - (i + 1) = omega arith in
+      end_last x g f ex eg ∙ ap (gone_on (16 - i - 1)) h ∙ ap (λ (k : ℕ). finish k u) m
 
-pub end_none : (o : LayoutVerdict) (n : ℕ) (t : LayoutState) → o ≡ finish n t → n ≤ 0 → Layout ≡ o
+pub end_none : (o : Verdict) (i : ℕ) (t : LayoutState) → o ≡ finish (16 - i) t → 16 ≤ i → Err Layout ≡ o
 unfolding finish
-end_none o n t inv h =
-    let e : n ≡ 0 = omega arith in
+end_none o i t inv h =
+    let e : 16 - i ≡ 0 = omega arith in
     sym (inv ∙ rw e)
 
 pub end_is : (s : LayoutState) → end s ≡ finish 16 s

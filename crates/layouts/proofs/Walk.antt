@@ -14,9 +14,9 @@ use Rattle.layouts.specs.declared.Kind.TheVariants.{Rest}
 use Rattle.layouts.specs.declared.Times.TheVariants.{Fixed}
 use Rattle.layouts.specs.declared.LayoutPlace.{LayoutPlace}
 use Rattle.layouts.specs.declared.LayoutState.{LayoutState}
-use Rattle.std.specs.Prelude.{None}
-use Rattle.layouts.specs.declared.LayoutVerdict.{LayoutVerdict}
-use Rattle.layouts.specs.declared.LayoutVerdict.TheVariants.{Good, Layout, LayoutReference}
+use Rattle.std.specs.Prelude.{None, Ok, Err}
+use Rattle.columns.specs.declared.Fault.TheVariants.{Layout, LayoutReference}
+use Rattle.layouts.specs.Verdict.{Verdict}
 use Rattle.layouts.specs.Layout.{Row, ◌of◌, paper, groups, bit_of}
 use Rattle.layouts.specs.Known.{bit, known}
 use Rattle.layouts.specs.Fits.{suits, refers_well, none, close, spelled, places_of, asked, Fits, Keeps}
@@ -107,7 +107,7 @@ module _ (types : List ℕ) where
         goes_verdict types (asked e) (start e.typ e.form) e.values (entity_goes e has_row)
         ∙ by (everywhere suits (asked e) e.values) (everywhere (refers_well types) (asked e) e.values)
       where
-        by : (a b : Bool) → cond a (closed (not b)) Layout ≡ cond a (cond b Good LayoutReference) Layout
+        by : (a b : Bool) → cond a (closed (not b)) (Err Layout) ≡ cond a (cond b (Ok tt) (Err LayoutReference)) (Err Layout)
         by true true = refl
         by true false = refl
         by false b = refl
@@ -125,7 +125,7 @@ module _ (types : List ℕ) where
     check_judged place = by (known list e.typ e.form) refl
       where
         by : (b : Bool) → known list e.typ e.form ≡ b → cond b (fault (judged types e) place) (accepted tt) ≡ cond b (fault (verdict types e) place) (accepted tt)
-        by true k = ap (λ (w : LayoutVerdict). fault w place) (judged-verdict list e k)
+        by true k = ap (λ (w : Verdict). fault w place) (judged-verdict list e k)
         by false k = refl
 
     bad_marks : (vs : List Item) → marks_from types None vs ≡ map carried vs

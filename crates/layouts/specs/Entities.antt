@@ -1,12 +1,11 @@
 -- An entity under a list: its verdict, its refusal, the marks of its values.
-use Rattle.std.specs.Prelude.{Bool, true, false, cond, ◌&&◌, List, [], ◌∷◌, map, ℕ}
-use Rattle.columns.specs.declared.Fault.TheVariants.{Layout as LayoutFault, LayoutReference as LayoutReferenceFault}
+use Rattle.std.specs.Prelude.{Bool, true, false, cond, ◌&&◌, List, [], ◌∷◌, map, ℕ, Ok, Err}
+use Rattle.columns.specs.declared.Fault.TheVariants.{Layout, LayoutReference}
 use Rattle.columns.specs.Refusal.{Outcome, accepted, refused}
 use Rattle.values.specs.declared.Value.{Value}
 use Rattle.values.specs.declared.Value.TheVariants.{Default}
 use Rattle.values.specs.Value.{Item, seen}
-use Rattle.layouts.specs.declared.LayoutVerdict.{LayoutVerdict}
-use Rattle.layouts.specs.declared.LayoutVerdict.TheVariants.{Good, Layout, LayoutReference}
+use Rattle.layouts.specs.Verdict.{Verdict}
 pub use Rattle.layouts.specs.Entity.{Entity}
 use Rattle.layouts.specs.Known.{known}
 use Rattle.layouts.specs.Fits.{Ask, nothing, suits, refers_well, is_reference, asked}
@@ -22,15 +21,15 @@ everywhere test (a ∷ ps) [] = test a Default && everywhere test ps []
 everywhere test (a ∷ ps) (v ∷ vs) = test a (seen v) && everywhere test ps vs
 
 -- 14 is told before 15; types are those of all entries in directory order
-unfoldable pub verdict : List ℕ → Entity → LayoutVerdict
+unfoldable pub verdict : List ℕ → Entity → Verdict
 verdict types e =
-    cond (everywhere suits (asked e) e.values) (cond (everywhere (refers_well types) (asked e) e.values) Good LayoutReference) Layout
+    cond (everywhere suits (asked e) e.values)
+    (cond (everywhere (refers_well types) (asked e) e.values) (Ok tt) (Err LayoutReference)) (Err Layout)
 
 -- the refusal that a verdict is, 14 or 15
-abbrev pub fault : LayoutVerdict → ℕ → Outcome (Unit {0})
-fault Good place = accepted tt
-fault Layout place = refused LayoutFault place
-fault LayoutReference place = refused LayoutReferenceFault place
+abbrev pub fault : Verdict → ℕ → Outcome (Unit {0})
+fault (Ok a) place = accepted tt
+fault (Err n) place = refused n place
 
 -- an entity outside the list has its values carried
 unfoldable pub entity_check : ℕ → List ℕ → Entity → ℕ → Outcome (Unit {0})

@@ -1,11 +1,10 @@
 -- Worked examples: entities with their verdicts, refusals and marks, as tables and one theorem.
-use Rattle.std.specs.Prelude.{◌≡◌, refl, true, false, List, [], ◌∷◌, ◌++◌, map, ℕ, replicate}
-use Rattle.columns.specs.declared.Fault.TheVariants.{Layout as LayoutFault, LayoutReference as LayoutReferenceFault}
+use Rattle.std.specs.Prelude.{◌≡◌, refl, true, false, List, [], ◌∷◌, ◌++◌, map, ℕ, replicate, Ok, Err}
+use Rattle.columns.specs.declared.Fault.TheVariants.{Layout, LayoutReference}
 use Rattle.columns.specs.Refusal.{Outcome, accepted, refused}
 use Rattle.columns.specs.Format.{most_list}
 use Rattle.values.specs.Value.{Item, default, whole, real, text}
-use Rattle.layouts.specs.declared.LayoutVerdict.{LayoutVerdict}
-use Rattle.layouts.specs.declared.LayoutVerdict.TheVariants.{Good, Layout, LayoutReference}
+use Rattle.layouts.specs.Verdict.{Verdict}
 use Rattle.references.specs.References.{class_at, class_of}
 use Rattle.layouts.specs.Named.{named}
 use Rattle.layouts.specs.Layout.{paper, bit_of}
@@ -46,71 +45,71 @@ abbrev surface : List Item → List Item
 surface last = replicate 4 (i 1) ++ replicate 5 (i 1) ++ replicate 8 r ++ replicate 4 r ++ replicate 12 r ++ last
 
 -- an entity and its verdict
-abbrev tests : List (Entity × LayoutVerdict)
+abbrev tests : List (Entity × Verdict)
 tests =
-    (entity 102 0 (i 2 ∷ i 1 ∷ []), LayoutReference)
-    ∷ (entity 102 0 (i 2 ∷ i 1 ∷ i 3 ∷ []), Good)
-    ∷ (entity 102 0 (i 2 ∷ i 1 ∷ i 2 ∷ []), LayoutReference)
-    ∷ (entity 102 0 (i 2 ∷ i 1 ∷ r ∷ []), Layout)
-    ∷ (entity 102 0 (i 2 ∷ i 7 ∷ i 1 ∷ i 0 ∷ r ∷ []), Layout)
-    ∷ (entity 102 0 (whole true 1 ∷ []), Layout)
-    ∷ (entity 102 0 [], Good)
-    ∷ (entity 100 0 (replicate 6 r), Good)
-    ∷ (entity 100 0 (i 1 ∷ whole true 2 ∷ i 0 ∷ r ∷ []), Good)
-    ∷ (entity 100 0 (s ∷ []), Layout)
-    ∷ (entity 110 0 (replicate 6 r), Good)
-    ∷ (entity 110 0 (replicate 6 r ++ r ∷ []), Layout)
-    ∷ (entity 110 0 (replicate 6 r ++ default ∷ r ∷ []), Layout)
-    ∷ (entity 110 0 (replicate 6 r ++ i 1 ∷ i 1 ∷ i 1 ∷ i 3 ∷ default ∷ []), Good)
-    ∷ (entity 110 0 (replicate 6 r ++ i 1 ∷ i 1 ∷ i 0 ∷ i 0 ∷ []), Layout)
-    ∷ (entity 110 0 (replicate 6 r ++ i 1 ∷ []), LayoutReference)
-    ∷ (entity 116 0 (r ∷ nought ∷ r ∷ []), Good)
-    ∷ (entity 116 0 (r ∷ nought ∷ r ∷ i 0 ∷ []), Good)
-    ∷ (entity 116 0 (r ∷ nought ∷ r ∷ whole true 1 ∷ []), LayoutReference)
-    ∷ (entity 126 0 (curve r r []), Good)
-    ∷ (entity 126 0 (curve r r (default ∷ default ∷ r ∷ [])), Good)
-    ∷ (entity 126 0 (curve default r []), Layout)
-    ∷ (entity 126 0 (curve r nought []), Layout)
-    ∷ (entity 126 0 (curve r minus []), Layout)
-    ∷ (entity 126 0 (curve (i 0) (i 1) (i 0 ∷ i 0 ∷ i 1 ∷ [])), Good)
-    ∷ (entity 126 0 (curve r (i 0) []), Layout)
-    ∷ (entity 126 0 (curve r (whole true 1) []), Layout)
-    ∷ (entity 126 0 (i 1 ∷ i 2 ∷ []), Layout)
-    ∷ (entity 126 0 [], Layout)
-    ∷ (entity 128 0 (surface (replicate 4 r)), Good)
-    ∷ (entity 128 0 (surface (replicate 3 r)), Layout)
-    ∷ (entity 142 0 (i 3 ∷ i 1 ∷ i 0 ∷ i 0 ∷ i 4 ∷ []), Layout)
-    ∷ (entity 142 0 (i 3 ∷ i 1 ∷ i 0 ∷ i 5 ∷ i 3 ∷ []), Good)
-    ∷ (entity 142 0 (i 3 ∷ i 0 ∷ []), LayoutReference)
-    ∷ (entity 144 0 (i 1 ∷ i 0 ∷ i 0 ∷ []), Good)
-    ∷ (entity 144 0 (i 1 ∷ i 1 ∷ i 0 ∷ []), LayoutReference)
-    ∷ (entity 144 0 (i 1 ∷ i 1 ∷ i 0 ∷ i 5 ∷ []), Good)
-    ∷ (entity 144 0 (i 1 ∷ i 0 ∷ i 1 ∷ i 0 ∷ i 5 ∷ []), Good)
-    ∷ (entity 144 0 (i 1 ∷ i 0 ∷ i 1 ∷ i 0 ∷ i 3 ∷ []), LayoutReference)
-    ∷ (entity 144 0 (i 1 ∷ i 2 ∷ []), Layout)
-    ∷ (entity 144 0 [], LayoutReference)
-    ∷ (entity 308 0 (i 0 ∷ s ∷ i 1 ∷ i 1 ∷ []), Good)
-    ∷ (entity 308 0 (i 0 ∷ i 1 ∷ []), Layout)
-    ∷ (entity 314 0 (r ∷ r ∷ r ∷ s ∷ []), Good)
-    ∷ (entity 402 7 (i 1 ∷ i 1 ∷ []), Good)
-    ∷ (entity 406 15 (i 1 ∷ s ∷ []), Good)
-    ∷ (entity 406 15 [], Layout)
-    ∷ (entity 408 0 (i 3 ∷ r ∷ []), Good)
-    ∷ (entity 408 0 (i 1 ∷ r ∷ []), LayoutReference)
-    ∷ (entity 408 0 (s ∷ r ∷ []), Layout)
+    (entity 102 0 (i 2 ∷ i 1 ∷ []), Err LayoutReference)
+    ∷ (entity 102 0 (i 2 ∷ i 1 ∷ i 3 ∷ []), Ok tt)
+    ∷ (entity 102 0 (i 2 ∷ i 1 ∷ i 2 ∷ []), Err LayoutReference)
+    ∷ (entity 102 0 (i 2 ∷ i 1 ∷ r ∷ []), Err Layout)
+    ∷ (entity 102 0 (i 2 ∷ i 7 ∷ i 1 ∷ i 0 ∷ r ∷ []), Err Layout)
+    ∷ (entity 102 0 (whole true 1 ∷ []), Err Layout)
+    ∷ (entity 102 0 [], Ok tt)
+    ∷ (entity 100 0 (replicate 6 r), Ok tt)
+    ∷ (entity 100 0 (i 1 ∷ whole true 2 ∷ i 0 ∷ r ∷ []), Ok tt)
+    ∷ (entity 100 0 (s ∷ []), Err Layout)
+    ∷ (entity 110 0 (replicate 6 r), Ok tt)
+    ∷ (entity 110 0 (replicate 6 r ++ r ∷ []), Err Layout)
+    ∷ (entity 110 0 (replicate 6 r ++ default ∷ r ∷ []), Err Layout)
+    ∷ (entity 110 0 (replicate 6 r ++ i 1 ∷ i 1 ∷ i 1 ∷ i 3 ∷ default ∷ []), Ok tt)
+    ∷ (entity 110 0 (replicate 6 r ++ i 1 ∷ i 1 ∷ i 0 ∷ i 0 ∷ []), Err Layout)
+    ∷ (entity 110 0 (replicate 6 r ++ i 1 ∷ []), Err LayoutReference)
+    ∷ (entity 116 0 (r ∷ nought ∷ r ∷ []), Ok tt)
+    ∷ (entity 116 0 (r ∷ nought ∷ r ∷ i 0 ∷ []), Ok tt)
+    ∷ (entity 116 0 (r ∷ nought ∷ r ∷ whole true 1 ∷ []), Err LayoutReference)
+    ∷ (entity 126 0 (curve r r []), Ok tt)
+    ∷ (entity 126 0 (curve r r (default ∷ default ∷ r ∷ [])), Ok tt)
+    ∷ (entity 126 0 (curve default r []), Err Layout)
+    ∷ (entity 126 0 (curve r nought []), Err Layout)
+    ∷ (entity 126 0 (curve r minus []), Err Layout)
+    ∷ (entity 126 0 (curve (i 0) (i 1) (i 0 ∷ i 0 ∷ i 1 ∷ [])), Ok tt)
+    ∷ (entity 126 0 (curve r (i 0) []), Err Layout)
+    ∷ (entity 126 0 (curve r (whole true 1) []), Err Layout)
+    ∷ (entity 126 0 (i 1 ∷ i 2 ∷ []), Err Layout)
+    ∷ (entity 126 0 [], Err Layout)
+    ∷ (entity 128 0 (surface (replicate 4 r)), Ok tt)
+    ∷ (entity 128 0 (surface (replicate 3 r)), Err Layout)
+    ∷ (entity 142 0 (i 3 ∷ i 1 ∷ i 0 ∷ i 0 ∷ i 4 ∷ []), Err Layout)
+    ∷ (entity 142 0 (i 3 ∷ i 1 ∷ i 0 ∷ i 5 ∷ i 3 ∷ []), Ok tt)
+    ∷ (entity 142 0 (i 3 ∷ i 0 ∷ []), Err LayoutReference)
+    ∷ (entity 144 0 (i 1 ∷ i 0 ∷ i 0 ∷ []), Ok tt)
+    ∷ (entity 144 0 (i 1 ∷ i 1 ∷ i 0 ∷ []), Err LayoutReference)
+    ∷ (entity 144 0 (i 1 ∷ i 1 ∷ i 0 ∷ i 5 ∷ []), Ok tt)
+    ∷ (entity 144 0 (i 1 ∷ i 0 ∷ i 1 ∷ i 0 ∷ i 5 ∷ []), Ok tt)
+    ∷ (entity 144 0 (i 1 ∷ i 0 ∷ i 1 ∷ i 0 ∷ i 3 ∷ []), Err LayoutReference)
+    ∷ (entity 144 0 (i 1 ∷ i 2 ∷ []), Err Layout)
+    ∷ (entity 144 0 [], Err LayoutReference)
+    ∷ (entity 308 0 (i 0 ∷ s ∷ i 1 ∷ i 1 ∷ []), Ok tt)
+    ∷ (entity 308 0 (i 0 ∷ i 1 ∷ []), Err Layout)
+    ∷ (entity 314 0 (r ∷ r ∷ r ∷ s ∷ []), Ok tt)
+    ∷ (entity 402 7 (i 1 ∷ i 1 ∷ []), Ok tt)
+    ∷ (entity 406 15 (i 1 ∷ s ∷ []), Ok tt)
+    ∷ (entity 406 15 [], Err Layout)
+    ∷ (entity 408 0 (i 3 ∷ r ∷ []), Ok tt)
+    ∷ (entity 408 0 (i 1 ∷ r ∷ []), Err LayoutReference)
+    ∷ (entity 408 0 (s ∷ r ∷ []), Err Layout)
     ∷ []
 
 -- a list, an entity, and its refusal under the list, at line 9
 abbrev checks : List (ℕ × Entity × Outcome (Unit {0}))
 checks =
     (most_list, entity 402 6 (s ∷ []), accepted tt)
-    ∷ (2048, entity 402 7 (s ∷ []), refused LayoutFault 9)
+    ∷ (2048, entity 402 7 (s ∷ []), refused Layout 9)
     ∷ (2047, entity 402 7 (s ∷ []), accepted tt)
-    ∷ (256, entity 144 0 [], refused LayoutReferenceFault 9)
+    ∷ (256, entity 144 0 [], refused LayoutReference 9)
     ∷ []
 
 -- all of them; 402 form 6 is carried under any list, 402 form 7 is read under list 2048; counts are V, references R
-pub examples : (map (λ (x : Entity × LayoutVerdict). verdict types x.0) tests ≡ map (λ (x : Entity × LayoutVerdict). x.1) tests)
+pub examples : (map (λ (x : Entity × Verdict). verdict types x.0) tests ≡ map (λ (x : Entity × Verdict). x.1) tests)
     × (map (λ (x : ℕ × Entity × Outcome (Unit {0})). entity_check x.0 types x.1 9) checks
     ≡ map (λ (x : ℕ × Entity × Outcome (Unit {0})). x.2) checks)
     × (marks most_list (entity 144 0 (i 1 ∷ i 0 ∷ i 1 ∷ i 0 ∷ i 5 ∷ i 1 ∷ i 1 ∷ []))

@@ -4,6 +4,7 @@ pub mod Known
 pub mod Tests
 pub mod Entity
 pub mod Fits
+pub mod Verdict
 pub mod Entities
 pub mod Larger
 pub mod Examples

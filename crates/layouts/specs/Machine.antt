@@ -1,6 +1,6 @@
 -- The code's form: the layouts as one machine, where it stands, what one value does, what the end says.
 use Rattle.std.specs.Prelude.{Bool, true, false, cond, not, ◌&&◌, ◌||◌, ℕ, zero, suc, ◌+◌, ◌-◌, ◌*◌, eqb, ltb}
-use Rattle.std.specs.Prelude.{Option, Some, None}
+use Rattle.std.specs.Prelude.{Option, Some, None, Ok, Err}
 use Rattle.columns.specs.Format.{most_integer}
 use Rattle.layouts.specs.declared.Kind.{Kind}
 use Rattle.layouts.specs.declared.Kind.TheVariants.{R, Given, Weight, S, I, Flag, Count, Outer}
@@ -13,8 +13,8 @@ use Rattle.values.specs.declared.Value.{Value}
 use Rattle.values.specs.declared.Value.TheVariants.{Default, Whole, Real, Text}
 use Rattle.values.specs.Value.{is_missing}
 use Rattle.layouts.specs.declared.LayoutState.{LayoutState}
-use Rattle.layouts.specs.declared.LayoutVerdict.{LayoutVerdict}
-use Rattle.layouts.specs.declared.LayoutVerdict.TheVariants.{Good, Layout, LayoutReference}
+use Rattle.columns.specs.declared.Fault.TheVariants.{Layout, LayoutReference}
+use Rattle.layouts.specs.Verdict.{Verdict}
 use Rattle.references.specs.References.{no_entry, fits}
 pub use Rattle.layouts.specs.Tests.{numeric, above, text, within, size}
 use Rattle.layouts.specs.Layout.{most_upper, bit_of}
@@ -197,19 +197,19 @@ runs_on s v = ltb 1 s.left && (reals (kind_at s) && numeric v)
 -- ---- the end: what is missing is a default
 
 -- at the rest of a row
-abbrev pub closed : Bool → LayoutVerdict
-closed bad = cond bad LayoutReference Good
+abbrev pub closed : Bool → Verdict
+closed bad = cond bad (Err LayoutReference) (Ok tt)
 
 -- a place took its default, or did not
-abbrev pub after : Bool → Option LayoutState → (LayoutState → LayoutVerdict) → LayoutVerdict
-after rest None f = Layout
+abbrev pub after : Bool → Option LayoutState → (LayoutState → Verdict) → Verdict
+after rest None f = Err Layout
 after rest (Some t) f = cond rest (closed t.bad) (f t)
 
 -- in so many places at most
-unfoldable pub finish : ℕ → LayoutState → LayoutVerdict
-finish zero s = Layout
+unfoldable pub finish : ℕ → LayoutState → Verdict
+finish zero s = Err Layout
 finish (suc n) s = after (rests (kind_at s)) (takes (kind_at s) s Default no_entry) (λ t. finish n (settle (beyond t)))
 
 -- no row has more than 16 (proofs/Trailing.enough)
-unfoldable pub end : LayoutState → LayoutVerdict
+unfoldable pub end : LayoutState → Verdict
 end s = finish 16 s

@@ -1,11 +1,11 @@
 -- The code's form: an entity value by value, a step of the machine for each. What it says at the end is the verdict
 -- (proofs/Walk.judged-verdict), and of an entity that fits it has the marks (marks_walked).
-use Rattle.std.specs.Prelude.{Bool, false, List, [], ◌∷◌, ℕ, Option, Some, None}
+use Rattle.std.specs.Prelude.{Bool, false, List, [], ◌∷◌, ℕ, Option, Some, None, Err}
 use Rattle.values.specs.declared.Value.{Value}
 use Rattle.values.specs.Value.{Item, seen}
 use Rattle.layouts.specs.declared.LayoutState.{LayoutState}
-use Rattle.layouts.specs.declared.LayoutVerdict.{LayoutVerdict}
-use Rattle.layouts.specs.declared.LayoutVerdict.TheVariants.{Layout}
+use Rattle.columns.specs.declared.Fault.TheVariants.{Layout}
+use Rattle.layouts.specs.Verdict.{Verdict}
 use Rattle.layouts.specs.Named.{named}
 use Rattle.layouts.specs.Entity.{Entity}
 use Rattle.layouts.specs.Machine.{kind_at, refers, start, step, end}
@@ -30,16 +30,16 @@ run types g [] = g
 run types g (v ∷ vs) = run types (feed types g v) vs
 
 -- after its last value
-abbrev pub ended : Option LayoutState → LayoutVerdict
-ended None = Layout
+abbrev pub ended : Option LayoutState → Verdict
+ended None = Err Layout
 ended (Some s) = end s
 
 -- the verdict from here on
-unfoldable pub verdict_from : List ℕ → Option LayoutState → List Item → LayoutVerdict
+unfoldable pub verdict_from : List ℕ → Option LayoutState → List Item → Verdict
 verdict_from types g vs = ended (run types g vs)
 
 -- what is wrong with a reference is kept to the end, so 14 is told before 15
-unfoldable pub judged : List ℕ → Entity → LayoutVerdict
+unfoldable pub judged : List ℕ → Entity → Verdict
 judged types e = verdict_from types (begun e) e.values
 
 -- the mark of the next value; behind a value that was refused it says nothing

@@ -68,11 +68,3 @@ pub struct LayoutState {
     pub m2: u32,
     pub bad: bool,
 }
-
-// Layout is refusal 14, LayoutReference 15.
-#[derive(Clone, Copy)]
-pub enum LayoutVerdict {
-    Good,
-    Layout,
-    LayoutReference,
-}

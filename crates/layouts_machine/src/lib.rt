@@ -7,7 +7,8 @@ ghost use Rattle.layouts.specs.Machine.{times, follow, enter, beyond, settle, on
 ghost use Rattle.layouts.specs.Machine.{reals, refers, kind_at, stand, runs_on};
 ghost use Rattle.layouts.specs.Coded.{told};
 
-use layouts::{LayoutState, LayoutVerdict, Then, Times};
+use columns::Fault;
+use layouts::{LayoutState, Then, Times};
 use layouts_lists::{ROWS, bit_of};
 use layouts_rows::told::numeric_in;
 use layouts_rows::{look, rests_in};
@@ -176,19 +177,19 @@ pub fn step(s: LayoutState, v: Value, class: u8) -> Option<LayoutState>
 }
 
 // At the rest of a row.
-fn closed_of(bad: bool) -> LayoutVerdict
+fn closed_of(bad: bool) -> Result<(), Fault>
     ensures { result ≡ closed bad }
 {
     if bad {
-        LayoutVerdict::LayoutReference
+        Err(Fault::LayoutReference)
     } else {
-        LayoutVerdict::Good
+        Ok(())
     }
 }
 
-// No value more: what is missing is a default.
+// No value more: what is missing is a default. The refusal is 14 or 15.
 #[tactic(auto, using(layouts::proofs::Steps::ends))]
-pub fn end(s: LayoutState) -> LayoutVerdict
+pub fn end(s: LayoutState) -> Result<(), Fault>
     ensures { result ≡ end s }
 {
     let mut t = s;
@@ -201,11 +202,11 @@ pub fn end(s: LayoutState) -> LayoutVerdict
         // A default passes the whole place, however many of it were left.
         let last = with_left(t, 1);
         let Some(u) = step_any(last, Value::Default, NO_ENTRY) else {
-            return LayoutVerdict::Layout;
+            return Err(Fault::Layout);
         };
         t = u;
     }
-    LayoutVerdict::Layout
+    Err(Fault::Layout)
 }
 
 // Where the places of each row start.

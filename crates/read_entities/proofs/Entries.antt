@@ -12,8 +12,8 @@ use Rattle.columns.proofs.Stops.{each_is}
 use Rattle.values.specs.Value.{default}
 use Rattle.records.specs.Record.{Values, values, wrong, values_at, trimmed}
 use Rattle.cards.specs.declared.Counts.{Counts}
-use Rattle.layouts.specs.declared.LayoutVerdict.{LayoutVerdict}
-use Rattle.layouts.specs.declared.LayoutVerdict.TheVariants.{Good as GoodVerdict, Layout, LayoutReference}
+use Rattle.std.specs.Prelude.{Ok, Err}
+use Rattle.layouts.specs.Verdict.{Verdict}
 use Rattle.layouts.specs.Known.{known}
 use Rattle.layouts.specs.Entities.{Entity, verdict, fault, entity_check}
 use Rattle.layouts.specs.Fits.{Keeps}
@@ -40,10 +40,9 @@ refused_of : {A : Type 0} {a : A} {place : ℕ} (o : Outcome A) → Of a place o
 refused_of o of_accepted f h = let z : ◌≡◌ {A = ℕ} 0 1 = cc in absurd (omega arith)
 refused_of {A} {a} {place} o (of_refused g) f h = let e : g ≡ f = cc in ap (λ (x : Fault). refused x place) e
 
-fault-of : (w : LayoutVerdict) (place : ℕ) → Of tt place (fault w place)
-fault-of GoodVerdict place = of_accepted
-fault-of Layout place = of_refused _
-fault-of LayoutReference place = of_refused _
+fault-of : (w : Verdict) (place : ℕ) → Of tt place (fault w place)
+fault-of (Ok a) place = of_accepted
+fault-of (Err n) place = of_refused _
 
 check_of_lem : (list : ℕ) (types : List ℕ) (e : Entity) (place : ℕ) → Of tt place (entity_check list types e place)
 unfolding entity_check

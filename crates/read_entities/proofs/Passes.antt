@@ -7,7 +7,8 @@ use Prim.Native.Nat.{ℕ}
 use native.Mathlib.Omega.{arith}
 use lib.Dec.{eqb}
 use lib.ListN.{length, get_or, drop}
-use Rattle.columns.specs.declared.Fault.TheVariants.{FirstValue, Layout as LayoutFault, LayoutReference as LayoutReferenceFault}
+use Rattle.columns.specs.declared.Fault.{Fault}
+use Rattle.columns.specs.declared.Fault.TheVariants.{FirstValue}
 use Rattle.columns.specs.Refusal.{Outcome, accepted, refused, demand, ◌then◌}
 use Rattle.values.specs.declared.Value.{Value}
 use Rattle.values.specs.declared.Value.TheVariants.{Default, Whole, Real, Text}
@@ -16,8 +17,8 @@ use Rattle.std.specs.Prelude.{Ok}
 use Rattle.records.specs.declared.Check.{Check}
 use Rattle.records.specs.Record.{Values, values, wrong, trimmed, kept}
 use Rattle.records.specs.Reading.{checked}
-use Rattle.layouts.specs.declared.LayoutVerdict.{LayoutVerdict}
-use Rattle.layouts.specs.declared.LayoutVerdict.TheVariants.{Good as GoodVerdict, Layout, LayoutReference}
+use Rattle.std.specs.Prelude.{Ok, Err}
+use Rattle.layouts.specs.Verdict.{Verdict}
 use Rattle.layouts.specs.Known.{known}
 use Rattle.layouts.specs.Entities.{Entity, verdict, fault, entity_check}
 use Rattle.model.specs.Model.{type_of}
@@ -32,10 +33,9 @@ then_carried : {A : Type 0} (o : Outcome (Unit {0})) (a : A) → entity_answer o
 then_carried (accepted u) a = refl
 then_carried (refused n p) a = refl
 
-fault-place : (w : LayoutVerdict) (p q : ℕ) → entity_answer (fault w p) ≡ entity_answer (fault w q)
-fault-place GoodVerdict p q = refl
-fault-place Layout p q = refl
-fault-place LayoutReference p q = refl
+fault-place : (w : Verdict) (p q : ℕ) → entity_answer (fault w p) ≡ entity_answer (fault w q)
+fault-place (Ok a) p q = refl
+fault-place (Err n) p q = refl
 
 check_place : (list : ℕ) (types : List ℕ) (e : Entity) (p q : ℕ) → entity_answer (entity_check list types e p) ≡ entity_answer (entity_check list types e q)
 unfolding entity_check
@@ -101,19 +101,15 @@ done_values (wrong f s at) x h = let z : ◌≡◌ {A = ℕ} 0 1 = cc in absurd 
 
 -- ---- the pass
 
-pub answer-fault : (w : LayoutVerdict) (p : ℕ) → verdict_answer w ≡ entity_answer (fault w p)
-answer-fault GoodVerdict p = refl
-answer-fault Layout p = refl
-answer-fault LayoutReference p = refl
+pub answer-fault : (w : Verdict) (p : ℕ) → verdict_answer w ≡ entity_answer (fault w p)
+answer-fault (Ok a) p = refl
+answer-fault (Err n) p = refl
 
-module _ {w : LayoutVerdict} where
-  pub answer_good : w ≡ GoodVerdict → Good ≡ verdict_answer w
+module _ {w : Verdict} where
+  pub answer_good : w ≡ Ok tt → Good ≡ verdict_answer w
   answer_good e = rw e
 
-  pub answer_layout : w ≡ Layout → Refused LayoutFault ≡ verdict_answer w
-  answer_layout e = rw e
+  pub answer_fault : {n : Fault} → w ≡ Err n → Refused n ≡ verdict_answer w
+  answer_fault e = rw e
 
-  pub answer_reference : w ≡ LayoutReference → Refused LayoutReferenceFault ≡ verdict_answer w
-  answer_reference e = rw e
-
-pub ruleset answering = (answer_good, answer_layout, answer_reference)
+pub ruleset answering = (answer_good, answer_fault)

@@ -1,13 +1,12 @@
 -- The code's form: what the last pass says of one entity: the answer of `by_parameters` without what is carried and without the place.
-use Rattle.std.specs.Prelude.{Bool, false, cond, not, ◌&&◌, List, ℕ, eqb, get_or, drop, Option}
-use Rattle.columns.specs.declared.Fault.TheVariants.{FirstValue, Layout as LayoutFault, LayoutReference as LayoutReferenceFault}
+use Rattle.std.specs.Prelude.{Bool, false, cond, not, ◌&&◌, List, ℕ, eqb, get_or, drop, Option, Ok, Err}
+use Rattle.columns.specs.declared.Fault.TheVariants.{FirstValue}
 use Rattle.columns.specs.Refusal.{Outcome, accepted, refused, demand, ◌then◌}
 use Rattle.values.specs.declared.Value.{Value}
 use Rattle.values.specs.declared.Value.TheVariants.{Default, Whole, Real, Text}
 use Rattle.values.specs.Value.{default}
 use Rattle.records.specs.Record.{Values, values, wrong, trimmed}
-use Rattle.layouts.specs.declared.LayoutVerdict.{LayoutVerdict}
-use Rattle.layouts.specs.declared.LayoutVerdict.TheVariants.{Good as GoodVerdict, Layout, LayoutReference}
+use Rattle.layouts.specs.Verdict.{Verdict}
 use Rattle.layouts.specs.declared.LayoutState.{LayoutState}
 use Rattle.layouts.specs.Entities.{entity_check}
 use Rattle.layouts.specs.Walk.{ended}
@@ -42,10 +41,9 @@ type_read typ (Real neg m eneg e double) = false
 type_read typ (Text start count) = false
 
 -- the answer that a verdict is
-abbrev pub verdict_answer : LayoutVerdict → EntityAnswer
-verdict_answer GoodVerdict = Good
-verdict_answer Layout = Refused LayoutFault
-verdict_answer LayoutReference = Refused LayoutReferenceFault
+abbrev pub verdict_answer : Verdict → EntityAnswer
+verdict_answer (Ok a) = Good
+verdict_answer (Err fault) = Refused fault
 
 -- by whether the first value is the type, whether the list knows the entity, and where its layout stands behind its values
 abbrev pub pass_answer : Bool → Bool → Option LayoutState → EntityAnswer

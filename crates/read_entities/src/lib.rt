@@ -34,6 +34,9 @@ pub struct Weighed {
 // lines up to it; or the first refusal.
 #[derive(Clone, Copy)]
 pub enum EntityWalked {
-    Done { state: Option<LayoutState>, length: usize },
+    Done {
+        state: Option<LayoutState>,
+        length: usize,
+    },
     Wrong(Fault),
 }

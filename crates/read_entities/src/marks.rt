@@ -29,7 +29,13 @@ pub fn mark_of(g: Option<LayoutState>) -> bool
 
 // Behind this value.
 #[tactic(auto, using(crate::proofs::Marking::marking))]
-pub fn mark_step(file: &[u8], first: usize, n: usize, g: Option<LayoutState>, v: Value) -> Option<LayoutState>
+pub fn mark_step(
+    file: &[u8],
+    first: usize,
+    n: usize,
+    g: Option<LayoutState>,
+    v: Value,
+) -> Option<LayoutState>
     requires { line_bytes * (first + 2 * n) ≤ length file.now }
     ensures { result ≡ stepped (types_at file.now first n) g v }
 {

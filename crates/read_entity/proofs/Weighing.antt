@@ -7,7 +7,7 @@ use native.Mathlib.Nat.{zero-add}
 use native.Mathlib.Omega.{arith}
 use borrow.Author.Tests.{not-true, not-false}
 use Rattle.columns.specs.declared.Fault.{Fault}
-use Rattle.columns.specs.declared.Fault.TheVariants.{FirstValue, Layout as LayoutFault}
+use Rattle.columns.specs.declared.Fault.TheVariants.{FirstValue, Layout}
 use Rattle.columns.specs.Refusal.{Outcome, accepted, demand, ◌then◌}
 use Rattle.values.specs.Value.{Item, item_of}
 use Rattle.std.specs.Prelude.{Ok, Err}
@@ -18,7 +18,7 @@ use Rattle.records.proofs.Bounds.{next_in}
 use Rattle.records.proofs.Steps.{at_last, at_more, at-wrong}
 use Rattle.layouts.specs.declared.LayoutState.{LayoutState}
 use Rattle.std.specs.Prelude.{Option, Some, None}
-use Rattle.layouts.specs.declared.LayoutVerdict.{LayoutVerdict}
+use Rattle.layouts.specs.Verdict.{Verdict}
 use Rattle.layouts.specs.Machine.{start, end}
 use Rattle.layouts.specs.Known.{known}
 use Rattle.layouts.specs.Entities.{fault}
@@ -48,10 +48,10 @@ module _ (typed inside : Bool) (g : Option LayoutState) where
     answer_outside h = rw (e, h)
 
     module _ (h : inside ≡ true) where
-      pub answer_go : {s : LayoutState} {w : LayoutVerdict} {r : EntityAnswer} → g ≡ Some s → w ≡ end s → r ≡ verdict_answer w → r ≡ pass_answer typed inside g
+      pub answer_go : {s : LayoutState} {w : Verdict} {r : EntityAnswer} → g ≡ Some s → w ≡ end s → r ≡ verdict_answer w → r ≡ pass_answer typed inside g
       answer_go q ew er = rw (e, h, q, ← ew) er
 
-      pub answer_bad : g ≡ None → Refused LayoutFault ≡ pass_answer typed inside g
+      pub answer_bad : g ≡ None → Refused Layout ≡ pass_answer typed inside g
       answer_bad q = rw (e, h, q)
 
 pub ruleset answers = (not-true, not-false, answer_first, answer_outside, answer_go, answer_bad)

@@ -12,7 +12,7 @@ ghost use Rattle.read_entities.specs.Answers.{type_read, verdict_answer, pass_an
 
 use columns::Fault;
 use columns::format::PARAMETER_COLUMNS;
-use layouts::{LayoutState, LayoutVerdict};
+use layouts::LayoutState;
 use layouts_lists::known;
 use layouts_machine::end;
 use read_entities::marks::marks_begun;
@@ -39,13 +39,13 @@ fn is_type(typ: u32, v: Value) -> bool
     }
 }
 
-fn verdict_answer(w: LayoutVerdict) -> EntityAnswer
+#[tactic(auto, using(read_entities::proofs::Passes::answering))]
+fn verdict_answer(w: Result<(), Fault>) -> EntityAnswer
     ensures { result ≡ verdict_answer w }
 {
     match w {
-        LayoutVerdict::Good => EntityAnswer::Good,
-        LayoutVerdict::Layout => EntityAnswer::Refused(Fault::Layout),
-        LayoutVerdict::LayoutReference => EntityAnswer::Refused(Fault::LayoutReference),
+        Ok(()) => EntityAnswer::Good,
+        Err(fault) => EntityAnswer::Refused(fault),
     }
 }
 

@@ -26,7 +26,13 @@ use values_spell::{head_len, real_len, whole_len};
 const AROUND: usize = 3;
 
 // The layout behind so many defaults.
-fn behind_defaults(file: &[u8], first: usize, n: usize, g: Option<LayoutState>, owed: usize) -> Option<LayoutState>
+fn behind_defaults(
+    file: &[u8],
+    first: usize,
+    n: usize,
+    g: Option<LayoutState>,
+    owed: usize,
+) -> Option<LayoutState>
     requires { line_bytes * (first + 2 * n) ≤ length file.now }
     ensures { result ≡ run (types_at file.now first n) g (replicate owed default) }
 {
@@ -39,7 +45,14 @@ fn behind_defaults(file: &[u8], first: usize, n: usize, g: Option<LayoutState>, 
 
 // The layout behind this value and the defaults owed before it; a default is owed. Most values are numbers where more of their kind follow:
 // they are answered here, for a state or a value that is passed on is copied through memory.
-fn state_after(file: &[u8], first: usize, n: usize, g: Option<LayoutState>, owed: usize, v: Value) -> Option<LayoutState>
+fn state_after(
+    file: &[u8],
+    first: usize,
+    n: usize,
+    g: Option<LayoutState>,
+    owed: usize,
+    v: Value,
+) -> Option<LayoutState>
     requires { line_bytes * (first + 2 * n) ≤ length file.now }
     ensures { result ≡ state_after (types_at file.now first n) g owed v }
 {

@@ -70,7 +70,8 @@ behind_count l neg count i =
 unfoldable pub behind_digits : List ℕ → Bool → ℕ → ℕ → Option Value
 behind_digits l neg v i =
     cond (eqb i (length l)) (as_whole neg v)
-    (cond (eqb (get_or l i 0) point) (behind_point l neg v (i + 1)) (cond (eqb (get_or l i 0) letter_h) (behind_count l neg v (i + 1)) None))
+    (cond (eqb (get_or l i 0) point) (behind_point l neg v (i + 1))
+    (cond (eqb (get_or l i 0) letter_h) (behind_count l neg v (i + 1)) None))
 
 -- a sign or none, and x, which starts at a
 abbrev pub by_digits : List ℕ → Bool → ℕ → Decimal → Option Value

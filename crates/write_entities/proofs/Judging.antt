@@ -7,19 +7,19 @@ use native.Mathlib.Omega.{arith}
 use lib.ListN.{length, drop}
 use borrow.Author.Tests.{not-true, not-false}
 use Rattle.std.proofs.Common.{Ok, Err, is_err}
-use Rattle.columns.specs.declared.Fault.TheVariants.{Mark, Layout as LayoutFault, LayoutReference as LayoutReferenceFault}
+use Rattle.columns.specs.declared.Fault.{Fault}
+use Rattle.columns.specs.declared.Fault.TheVariants.{Mark, Layout}
 use Rattle.columns.specs.declared.Signed.{Signed}
 use Rattle.columns.specs.Columns.{columns}
 use Rattle.columns.specs.Refusal.{Outcome, accepted, refused, demand, ◌then◌, refusal_at}
 use Rattle.columns.proofs.Tests.{and_assoc}
 use Rattle.values.specs.declared.Value.{Value}
-use Rattle.std.specs.Prelude.{Option, None, Some}
+use Rattle.std.specs.Prelude.{Option, Some, None}
 use Rattle.values.specs.Value.{Item, item_of}
 use Rattle.values.specs.Strict.{strict_of}
 use Rattle.directory.specs.declared.Fields.{Fields}
 use Rattle.layouts.specs.declared.LayoutState.{LayoutState}
-use Rattle.layouts.specs.declared.LayoutVerdict.{LayoutVerdict}
-use Rattle.layouts.specs.declared.LayoutVerdict.TheVariants.{Good as GoodVerdict, Layout, LayoutReference}
+use Rattle.layouts.specs.Verdict.{Verdict}
 use Rattle.layouts.specs.Known.{known}
 use Rattle.layouts.specs.Named.{named}
 use Rattle.layouts.specs.Machine.{start, step, end}
@@ -116,38 +116,35 @@ pub ruleset judging = (not-true, not-false, judge_end, judge_piece, judge_other,
 -- ---- what comes of it
 
 module _ (inside : Bool) (g : Option LayoutState) where
-  pub verdict_out : inside ≡ false → GoodVerdict ≡ verdict_if inside g
+  pub verdict_out : inside ≡ false → Ok tt ≡ verdict_if inside g
   verdict_out e = rw e
 
-  pub verdict_go : (s : LayoutState) (w : LayoutVerdict) → inside ≡ true → g ≡ Some s → w ≡ end s → w ≡ verdict_if inside g
+  pub verdict_go : (s : LayoutState) (w : Verdict) → inside ≡ true → g ≡ Some s → w ≡ end s → w ≡ verdict_if inside g
   verdict_go s w e q h = rw (e, q) h
 
-  pub verdict_bad : inside ≡ true → g ≡ None → Layout ≡ verdict_if inside g
+  pub verdict_bad : inside ≡ true → g ≡ None → Err Layout ≡ verdict_if inside g
   verdict_bad e q = rw (e, q)
 
 pub ruleset verdicts = (not-true, not-false, verdict_out, verdict_go, verdict_bad)
 
-module _ (inside marked : Bool) (j : Judged) (place : ℕ) (g : Option LayoutState) (w : LayoutVerdict) (b : Bool) (eg : g ≡ j.state) (ew : w ≡ verdict_if inside g) (eb : b ≡ equal marked inside) where
+module _ (inside marked : Bool) (j : Judged) (place : ℕ) (g : Option LayoutState) (w : Verdict) (b : Bool) (eg : g ≡ j.state) (ew : w ≡ verdict_if inside g) (eb : b ≡ equal marked inside) where
   answer : answer_of inside marked j place ≡ pass_of (fault w place then λ _. demand (b && j.right) Mark place)
   unfolding answer_of
   answer = rw (← eg, ← ew, ← eb)
 
-  pub answer_layout : w ≡ Layout → Err (refusal_at LayoutFault (sheet_line place)) ≡ answer_of inside marked j place
-  answer_layout e = sym (answer ∙ rw e)
+  pub answer_fault : {n : Fault} → w ≡ Err n → Err (refusal_at n (sheet_line place)) ≡ answer_of inside marked j place
+  answer_fault e = sym (answer ∙ rw e)
 
-  pub answer_reference : w ≡ LayoutReference → Err (refusal_at LayoutReferenceFault (sheet_line place)) ≡ answer_of inside marked j place
-  answer_reference e = sym (answer ∙ rw e)
-
-  pub answer_good : w ≡ GoodVerdict → b ≡ true → j.right ≡ true → Ok tt ≡ answer_of inside marked j place
+  pub answer_good : w ≡ Ok tt → b ≡ true → j.right ≡ true → Ok tt ≡ answer_of inside marked j place
   answer_good e h k = sym (answer ∙ rw (e, h, k))
 
-  pub answer-value : w ≡ GoodVerdict → b ≡ true → j.right ≡ false → Err (refusal_at Mark (sheet_line place)) ≡ answer_of inside marked j place
+  pub answer-value : w ≡ Ok tt → b ≡ true → j.right ≡ false → Err (refusal_at Mark (sheet_line place)) ≡ answer_of inside marked j place
   answer-value e h k = sym (answer ∙ rw (e, h, k))
 
-  pub answer-entry : w ≡ GoodVerdict → b ≡ false → Err (refusal_at Mark (sheet_line place)) ≡ answer_of inside marked j place
+  pub answer-entry : w ≡ Ok tt → b ≡ false → Err (refusal_at Mark (sheet_line place)) ≡ answer_of inside marked j place
   answer-entry e h = sym (answer ∙ rw (e, h))
 
-pub ruleset answers = (answer_layout, answer_reference, answer_good, answer-value, answer-entry)
+pub ruleset answers = (answer_fault, answer_good, answer-value, answer-entry)
 
 -- ---- the same as the paper says it
 

@@ -1,11 +1,10 @@
 -- The code's form: an entity of a sheet value by value: the layout's state, and whether all marks so far were right.
-use Rattle.std.specs.Prelude.{Bool, cond, ◌&&◌, List, [], ◌∷◌, ℕ, Option}
+use Rattle.std.specs.Prelude.{Bool, cond, ◌&&◌, List, [], ◌∷◌, ℕ, Option, Ok}
 use Rattle.columns.specs.declared.Fault.TheVariants.{Mark}
 use Rattle.columns.specs.Refusal.{demand, ◌then◌}
 use Rattle.values.specs.Value.{Item}
 use Rattle.layouts.specs.declared.LayoutState.{LayoutState}
-use Rattle.layouts.specs.declared.LayoutVerdict.{LayoutVerdict}
-use Rattle.layouts.specs.declared.LayoutVerdict.TheVariants.{Good as GoodVerdict}
+use Rattle.layouts.specs.Verdict.{Verdict}
 use Rattle.layouts.specs.Entities.{fault}
 use Rattle.layouts.specs.Walk.{feed, mark, ended}
 use Rattle.model.specs.Write.{equal}
@@ -31,8 +30,8 @@ judged types g right [] = judged_so g right
 judged types g right (v ∷ vs) = judged types (feed types g v.1) (right_too right v.0 g) vs
 
 -- the verdict, where the list knows the entity
-abbrev pub verdict_if : Bool → Option LayoutState → LayoutVerdict
-verdict_if inside g = cond inside (ended g) GoodVerdict
+abbrev pub verdict_if : Bool → Option LayoutState → Verdict
+verdict_if inside g = cond inside (ended g) (Ok tt)
 
 -- 14, 15 by the verdict, then 18 by the marks; the entry line's own mark comes first
 unfoldable pub answer_of : Bool → Bool → Judged → ℕ → SheetPass

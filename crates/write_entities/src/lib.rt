@@ -16,7 +16,7 @@ ghost use Rattle.write_lines.specs.Passes.{references_from, references_pass, ent
 
 use crate::naming::named_for;
 use columns::{Fault, Refusal, SheetLine};
-use layouts::{LayoutState, LayoutVerdict};
+use layouts::LayoutState;
 use layouts_lists::known;
 use read_entities::marks::{mark_of, marks_begun};
 use sheets::Said;
@@ -52,7 +52,13 @@ pub struct Asked {
 
 // The layout behind this value.
 #[tactic(auto, using(crate::proofs::Judging::values))]
-fn step_at(classes: &[u8], n: usize, t: &[u8], g: Option<LayoutState>, v: Value) -> Option<LayoutState>
+fn step_at(
+    classes: &[u8],
+    n: usize,
+    t: &[u8],
+    g: Option<LayoutState>,
+    v: Value,
+) -> Option<LayoutState>
     requires { Tabled classes.now n t.now }
     ensures { result ≡ stepped (sheet_types t.now) g v }
 {
@@ -133,15 +139,16 @@ fn judge(classes: &[u8], n: usize, t: &[u8], from: usize, begun: Option<LayoutSt
 }
 
 // The verdict of a layout, where the list knows the entity.
-fn verdict_if(inside: bool, g: Option<LayoutState>) -> LayoutVerdict
+#[tactic(auto, using(crate::proofs::Judging::verdicts))]
+fn verdict_if(inside: bool, g: Option<LayoutState>) -> Result<(), Fault>
     ensures { result ≡ verdict_if inside g }
 {
     if !inside {
-        return LayoutVerdict::Good;
+        return Ok(());
     }
     match g {
         Some(s) => layouts_machine::end(s),
-        None => LayoutVerdict::Layout,
+        None => Err(Fault::Layout),
     }
 }
 
@@ -154,15 +161,8 @@ fn answer_of(inside: bool, marked: bool, j: Judged, line: SheetLine) -> SheetPas
     let verdict = verdict_if(inside, g);
     let right = same(marked, inside);
     match verdict {
-        LayoutVerdict::Layout => Err(Refusal {
-            fault: Fault::Layout,
-            line,
-        }),
-        LayoutVerdict::LayoutReference => Err(Refusal {
-            fault: Fault::LayoutReference,
-            line,
-        }),
-        LayoutVerdict::Good => {
+        Err(fault) => Err(Refusal { fault, line }),
+        Ok(()) => {
             if right {
                 if j.right {
                     return Ok(());
