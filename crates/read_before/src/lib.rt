@@ -8,10 +8,10 @@ ghost use Rattle.model.specs.Read.{before};
 ghost use Rattle.read_passes.specs.Passes.{pass_of, before_answer};
 ghost use Rattle.read_passes.specs.Walks.{directory_outcome, behind_cards};
 
-use cards::{CardsRead, Counts};
-use columns::Fault;
+use cards::Counts;
+use columns::{Fault, FileLine, Refusal};
 use owners::Owned;
-use read_passes::{BeforeAnswer, FilePass, GlobalAnswer};
+use read_passes::{Before, FilePass};
 
 // 11: over entries, then over P lines.
 fn owners_pass(file: &[u8], c: Counts) -> FilePass
@@ -21,15 +21,11 @@ fn owners_pass(file: &[u8], c: Counts) -> FilePass
     let found = owners_pass::owners(file, c);
     let line = owners_pass::line_of(c, found);
     match found {
-        Owned::Everyone => FilePass::Good,
-        Owned::Entry(_) => FilePass::Refused {
+        Owned::Everyone => Ok(()),
+        Owned::Entry(_) | Owned::Line(_) => Err(Refusal {
             fault: Fault::Ownership,
             line,
-        },
-        Owned::Line(_) => FilePass::Refused {
-            fault: Fault::Ownership,
-            line,
-        },
+        }),
     }
 }
 
@@ -38,42 +34,28 @@ fn directory_pass(file: &[u8], c: Counts) -> FilePass
     requires { Holds file.now c }
     ensures { result ≡ pass_of (directory_outcome file.now c) }
 {
-    let entries = read_directory::entries(file, c);
-    match entries {
-        FilePass::Refused { fault, line } => FilePass::Refused { fault, line },
-        FilePass::Good => owners_pass(file, c),
-    }
+    read_directory::entries(file, c)?;
+    owners_pass(file, c)
 }
 
 // Behind the lines: G, then the directory.
-fn behind_cards(file: &[u8], c: Counts) -> BeforeAnswer
+fn behind_cards(file: &[u8], c: Counts) -> Result<Before, Refusal<FileLine>>
     requires { Holds file.now c }
     ensures { result ≡ before_answer (behind_cards file.now c) }
 {
-    let global = read_global::globals(file, c);
-    match global {
-        GlobalAnswer::Refused { fault, line } => BeforeAnswer::Refused { fault, line },
-        GlobalAnswer::Good { parameter, closing } => {
-            let found = directory_pass(file, c);
-            match found {
-                FilePass::Refused { fault, line } => BeforeAnswer::Refused { fault, line },
-                FilePass::Good => BeforeAnswer::Good {
-                    counts: c,
-                    parameter,
-                    closing,
-                },
-            }
-        }
-    }
+    let global = read_global::globals(file, c)?;
+    directory_pass(file, c)?;
+    Ok(Before {
+        counts: c,
+        parameter: global.parameter,
+        closing: global.closing,
+    })
 }
 
 // All that is asked of a file before the last pass.
-pub fn before(file: &[u8]) -> BeforeAnswer
+pub fn before(file: &[u8]) -> Result<Before, Refusal<FileLine>>
     ensures { result ≡ before_answer (before file.now) }
 {
-    let read = cards_pass::cards(file);
-    match read {
-        CardsRead::Refused { fault, line } => BeforeAnswer::Refused { fault, line },
-        CardsRead::Counted(c) => behind_cards(file, c),
-    }
+    let c = cards_pass::cards(file)?;
+    behind_cards(file, c)
 }

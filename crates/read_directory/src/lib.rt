@@ -12,12 +12,17 @@ ghost use Rattle.read_passes.specs.Walks.{or_else, turn_of, entry_check, referen
 
 use crate::refer::reference_check;
 use cards::Counts;
-use columns::{Fault, FileLine, wide};
+use columns::{Fault, FileLine, Refusal, wide};
 use directory::Spelt;
-use read_passes::{FilePass, Turn};
+use read_passes::FilePass;
 
-// Entry i, whose first D line is its place, with what is kept of the entries before it.
-fn entry_check(file: &[u8], c: Counts, i: usize, kept: FilePass) -> Turn
+// Entry i, whose first D line is its place: it passes 9 and 13, with what is kept of 10 behind the entries before it; or it is refused.
+fn entry_check(
+    file: &[u8],
+    c: Counts,
+    i: usize,
+    kept: FilePass,
+) -> Result<FilePass, Refusal<FileLine>>
     requires holds { Holds file.now c }
     requires i_bound { i < entries c }
     ensures { result ≡ turn_of (entry_check file.now c i) (or_else kept (reference_check file.now c i)) }
@@ -28,18 +33,15 @@ fn entry_check(file: &[u8], c: Counts, i: usize, kept: FilePass) -> Turn
     let line = FileLine(k + 1);
     let read = directory_read::entry_at(file, k);
     let Some(Spelt { fields, .. }) = read else {
-        return Turn::Refused {
+        return Err(Refusal {
             fault: Fault::Directory,
             line,
-        };
+        });
     };
     let rule = directory_rules::entry_rules(fields);
     match rule {
-        Err(fault) => Turn::Refused { fault, line },
-        Ok(()) => {
-            let next = reference_check(file, first, total, fields, line, kept);
-            Turn::Kept(next)
-        }
+        Err(fault) => Err(Refusal { fault, line }),
+        Ok(()) => Ok(reference_check(file, first, total, fields, line, kept)),
     }
 }
 
@@ -49,19 +51,9 @@ pub fn entries(file: &[u8], c: Counts) -> FilePass
     ensures { result ≡ pass_of (entries_outcome file.now c) }
 {
     let n = wide(c.d) / 2;
-    let mut i = 0;
-    let mut kept = FilePass::Good;
-    while i < n {
-        let turn = entry_check(file, c, i, kept);
-        match turn {
-            Turn::Refused { fault, line } => {
-                return FilePass::Refused { fault, line };
-            }
-            Turn::Kept(next) => {
-                kept = next;
-                i += 1;
-            }
-        }
+    let mut kept = Ok(());
+    for i in 0..n {
+        kept = entry_check(file, c, i, kept)?;
     }
     kept
 }

@@ -7,7 +7,7 @@ ghost use Rattle.directory.specs.Naming.{types_at};
 ghost use Rattle.read_passes.specs.Passes.{pass_of};
 ghost use Rattle.read_passes.specs.Walks.{or_else};
 
-use columns::{Fault, FileLine};
+use columns::{Fault, FileLine, Refusal};
 use directory::{Entry, Fields, Wanted};
 use read_passes::FilePass;
 
@@ -53,15 +53,13 @@ pub fn reference_check(
     requires { line_bytes * (first + 2 * n) ≤ length file.now }
     ensures { result ≡ or_else kept (pass_of (reference_rule (types_at file.now first n) fields line.0)) }
 {
-    let FilePass::Good = kept else {
-        return kept;
-    };
+    kept?;
     let e = directory_rules::entry_of(fields);
     if all_ask_ok(file, first, n, e) {
-        return FilePass::Good;
+        return Ok(());
     }
-    FilePass::Refused {
+    Err(Refusal {
         fault: Fault::Reference,
         line,
-    }
+    })
 }

@@ -30,11 +30,10 @@ use Rattle.records.proofs.Bounds.{done_count, done_end, failed_start}
 use Rattle.records.proofs.Globals.{parameter_above, record_above, opening_in}
 use Rattle.records.proofs.Items.{items_are}
 use Rattle.model.specs.Read.{GlobalRead, global_read, given, global_text, global_line, spelling_line, field_fits, no_stray, by_values, global_in}
-use Rattle.read_passes.specs.declared.FilePass.{FilePass}
-use Rattle.read_passes.specs.declared.FilePass.TheVariants.{Good, Refused}
-use Rattle.read_passes.specs.declared.GlobalAnswer.{GlobalAnswer}
-use Rattle.read_passes.specs.declared.GlobalAnswer.TheVariants.{Good as GlobalGood, Refused as GlobalRefused}
-use Rattle.read_passes.specs.Passes.{pass_of, answer_of, global_answer}
+use Rattle.std.specs.Prelude.{Ok, Err}
+use Rattle.columns.specs.declared.Refusal.{Refusal}
+use Rattle.columns.specs.Refusal.{refusal_at}
+use Rattle.read_passes.specs.Passes.{FilePass, GlobalAnswer, delimiters, pass_of, answer_of, global_answer}
 use Rattle.read_passes.specs.Walks.{or_else, value_fits, fields_fit, values_outcome}
 use Rattle.read_passes.proofs.GlobalText.{text_stands, text_small}
 
@@ -84,11 +83,11 @@ module _ (c : Counts) (t : List ℕ) (p d from : ℕ) where
       by (wrong f s at) ev h = let z : ◌≡◌ {A = ℕ} 0 1 = cc in absurd (omega arith)
 
   pub pass-wrong : (k : Result Check Misspelt) (x : Misspelt) (l : FileLine) → k ≡ checked (values_at 72 p d t from) → k ≡ Err x
-      → l ≡ file_line (spelling_line c t x.start x.at) → Refused x.fault l ≡ pass_of (values_outcome c t p d from)
+      → l ≡ file_line (spelling_line c t x.start x.at) → Err (refusal_at x.fault l) ≡ pass_of (values_outcome c t p d from)
   unfolding values_outcome
   pass-wrong k x l ek e el = by (values_at 72 p d t from) refl (sym ek ∙ e)
     where
-      by : (vs : Values) → values_at 72 p d t from ≡ vs → checked vs ≡ Err x → Refused x.fault l ≡ pass_of (by_values c t p d from (values_at 72 p d t from))
+      by : (vs : Values) → values_at 72 p d t from ≡ vs → checked vs ≡ Err x → Err (refusal_at x.fault l) ≡ pass_of (by_values c t p d from (values_at 72 p d t from))
       by (values vs to) ev h = let z : ◌≡◌ {A = ℕ} 0 1 = cc in absurd (omega arith)
       by (wrong f s₁ at₁) ev h =
           let en : f ≡ x.fault = cc in
@@ -119,18 +118,18 @@ module _ (c : Counts) (t : List ℕ) (p d from : ℕ) where
 -- ---- one check after another
 
 module _ (x y : FilePass) where
-  pub else_here : (n : Fault) (l : FileLine) (a : FilePass) → a ≡ x → a ≡ Refused n l → Refused n l ≡ or_else x y
-  else_here n l a e h = rw (← e, h)
+  pub else_here : (n : Refusal FileLine) (a : FilePass) → a ≡ x → a ≡ Err n → Err n ≡ or_else x y
+  else_here n a e h = rw (← e, h)
 
-  pub else_next : (a r : FilePass) → a ≡ x → a ≡ Good → r ≡ y → r ≡ or_else x y
+  pub else_next : (a r : FilePass) → a ≡ x → a ≡ Ok tt → r ≡ y → r ≡ or_else x y
   else_next a r e h k = rw (← e, h) k
 
 module _ (x : FilePass) (p d : ℕ) where
-  pub answers_good : x ≡ Good → GlobalGood p d ≡ answer_of x p d
+  pub answers_good : x ≡ Ok tt → Ok (delimiters p d) ≡ answer_of x p d
   answers_good e = rw e
 
-  pub answers_refused : (n : Fault) (l : FileLine) → x ≡ Refused n l → GlobalRefused n l ≡ answer_of x p d
-  answers_refused n l e = rw e
+  pub answers_refused : (n : Refusal FileLine) → x ≡ Err n → Err n ≡ answer_of x p d
+  answers_refused n e = rw e
 
 -- ---- the opening
 
@@ -146,14 +145,14 @@ module _ (f : List ℕ) (c : Counts) (s g : ℕ) (es : s ≡ c.s) (eg : g ≡ c.
         → r ≡ or_else (pass_of (no_stray c (global_text f c) x.end)) (pass_of (fields_fit c p d (global_text f c) from x.count)) → r ≡ pass_of (values_outcome c (global_text f c) p d from)
     record_done x r e er = pass_done c (global_text f c) p d from k x r ek_is e er
 
-    pub record_wrong : (x : Misspelt) (l : FileLine) → k ≡ Err x → l ≡ file_line (spelling_line c (global_text f c) x.start x.at) → Refused x.fault l ≡ pass_of (values_outcome c (global_text f c) p d from)
+    pub record_wrong : (x : Misspelt) (l : FileLine) → k ≡ Err x → l ≡ file_line (spelling_line c (global_text f c) x.start x.at) → Err (refusal_at x.fault l) ≡ pass_of (values_outcome c (global_text f c) p d from)
     record_wrong x l e el = pass-wrong c (global_text f c) p d from k x l ek_is e el
 
   module _ (v : Option Opening) (eo : v ≡ opening_of (text_of f (81 * s) 72 g)) where
     eo_is : opening_of (global_text f c) ≡ v
     eo_is = sym (eo ∙ ap opening_of same_text)
 
-    pub opening-wrong : v ≡ None → GlobalRefused Spelling (file_line (s + 1)) ≡ global_answer (global_in f c)
+    pub opening-wrong : v ≡ None → Err (refusal_at Spelling (file_line (s + 1))) ≡ global_answer (global_in f c)
     unfolding global_in
     opening-wrong e = rw (eo_is, e, es)
 

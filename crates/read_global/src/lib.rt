@@ -7,13 +7,13 @@ ghost use Rattle.cards.specs.Rules.{Holds};
 ghost use Rattle.cards.specs.Shared.{file_line};
 ghost use Rattle.records.specs.Record.{start_of, behind};
 ghost use Rattle.model.specs.Read.{global_text, global_line, spelling_line, no_stray, global_in};
-ghost use Rattle.read_passes.specs.Passes.{pass_of, answer_of, global_answer};
+ghost use Rattle.read_passes.specs.Passes.{pass_of, global_answer};
 ghost use Rattle.read_passes.specs.Walks.{or_else, got_value, fields_fit, values_outcome};
 
 use cards::Counts;
 use columns::format::{LINE_BYTES, TEXT_COLUMNS};
-use columns::{Fault, FileLine, wide};
-use read_passes::{FilePass, GlobalAnswer};
+use columns::{Fault, FileLine, Refusal, wide};
+use read_passes::{Delimiters, FilePass};
 use records::{Check, Got, Misspelt, Opening};
 use values::Value;
 
@@ -50,13 +50,13 @@ fn no_stray(file: &[u8], c: Counts, end: usize) -> FilePass
     let lines = wide(c.g);
     let q = records_global::stray(file, LINE_BYTES * wide(c.s), TEXT_COLUMNS, lines, end);
     if q == lines * TEXT_COLUMNS {
-        return FilePass::Good;
+        return Ok(());
     }
     let line = global_line(c, q);
-    FilePass::Refused {
+    Err(Refusal {
         fault: Fault::Spelling,
         line,
-    }
+    })
 }
 
 fn value_of(g: Got) -> Value
@@ -97,24 +97,22 @@ fn fields_fit(file: &[u8], c: Counts, parameter: u8, closing: u8, from: usize, n
 {
     let base = LINE_BYTES * wide(c.s);
     let lines = wide(c.g);
-    let mut k = 0;
     let mut q = from;
-    while k < n {
+    for k in 0..n {
         let g = records_read::value_at(file, base, TEXT_COLUMNS, lines, parameter, closing, q);
         let value = value_of(g);
         let start = start_of(g);
         let next = behind_of(g);
         if !records_global::global_fits(FIRST_FIELD + k as u32, value) {
             let line = global_line(c, start);
-            return FilePass::Refused {
+            return Err(Refusal {
                 fault: Fault::Global,
                 line,
-            };
+            });
         }
         q = next;
-        k += 1;
     }
-    FilePass::Good
+    Ok(())
 }
 
 // Behind n values from `from` on, where the record ends at `end`: stray text, then rule 8.
@@ -136,11 +134,8 @@ fn done_pass(
     ensures { result ≡ or_else (pass_of (no_stray c (global_text file.now c) end))
         (pass_of (fields_fit c parameter closing (global_text file.now c) from n)) }
 {
-    let found = no_stray(file, c, end);
-    match found {
-        FilePass::Refused { fault, line } => FilePass::Refused { fault, line },
-        FilePass::Good => fields_fit(file, c, parameter, closing, from, n),
-    }
+    no_stray(file, c, end)?;
+    fields_fit(file, c, parameter, closing, from, n)
 }
 
 // The record from `from` on.
@@ -157,23 +152,14 @@ fn values_pass(file: &[u8], c: Counts, parameter: u8, closing: u8, from: usize) 
     match check {
         Err(Misspelt { fault, start, at }) => {
             let line = spelling_line(file, c, start, at);
-            FilePass::Refused { fault, line }
+            Err(Refusal { fault, line })
         }
         Ok(Check { count, end, .. }) => done_pass(file, c, parameter, closing, from, count, end),
     }
 }
 
-fn answer_of(found: FilePass, parameter: u8, closing: u8) -> GlobalAnswer
-    ensures { result ≡ answer_of found parameter closing }
-{
-    match found {
-        FilePass::Good => GlobalAnswer::Good { parameter, closing },
-        FilePass::Refused { fault, line } => GlobalAnswer::Refused { fault, line },
-    }
-}
-
 // The Global section.
-pub fn globals(file: &[u8], c: Counts) -> GlobalAnswer
+pub fn globals(file: &[u8], c: Counts) -> Result<Delimiters, Refusal<FileLine>>
     requires { Holds file.now c }
     ensures { result ≡ global_answer (global_in file.now c) }
 {
@@ -188,15 +174,16 @@ pub fn globals(file: &[u8], c: Counts) -> GlobalAnswer
         },
     ) = opening
     else {
-        return GlobalAnswer::Refused {
+        return Err(Refusal {
             fault: Fault::Spelling,
             line: FileLine(first + 1),
-        };
+        });
     };
+    let told = Delimiters { parameter, closing };
     if last {
-        let found = no_stray(file, c, next);
-        return answer_of(found, parameter, closing);
+        no_stray(file, c, next)?;
+        return Ok(told);
     }
-    let found = values_pass(file, c, parameter, closing, next);
-    answer_of(found, parameter, closing)
+    values_pass(file, c, parameter, closing, next)?;
+    Ok(told)
 }

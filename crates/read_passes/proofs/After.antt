@@ -12,9 +12,9 @@ use Rattle.directory.specs.declared.Spelt.{Spelt}
 use Rattle.directory.specs.Lines.{entry_at, spelt_entry}
 use Rattle.directory.proofs.Within.{same_spelt}
 use Rattle.model.specs.Read.{Before, before}
-use Rattle.read_passes.specs.declared.BeforeAnswer.{BeforeAnswer}
-use Rattle.read_passes.specs.declared.BeforeAnswer.TheVariants.{Good}
-use Rattle.read_passes.specs.Passes.{before_answer}
+use Rattle.std.specs.Prelude.{Ok}
+use Rattle.read_passes.specs.declared.Before.{Before as Told}
+use Rattle.read_passes.specs.Passes.{BeforeAnswer, before_answer, told}
 use Rattle.read_passes.specs.Listed.{entry_of}
 use Rattle.read_passes.specs.Ready.{Ready}
 use Rattle.read_passes.proofs.Facts.{passed_all, Entered, entered}
@@ -30,26 +30,34 @@ pub record Answered (f : List ℕ) (c : Counts) (p d : ℕ) : Type 0 where
   pub closing : whole.global.record_end ≡ d
 
 module _ (f : List ℕ) (r : BeforeAnswer) (er : r ≡ before_answer (before f)) where
-  module _ (c : Counts) (p d : ℕ) (e : r ≡ Good c p d) where
-    pub answered : Answered f c p d
+  module _ (b : Told) (e : r ≡ Ok b) where
+    pub answered : Answered f b.counts b.parameter b.closing
     answered = by (before f) refl (sym er ∙ e)
       where
-        by : (o : Outcome Before) → before f ≡ o → before_answer o ≡ Good c p d → Answered f c p d
-        by (accepted b) eo h = record { whole = b; is = eo; counts = cc; parameter = cc; closing = cc }
+        by : (o : Outcome Before) → before f ≡ o → before_answer o ≡ Ok b → Answered f b.counts b.parameter b.closing
+        by (accepted w) eo h =
+            let s : told w.counts w.global.parameter w.global.record_end ≡ b = cc in
+            record {
+              whole = w;
+              is = eo;
+              counts = ap (λ (t : Told). t.counts) s;
+              parameter = ap (λ (t : Told). t.parameter) s;
+              closing = ap (λ (t : Told). t.closing) s;
+            }
         by (refused n l) eo h = let z : ◌≡◌ {A = ℕ} 0 1 = cc in absurd (omega arith)
 
-    pub before-ready : Ready f c
+    pub before-ready : Ready f b.counts
     before-ready =
         let a = answered in
         let h = passed_all f a.whole a.is in
         rw (← a.counts) (record { holds = h.holds; spelt = h.spelt; owned = h.owned })
 
-    pub before_parameter : 0 < p
+    pub before_parameter : 0 < b.parameter
     before_parameter =
         let a = answered in
         omega (arith, a.parameter, (passed_all f a.whole a.is).delimiters.parameter)
 
-    pub before_closing : 0 < d
+    pub before_closing : 0 < b.closing
     before_closing =
         let a = answered in
         omega (arith, a.closing, (passed_all f a.whole a.is).delimiters.closing)

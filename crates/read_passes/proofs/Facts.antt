@@ -8,9 +8,8 @@ use Rattle.columns.specs.declared.ParameterLine.{ParameterLine}
 use Rattle.columns.specs.Fixed.{signed_of}
 use Rattle.columns.specs.Refusal.{accepted}
 use Rattle.cards.specs.declared.Counts.{Counts}
-use Rattle.cards.specs.declared.CardsRead.{CardsRead}
-use Rattle.cards.specs.declared.CardsRead.TheVariants.{Counted, Refused as CardsRefused}
-use Rattle.cards.specs.Cards.{cards_of, outcome, entries, entry_line, parameter_line}
+use Rattle.std.specs.Prelude.{Ok, Err}
+use Rattle.cards.specs.Cards.{CardsRead, cards_of, outcome, entries, entry_line, parameter_line}
 use Rattle.cards.specs.Rules.{Holds}
 use Rattle.cards.proofs.Growth.{known, holds_of}
 use Rattle.records.specs.Global.{opens, opening_of}
@@ -25,7 +24,6 @@ use Rattle.owners.proofs.Round.{passes_owns, accepted_everyone}
 use Rattle.model.specs.Read.{GlobalRead, Before, global_text, global_in, entries_in, references_in, before}
 use Rattle.model.proofs.ReadApart.{GlobalApart, alone, more, global_apart, before_apart}
 use Rattle.model.proofs.Sizes.{size_same, size_some}
-use Rattle.read_passes.specs.declared.FilePass.TheVariants.{Good}
 use Rattle.read_passes.specs.Passes.{pass_of}
 use Rattle.read_passes.specs.Listed.{listed_of, listed_at, entry_of, all_entries}
 use Rattle.read_passes.proofs.Listing.{entries_are}
@@ -51,21 +49,21 @@ delimiters_are c t g (more p d next vs end eo ev s fit e) = rw e (opened_delimit
 -- ---- all
 
 pub record Passed (f : List ℕ) (b : Before) : Type 0 where
-  pub cards : cards_of f ≡ Counted b.counts
+  pub cards : cards_of f ≡ Ok b.counts
   pub holds : Holds f b.counts
   pub globals : global_in f b.counts ≡ accepted b.global
   pub said : GlobalApart b.counts (global_text f b.counts) b.global
   pub delimiters : Delimiters b.global.parameter b.global.record_end
-  pub spelt : pass_of (entries_in f b.counts) ≡ Good
+  pub spelt : pass_of (entries_in f b.counts) ≡ Ok tt
   pub listed : b.listed ≡ all_entries f b.counts
-  pub refer : pass_of (references_in b.counts (all_entries f b.counts)) ≡ Good
+  pub refer : pass_of (references_in b.counts (all_entries f b.counts)) ≡ Ok tt
   pub owned : owners_in f b.counts ≡ Everyone
 
-counted : (r : CardsRead) (c : Counts) → outcome r ≡ accepted c → r ≡ Counted c
-counted (Counted d) c h =
+counted : (r : CardsRead) (c : Counts) → outcome r ≡ accepted c → r ≡ Ok c
+counted (Ok d) c h =
     let e : d ≡ c = cc in
     rw e
-counted (CardsRefused n l) c h = let z : ◌≡◌ {A = ℕ} 0 1 = cc in absurd (omega arith)
+counted (Err n) c h = let z : ◌≡◌ {A = ℕ} 0 1 = cc in absurd (omega arith)
 
 pub passed_all : (f : List ℕ) (b : Before) → before f ≡ accepted b → Passed f b
 passed_all f b h =
@@ -99,7 +97,7 @@ pub record Entered (f : List ℕ) (c : Counts) (i : ℕ) : Type 0 where
   pub stays : from.0 + count ≤ c.p + 1
   pub stands : Stands f (81 * parameter_line c from.0) 64 count
 
-module _ (f : List ℕ) (c : Counts) (ho : Holds f c) (good : pass_of (entries_in f c) ≡ Good) (own : owners_in f c ≡ Everyone) where
+module _ (f : List ℕ) (c : Counts) (ho : Holds f c) (good : pass_of (entries_in f c) ≡ Ok tt) (own : owners_in f c ≡ Everyone) where
   parameters_stand : (from count : ℕ) → 1 ≤ from → 1 ≤ count → from + count ≤ c.p + 1 → Stands f (81 * parameter_line c from) 64 count
   parameters_stand from count lo some hi = record {
     wide = omega arith;

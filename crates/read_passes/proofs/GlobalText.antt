@@ -26,7 +26,8 @@ use Rattle.records.specs.Reading.{Stands, Sane}
 use Rattle.records.proofs.Globals.{fits-seen}
 use Rattle.records.proofs.Texts.{length-text, small}
 use Rattle.model.specs.Read.{global_text, global_line, spelling_line, no_stray}
-use Rattle.read_passes.specs.declared.FilePass.TheVariants.{Good, Refused}
+use Rattle.std.specs.Prelude.{Ok, Err}
+use Rattle.columns.specs.Refusal.{refusal_at}
 use Rattle.read_passes.specs.Passes.{pass_of}
 use Rattle.read_passes.specs.Walks.{got_value, value_fits, fields_fit}
 
@@ -95,11 +96,11 @@ module _ (f : List ℕ) (c : Counts) (ho : Holds f c) where
       q-is : end + blanks (drop end (global_text f c)) ≡ q
       q-is = sym (eq ∙ ap (λ (t : List ℕ). end + blanks (drop end t)) same_text)
 
-      pub stray_none : q ≡ g * 72 → Good ≡ pass_of (no_stray c (global_text f c) end)
+      pub stray_none : q ≡ g * 72 → Ok tt ≡ pass_of (no_stray c (global_text f c) end)
       unfolding no_stray
       stray_none e = rw (q-is, eq-eqb q (length (global_text f c)) (omega (arith, text-length)))
 
-      pub stray_some : (l : FileLine) → (q ≡ g * 72 → ⊥) → l ≡ file_line (global_line c q) → Refused Spelling l ≡ pass_of (no_stray c (global_text f c) end)
+      pub stray_some : (l : FileLine) → (q ≡ g * 72 → ⊥) → l ≡ file_line (global_line c q) → Err (refusal_at Spelling l) ≡ pass_of (no_stray c (global_text f c) end)
       unfolding no_stray
       stray_some l h e = rw (q-is, ne_eqb q (length (global_text f c)) (λ z. h (omega (arith, text-length))), e)
 
@@ -121,11 +122,11 @@ module _ (f : List ℕ) (c : Counts) (ho : Holds f c) where
         pub fit_on : b ≡ true → first_not (value_fits p d (global_text f c) from) (k + 1) (n - (k + 1)) ≡ first_not (value_fits p d (global_text f c) from) 0 n
         fit_on e = first_on (value_fits p d (global_text f c) from) k n _ inv h (sym fit_is ∙ e)
 
-        pub fit_here : b ≡ false → (start : ℕ) (l : FileLine) → start ≡ start_of v → l ≡ file_line (global_line c start) → Refused Global l ≡ pass_of (fields_fit c p d (global_text f c) from n)
+        pub fit_here : b ≡ false → (start : ℕ) (l : FileLine) → start ≡ start_of v → l ≡ file_line (global_line c start) → Err (refusal_at Global l) ≡ pass_of (fields_fit c p d (global_text f c) from n)
         unfolding fields_fit start_at
         fit_here e start l es el =
             rw (← first_here (value_fits p d (global_text f c) from) k n _ inv h (sym fit_is ∙ e), ne_eqb k n (λ z. omega arith))
-            (ap (λ (y : FileLine). Refused Global y) (el ∙ ap (λ (x : ℕ). file_line (global_line c x)) (es ∙ ap start_of value-is)))
+            (ap (λ (y : FileLine). Err (refusal_at Global y)) (el ∙ ap (λ (x : ℕ). file_line (global_line c x)) (es ∙ ap start_of value-is)))
 
   -- ---- bounds
 
@@ -146,7 +147,7 @@ module _ (c : Counts) (p d : ℕ) (t : List ℕ) (from : ℕ) where
   pub fit_start : (n : ℕ) → first_not (value_fits p d t from) 0 (n - 0) ≡ first_not (value_fits p d t from) 0 n
   fit_start n = rw sub-zero
 
-  pub fit_end : (k n : ℕ) → k ≤ n → n ≤ k → first_not (value_fits p d t from) k (n - k) ≡ first_not (value_fits p d t from) 0 n → Good ≡ pass_of (fields_fit c p d t from n)
+  pub fit_end : (k n : ℕ) → k ≤ n → n ≤ k → first_not (value_fits p d t from) k (n - k) ≡ first_not (value_fits p d t from) 0 n → Ok tt ≡ pass_of (fields_fit c p d t from n)
   unfolding fields_fit
   fit_end k n h l inv = rw (← first_end (value_fits p d t from) k n _ inv h l, eq-eqb k n (omega arith))
 

@@ -6,7 +6,6 @@ use Prim.Native.Nat.{ℕ, ◌+◌, ◌-◌, ◌*◌, ◌/◌}
 use native.Mathlib.Nat.{sub-zero}
 use native.Mathlib.Omega.{arith}
 use borrow.Author.Tests.{not-true, not-false}
-use Rattle.columns.specs.declared.Fault.{Fault}
 use Rattle.columns.specs.declared.Fault.TheVariants.{Reference}
 use Rattle.columns.specs.declared.FileLine.{FileLine}
 use Rattle.columns.specs.Refusal.{Outcome, accepted, refused, demand, ◌then◌}
@@ -24,9 +23,10 @@ use Rattle.directory.specs.Naming.{types_at}
 use Rattle.directory.proofs.Asked.{asks_nothing, asks_class, rest_all, rest_on, rest_no, rest_done}
 use Rattle.model.specs.Read.{Listed, first_entry, entries_in, references_of, references_in}
 use Rattle.model.proofs.Types.{types-listed}
-use Rattle.read_passes.specs.declared.FilePass.{FilePass}
-use Rattle.read_passes.specs.declared.FilePass.TheVariants.{Good, Refused}
-use Rattle.read_passes.specs.declared.Turn.TheVariants.{Kept}
+use Rattle.std.specs.Prelude.{Ok, Err}
+use Rattle.columns.specs.declared.Refusal.{Refusal}
+use Rattle.columns.specs.Refusal.{refusal_at}
+use Rattle.read_passes.specs.Passes.{FilePass}
 use Rattle.read_passes.specs.Passes.{pass_of}
 use Rattle.read_passes.specs.Listed.{listed_of, listed_at, entry_of, all_entries, all_types}
 use Rattle.read_passes.specs.Walks.{or_else, first_among, turn_of, entry_check, reference_check, entries_outcome}
@@ -41,18 +41,18 @@ pub ruleset asks = (not-true, not-false, asks_nothing, asks_class, rest_all, res
 -- ---- those of one entry
 
 module _ (types : List ℕ) (x : Fields) (line : FileLine) (kept : FilePass) where
-  pub kept_stays : (n : Fault) (l : FileLine) → kept ≡ Refused n l → kept ≡ or_else kept (pass_of (reference_rule types x line.0))
-  kept_stays n l e = rw e
+  pub kept_stays : (n : Refusal FileLine) → kept ≡ Err n → Err n ≡ or_else kept (pass_of (reference_rule types x line.0))
+  kept_stays n e = rw e
 
-  module _ (g : kept ≡ Good) (y : Entry) (ey : y ≡ meaning_of x) (b : Bool) (eb : b ≡ all_fit types (references y)) where
+  module _ (g : kept ≡ Ok tt) (y : Entry) (ey : y ≡ meaning_of x) (b : Bool) (eb : b ≡ all_fit types (references y)) where
     asked : or_else kept (pass_of (reference_rule types x line.0)) ≡ pass_of (demand b Reference line.0)
     unfolding reference_rule
     asked = rw (g, ← ey, ← eb)
 
-    pub refer_good : b ≡ true → Good ≡ or_else kept (pass_of (reference_rule types x line.0))
+    pub refer_good : b ≡ true → Ok tt ≡ or_else kept (pass_of (reference_rule types x line.0))
     refer_good h = sym (asked ∙ rw h)
 
-    pub refer-wrong : b ≡ false → Refused Reference line ≡ or_else kept (pass_of (reference_rule types x line.0))
+    pub refer-wrong : b ≡ false → Err (refusal_at Reference line) ≡ or_else kept (pass_of (reference_rule types x line.0))
     refer-wrong h = sym (asked ∙ rw h)
 
 pub ruleset refers = (kept_stays, refer_good, refer-wrong)
@@ -71,19 +71,19 @@ module _ (f : List ℕ) (c : Counts) (i k : ℕ) (r : Option Spelt) (ek : k ≡ 
         ap₂ (λ (y : Fields) (p : ℕ). pass_of (reference_rule (types_at f (first_d c) (entries c)) y p)) q (sym place)
 
     pub turn_kept : (rule : Result ⊤ Fault) → rule ≡ rule_of x.fields → rule ≡ Ok tt → (kept next : FilePass) (first d : ℕ) → first ≡ entry_line c 0 → d ≡ c.d
-        → next ≡ or_else kept (pass_of (reference_rule (types_at f first (d / 2)) x.fields (k + 1))) → Kept next ≡ turn_of (entry_check f c i) (or_else kept (reference_check f c i))
+        → next ≡ or_else kept (pass_of (reference_rule (types_at f first (d / 2)) x.fields (k + 1))) → Ok next ≡ turn_of (entry_check f c i) (or_else kept (reference_check f c i))
     turn_kept rule eq g kept next first d ef ed en =
         let s : first ≡ first_d c = omega arith in
         let q : next ≡ or_else kept (reference_check f c i) = en ∙ rw (s, ed, refers-at) in
-        ap Kept q ∙ turn_good f c i k r ek er x e rule eq (or_else kept (reference_check f c i)) g
+        ap (λ (p : FilePass). Ok p) q ∙ turn_good f c i k r ek er x e rule eq (or_else kept (reference_check f c i)) g
 
 -- ---- all entries
 
 -- the types that stand on the D lines are those of the entries, where all pass
-pub types-stand : (f : List ℕ) (c : Counts) → pass_of (entries_in f c) ≡ Good → all_types f c ≡ types_at f (first_d c) (entries c)
+pub types-stand : (f : List ℕ) (c : Counts) → pass_of (entries_in f c) ≡ Ok tt → all_types f c ≡ types_at f (first_d c) (entries c)
 types-stand f c good = types-listed f c (all_entries f c) (good_entries f c good)
 
-references_walk : (f : List ℕ) (c : Counts) → pass_of (entries_in f c) ≡ Good → pass_of (references_in c (all_entries f c)) ≡ first_among (reference_check f c) 0 (entries c)
+references_walk : (f : List ℕ) (c : Counts) → pass_of (entries_in f c) ≡ Ok tt → pass_of (references_in c (all_entries f c)) ≡ first_among (reference_check f c) 0 (entries c)
 unfolding references_in reference_check
 references_walk f c good =
     rw (types-stand f c good) (row_walk (references_of (types_at f (first_d c) (entries c))) (entry_of f c) (first_entry c) (entries c) 0 (first_entry c) (omega arith))
@@ -98,7 +98,7 @@ both_walk f c = rw (← entries_walk f c) (by (entries_in f c) refl)
     by (refused n p) e = refl
 
 pub both_start : (f : List ℕ) (c : Counts) (d : ℕ) → d ≡ c.d
-    → or_else (first_among (entry_check f c) 0 (d / 2 - 0)) (or_else Good (first_among (reference_check f c) 0 (d / 2 - 0))) ≡ pass_of (entries_outcome f c)
+    → or_else (first_among (entry_check f c) 0 (d / 2 - 0)) (or_else (Ok tt) (first_among (reference_check f c) 0 (d / 2 - 0))) ≡ pass_of (entries_outcome f c)
 both_start f c d e = rw (sub-zero, e) (both_walk f c)
 
 pub ruleset turns = (turn_wrong, turn_refused, turn_kept, both_start, both_on, both_here, both_end)

@@ -21,7 +21,7 @@ use Rattle.directory.specs.Fields.{type_at, fields_of}
 use Rattle.directory.specs.Lines.{number, again, pointer, lines, slot_in, number_in, Numbers, numbers, misspelt, with, numbers_from, positive, size_of, is_same, parameter_line, spelt, entry_at, label_at, spelt_entry}
 use Rattle.directory.proofs.Within.{same_spelt}
 use Rattle.model.specs.Read.{by_entry, entry_in, entries_in, first_entry, listed_type}
-use Rattle.read_passes.specs.declared.FilePass.TheVariants.{Good}
+use Rattle.std.specs.Prelude.{Ok}
 use Rattle.read_passes.specs.Passes.{pass_of}
 use Rattle.read_passes.specs.Listed.{entry_of, all_entries, all_types}
 use Rattle.read_passes.specs.Walks.{entry_check}
@@ -72,12 +72,12 @@ pub record IsSpelt (f : List ℕ) (k : ℕ) : Type 0 where
 
 -- ---- all of them
 
-module _ (f : List ℕ) (c : Counts) (good : pass_of (entries_in f c) ≡ Good) where
+module _ (f : List ℕ) (c : Counts) (good : pass_of (entries_in f c) ≡ Ok tt) where
   pub each_spelt : (i : ℕ) → i < entries c → IsSpelt f (entry_line c i)
   unfolding entry_check entry_in
   each_spelt i h = by (entry_at f (entry_line c i)) refl (each_good (entry_check f c) (entries c) 0 i (sym (entries_walk f c) ∙ good) (omega arith) (omega arith))
     where
-      by : (r : Option Spelt) → entry_at f (entry_line c i) ≡ r → pass_of (by_entry (label_at f (entry_line c i)) (first_entry c + 2 * i) r) ≡ Good → IsSpelt f (entry_line c i)
+      by : (r : Option Spelt) → entry_at f (entry_line c i) ≡ r → pass_of (by_entry (label_at f (entry_line c i)) (first_entry c + 2 * i) r) ≡ Ok tt → IsSpelt f (entry_line c i)
       by (Some s) e g = record { fields = s.fields; from = s.pointer; count = s.lines; is = e }
       by None e g = let z : ◌≡◌ {A = ℕ} 0 1 = cc in absurd (omega arith)
 

@@ -19,12 +19,11 @@ use Rattle.directory.specs.Lines.{entry_at, label_at}
 use Rattle.directory.specs.Asking.{outcome_of, rule_of}
 use Rattle.directory.proofs.Ranges.{rule_outcome}
 use Rattle.model.specs.Read.{Listed, two, by_entry, entry_in, entries_in, first_entry}
-use Rattle.read_passes.specs.declared.FilePass.{FilePass}
-use Rattle.read_passes.specs.declared.FilePass.TheVariants.{Good, Refused}
-use Rattle.read_passes.specs.Passes.{pass_of}
-use Rattle.read_passes.specs.declared.Turn.{Turn}
-use Rattle.read_passes.specs.declared.Turn.TheVariants.{Kept, Refused as RefusedTurn}
-use Rattle.read_passes.specs.Walks.{or_else, first_among, turn_of, entry_check}
+use Rattle.std.specs.Prelude.{Ok, Err}
+use Rattle.columns.specs.declared.Refusal.{Refusal}
+use Rattle.columns.specs.Refusal.{refusal_at}
+use Rattle.read_passes.specs.Passes.{FilePass, pass_of}
+use Rattle.read_passes.specs.Walks.{Turn, or_else, first_among, turn_of, entry_check}
 
 -- ---- a loop from i up to e: r is the answer
 
@@ -36,13 +35,13 @@ module _ (check : ℕ → FilePass) (i e : ℕ) (r : FilePass) (inv : first_amon
         let l : e - i ≡ suc (e - (i + 1)) = omega arith in
         rw ex (rw l at inv)
 
-    pub walk_on : x ≡ Good → first_among check (i + 1) (e - (i + 1)) ≡ r
+    pub walk_on : x ≡ Ok tt → first_among check (i + 1) (e - (i + 1)) ≡ r
     walk_on g = rw g at next
 
-    pub walk_here : {n : Fault} {l : FileLine} → x ≡ Refused n l → Refused n l ≡ r
+    pub walk_here : {n : Refusal FileLine} → x ≡ Err n → Err n ≡ r
     walk_here g = rw g at next
 
-  pub walk_end : e ≤ i → Good ≡ r
+  pub walk_end : e ≤ i → Ok tt ≡ r
   unfolding first_among
   walk_end h =
       let z : e - i ≡ 0 = omega arith in
@@ -53,13 +52,13 @@ walk_start check d n e = rw (sub-zero, e)
 
 -- ---- two rows in one loop: r is the answer, the refusals of the second kept behind those of the first
 
-pub or_good : (p : FilePass) → or_else p Good ≡ p
-or_good Good = refl
-or_good (Refused n l) = refl
+pub or_good : (p : FilePass) → or_else p (Ok tt) ≡ p
+or_good (Ok u) = refl
+or_good (Err n) = refl
 
 or_both : (p q r : FilePass) → or_else (or_else p q) r ≡ or_else p (or_else q r)
-or_both Good q r = refl
-or_both (Refused n l) q r = refl
+or_both (Ok u) q r = refl
+or_both (Err n) q r = refl
 
 module _ (a b : ℕ → FilePass) (i e : ℕ) (kept r : FilePass) (inv : or_else (first_among a i (e - i)) (or_else kept (first_among b i (e - i))) ≡ r) where
   module _ (y : Turn) (h : i < e) (ey : y ≡ turn_of (a i) (or_else kept (b i))) where
@@ -75,24 +74,23 @@ module _ (a b : ℕ → FilePass) (i e : ℕ) (kept r : FilePass) (inv : or_else
         let l : e - i ≡ suc (e - (i + 1)) = omega arith in
         rw (or_both kept (b i) rest_b) (rw l at inv)
 
-    pub both_on : {next : FilePass} → y ≡ Kept next → or_else (first_among a (i + 1) (e - (i + 1))) (or_else next (first_among b (i + 1) (e - (i + 1)))) ≡ r
+    pub both_on : {next : FilePass} → y ≡ Ok next → or_else (first_among a (i + 1) (e - (i + 1))) (or_else next (first_among b (i + 1) (e - (i + 1)))) ≡ r
     both_on {next} g = by (a i) (sym ey ∙ g) both_next
       where
-        by : (x : FilePass) → turn_of x (or_else kept (b i)) ≡ Kept next → or_else (or_else x rest_a) (or_else (or_else kept (b i)) rest_b) ≡ r → or_else rest_a (or_else next rest_b) ≡ r
-        by Good t n =
+        by : (x : FilePass) → turn_of x (or_else kept (b i)) ≡ Ok next → or_else (or_else x rest_a) (or_else (or_else kept (b i)) rest_b) ≡ r → or_else rest_a (or_else next rest_b) ≡ r
+        by (Ok u) t n =
             let q : or_else kept (b i) ≡ next = cc in
             rw q at n
-        by (Refused m l) t n = let z : ◌≡◌ {A = ℕ} 0 1 = cc in absurd (omega arith)
+        by (Err m) t n = let z : ◌≡◌ {A = ℕ} 0 1 = cc in absurd (omega arith)
 
-    pub both_here : {m : Fault} {l : FileLine} → y ≡ RefusedTurn m l → Refused m l ≡ r
-    both_here {m} {l} g = by (a i) (sym ey ∙ g) both_next
+    pub both_here : {m : Refusal FileLine} → y ≡ Err m → Err m ≡ r
+    both_here {m} g = by (a i) (sym ey ∙ g) both_next
       where
-        by : (x : FilePass) → turn_of x (or_else kept (b i)) ≡ RefusedTurn m l → or_else (or_else x rest_a) (or_else (or_else kept (b i)) rest_b) ≡ r → Refused m l ≡ r
-        by Good t n = let z : ◌≡◌ {A = ℕ} 0 1 = cc in absurd (omega arith)
-        by (Refused m' l') t n =
+        by : (x : FilePass) → turn_of x (or_else kept (b i)) ≡ Err m → or_else (or_else x rest_a) (or_else (or_else kept (b i)) rest_b) ≡ r → Err m ≡ r
+        by (Ok u) t n = let z : ◌≡◌ {A = ℕ} 0 1 = cc in absurd (omega arith)
+        by (Err m') t n =
             let em : m ≡ m' = cc in
-            let el : l ≡ l' = cc in
-            rw (em, el) n
+            rw em n
 
   pub both_end : e ≤ i → kept ≡ r
   unfolding first_among
@@ -101,14 +99,14 @@ module _ (a b : ℕ → FilePass) (i e : ℕ) (kept r : FilePass) (inv : or_else
       sym (or_good kept) ∙ (rw z at inv)
 
 -- where all passes, each does
-pub each_good : (check : ℕ → FilePass) (n i j : ℕ) → first_among check i n ≡ Good → i ≤ j → j < i + n → check j ≡ Good
+pub each_good : (check : ℕ → FilePass) (n i j : ℕ) → first_among check i n ≡ Ok tt → i ≤ j → j < i + n → check j ≡ Ok tt
 unfolding first_among
 each_good check zero i j h lo hi = absurd (omega arith)
 each_good check (suc n) i j h lo hi = by (check i) refl h (each_good check n (i + 1) j)
   where
-    by : (x : FilePass) → check i ≡ x → or_else x (first_among check (i + 1) n) ≡ Good → (first_among check (i + 1) n ≡ Good → i + 1 ≤ j → j < i + 1 + n → check j ≡ Good) → check j ≡ Good
-    by Good e k ih = elim (ℕ_discrete j i) [ yes x ↦ rw x e | no x ↦ ih k (omega arith) (omega arith) ]
-    by (Refused m l) e k ih = let z : ◌≡◌ {A = ℕ} 0 1 = cc in absurd (omega arith)
+    by : (x : FilePass) → check i ≡ x → or_else x (first_among check (i + 1) n) ≡ Ok tt → (first_among check (i + 1) n ≡ Ok tt → i + 1 ≤ j → j < i + 1 + n → check j ≡ Ok tt) → check j ≡ Ok tt
+    by (Ok u) e k ih = elim (ℕ_discrete j i) [ yes x ↦ rw x e | no x ↦ ih k (omega arith) (omega arith) ]
+    by (Err m) e k ih = let z : ◌≡◌ {A = ℕ} 0 1 = cc in absurd (omega arith)
 
 -- ---- entries two lines apart
 
@@ -138,7 +136,7 @@ module _ (f : List ℕ) (c : Counts) (i k : ℕ) (r : Option Spelt) (ek : k ≡ 
   unfolding entry_check entry_in
   one = rw (place, er, ek)
 
-  pub turn_wrong : (kept : FilePass) → r ≡ None → RefusedTurn Directory (file_line (k + 1)) ≡ turn_of (entry_check f c i) kept
+  pub turn_wrong : (kept : FilePass) → r ≡ None → Err (refusal_at Directory (file_line (k + 1))) ≡ turn_of (entry_check f c i) kept
   turn_wrong kept e = sym (ap (λ (p : FilePass). turn_of p kept) one ∙ rw e)
 
   module _ (x : Spelt) (e : r ≡ Some x) (rule : Result ⊤ Fault) (eq : rule ≡ rule_of x.fields) where
@@ -149,8 +147,8 @@ module _ (f : List ℕ) (c : Counts) (i k : ℕ) (r : Option Spelt) (ek : k ≡ 
         by (Ok done) = refl
         by (Err n) = refl
 
-    pub turn_good : (kept : FilePass) → rule ≡ Ok tt → Kept kept ≡ turn_of (entry_check f c i) kept
+    pub turn_good : (kept : FilePass) → rule ≡ Ok tt → Ok kept ≡ turn_of (entry_check f c i) kept
     turn_good kept g = sym (ap (λ (p : FilePass). turn_of p kept) ruled ∙ rw g)
 
-    pub turn_refused : (kept : FilePass) (n : Fault) → rule ≡ Err n → RefusedTurn n (file_line (k + 1)) ≡ turn_of (entry_check f c i) kept
+    pub turn_refused : (kept : FilePass) (n : Fault) → rule ≡ Err n → Err (refusal_at n (file_line (k + 1))) ≡ turn_of (entry_check f c i) kept
     turn_refused kept n g = sym (ap (λ (p : FilePass). turn_of p kept) ruled ∙ rw g)

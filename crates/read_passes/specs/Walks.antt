@@ -1,6 +1,8 @@
 -- The code's form: the passes as the code walks them: the first refusal of a row of checks, and Global's fields by their positions.
-use Rattle.std.specs.Prelude.{Bool, List, ℕ, zero, suc, ◌+◌, ◌*◌, eqb, Ok, Err}
+use Rattle.std.specs.Prelude.{Bool, List, ℕ, zero, suc, ◌+◌, ◌*◌, eqb, Result, Ok, Err}
 use Rattle.columns.specs.declared.Fault.TheVariants.{Global}
+use Rattle.columns.specs.declared.FileLine.{FileLine}
+use Rattle.columns.specs.declared.Refusal.{Refusal}
 use Rattle.columns.specs.First.{first_not}
 use Rattle.columns.specs.Refusal.{Outcome, accepted, demand, ◌then◌}
 use Rattle.columns.specs.Format.{text_columns}
@@ -16,21 +18,17 @@ use Rattle.records.specs.Items.{got_item}
 use Rattle.records.specs.Global.{first_field, global_fits}
 use Rattle.owners.specs.InFile.{owners_in, outcome as ownership_outcome}
 use Rattle.model.specs.Read.{GlobalRead, Before, entry_in, first_entry, global_line, by_values, global_in, entries_in, references_in}
-use Rattle.read_passes.specs.declared.FilePass.{FilePass}
-use Rattle.read_passes.specs.declared.FilePass.TheVariants.{Good, Refused}
-use Rattle.read_passes.specs.declared.Turn.{Turn}
-use Rattle.read_passes.specs.declared.Turn.TheVariants.{Kept, Refused as RefusedTurn}
-use Rattle.read_passes.specs.Passes.{pass_of}
+use Rattle.read_passes.specs.Passes.{FilePass, pass_of}
 use Rattle.read_passes.specs.Listed.{entry_of}
 
 -- the first refusal of two checks
 abbrev pub or_else : FilePass → FilePass → FilePass
-or_else Good q = q
-or_else (Refused n l) q = Refused n l
+or_else (Ok u) q = q
+or_else (Err r) q = Err r
 
 -- the first refusal of the checks from i on, n of them
 unfoldable pub first_among : (ℕ → FilePass) → ℕ → ℕ → FilePass
-first_among check i zero = Good
+first_among check i zero = Ok tt
 first_among check i (suc n) = or_else (check i) (first_among check (i + 1) n)
 
 -- rules 9 and 13 of entry i
@@ -42,9 +40,12 @@ unfoldable pub reference_check : List ℕ → Counts → ℕ → FilePass
 reference_check f c i = pass_of (reference_rule (types_at f (first_d c) (entries c)) (entry_of f c i).fields (first_entry c + 2 * i))
 
 -- an entry passes 9 and 13, with what is kept of 10; or it is refused
+abbrev pub Turn : Type 0
+Turn = Result FilePass (Refusal FileLine)
+
 abbrev pub turn_of : FilePass → FilePass → Turn
-turn_of Good kept = Kept kept
-turn_of (Refused n l) kept = RefusedTurn n l
+turn_of (Ok u) kept = Ok kept
+turn_of (Err r) kept = Err r
 
 -- the value that was read; a refused one stands for nothing
 abbrev pub got_value : Got → Value

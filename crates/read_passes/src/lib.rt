@@ -3,39 +3,22 @@
 #![tactic(auto)]
 
 use cards::Counts;
-use columns::{Fault, FileLine};
+use columns::{FileLine, Refusal};
 
 // All is good, or the first refusal and its line.
+pub type FilePass = Result<(), Refusal<FileLine>>;
+
+// The delimiters that G names.
 #[derive(Clone, Copy)]
-pub enum FilePass {
-    Good,
-    Refused { fault: Fault, line: FileLine },
+pub struct Delimiters {
+    pub parameter: u8,
+    pub closing: u8,
 }
 
-// An entry passes 9 and 13, with what is kept of 10; or it is refused.
+// What a file tells before its parameters are read: its counts and delimiters.
 #[derive(Clone, Copy)]
-pub enum Turn {
-    Kept(FilePass),
-    Refused { fault: Fault, line: FileLine },
-}
-
-// The delimiters that G names, or the first refusal of G.
-#[derive(Clone, Copy)]
-pub enum GlobalAnswer {
-    Good { parameter: u8, closing: u8 },
-    Refused { fault: Fault, line: FileLine },
-}
-
-// What the file tells before its parameters are read: its counts and delimiters, or its first refusal.
-#[derive(Clone, Copy)]
-pub enum BeforeAnswer {
-    Good {
-        counts: Counts,
-        parameter: u8,
-        closing: u8,
-    },
-    Refused {
-        fault: Fault,
-        line: FileLine,
-    },
+pub struct Before {
+    pub counts: Counts,
+    pub parameter: u8,
+    pub closing: u8,
 }

@@ -1,22 +1,13 @@
 -- The lines go first, and their counts hold of the file.
 use borrow.Author.Rules.{rules}
+use Rattle.std.proofs.lemmas.Result.{err_from_is_err_and}
 use Rattle.read_passes.proofs.Whole.{wholes}
 use Rattle.read_before.proofs.before.Goals as goal
 
-pub cards-read-requires : goal.cards-read-requires
-cards-read-requires c = search (rules, wholes)
+pub returns-in_err-c : goal.returns-in_err-c
+returns-in_err-c c =
+    let p = err_from_is_err_and c.from_residual.result c.from_residual.ensures.1 in
+    rw (p.1, p.2) (search (rules, wholes, c.in_err-c.was))
 
-pub enum_known-read : goal.enum_known-read
-enum_known-read c = search (rules, wholes)
-
-pub enum_known-read-in-Counted-1 : goal.enum_known-read-in-Counted-1
-enum_known-read-in-Counted-1 c = search (rules, wholes)
-
-pub behind_cards-requires : goal.behind_cards-requires
-behind_cards-requires c = search (rules, wholes)
-
-pub returns-in-Refused : goal.returns-in-Refused
-returns-in-Refused c = search (rules, wholes)
-
-pub returns-in-Counted : goal.returns-in-Counted
-returns-in-Counted c = search (rules, wholes)
+pub returns : goal.returns
+returns c = search (rules, wholes, c.in_ok-c.was)

@@ -1,31 +1,18 @@
 -- G goes before the directory, and neither tells other counts or delimiters.
 use borrow.Author.Rules.{rules}
+use Rattle.std.proofs.lemmas.Result.{err_from_is_err_and}
 use Rattle.read_passes.proofs.Whole.{wholes}
 use Rattle.read_before.proofs.behind_cards.Goals as goal
 
-pub globals-global-requires : goal.globals-global-requires
-globals-global-requires c = search (rules, wholes)
+pub returns-in_err-global : goal.returns-in_err-global
+returns-in_err-global c =
+    let p = err_from_is_err_and c.from_residual.result c.from_residual.ensures.1 in
+    rw (p.1, p.2) (search (rules, wholes, c.in_err-global.was))
 
-pub enum_known-global : goal.enum_known-global
-enum_known-global c = search (rules, wholes)
+pub returns-in_err-directory_pass : goal.returns-in_err-directory_pass
+returns-in_err-directory_pass c =
+    let p = err_from_is_err_and c.from_residual-in_err-directory_pass.result c.from_residual-in_err-directory_pass.ensures.1 in
+    rw (p.1, p.2) (search (rules, wholes, c.in_err-directory_pass.was))
 
-pub enum_known-global-in-Good-1 : goal.enum_known-global-in-Good-1
-enum_known-global-in-Good-1 c = search (rules, wholes)
-
-pub directory_pass-found-requires : goal.directory_pass-found-requires
-directory_pass-found-requires c = search (rules, wholes)
-
-pub enum_known-found : goal.enum_known-found
-enum_known-found c = search (rules, wholes)
-
-pub enum_told-1 : goal.enum_told-1
-enum_told-1 c = search (rules, wholes)
-
-pub returns-in-Refused : goal.returns-in-Refused
-returns-in-Refused c = search (rules, wholes)
-
-pub returns-in-Refused-found : goal.returns-in-Refused-found
-returns-in-Refused-found c = search (rules, wholes)
-
-pub returns-in-Good-found : goal.returns-in-Good-found
-returns-in-Good-found c = search (rules, wholes)
+pub returns : goal.returns
+returns c = search (rules, wholes, c.in_ok-global.was, c.in_ok-directory_pass.was)

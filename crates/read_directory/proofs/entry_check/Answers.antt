@@ -1,4 +1,3 @@
--- An entry is refused if a field is wrong or a rule says so, at its first D line; else its references are asked.
 use borrow.Author.Rules.{rules}
 use Rattle.read_passes.proofs.Referring.{turns}
 use Rattle.read_directory.proofs.entry_check.Goals as goal

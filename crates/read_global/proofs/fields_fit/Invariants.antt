@@ -9,8 +9,5 @@ use Rattle.read_global.proofs.fields_fit.Given as goal
 
 abbrev pub invariant-loop-k : goal.invariant-loop-k
 invariant-loop-k l =
-    (l.k ≤ l.n) × (l.q ≤ l.lines * 72) × (l.q ≡ position_of 72 l.parameter l.closing (global_text l.file l.c) l.from l.k)
+    (l.q ≤ l.lines * 72) × (l.q ≡ position_of 72 l.parameter l.closing (global_text l.file l.c) l.from l.k)
     × (first_not (value_fits l.parameter l.closing (global_text l.file l.c) l.from) l.k (l.n - l.k) ≡ first_not (value_fits l.parameter l.closing (global_text l.file l.c) l.from) 0 l.n)
-
-abbrev pub decreases-loop-k : goal.decreases-loop-k
-decreases-loop-k l = l.n - l.k
