@@ -1,13 +1,13 @@
 -- The plan is what reading tells: its answer is the table's, its entries stand in the file and fit the slots, and stored they are the table. Assumes nothing.
 use mathlib.Core.Path.{◌≡◌, refl, sym, ap, ap₂, subst, ◌∙◌}
 use mathlib.Core.Bool.{Bool, true, false}
-use mathlib.Core.List.{List, [], ◌∷◌, ◌++◌, map}
+use mathlib.Core.List.{List, [], ◌∷◌, ◌++◌, map, append-nil}
 use Prim.Native.Nat.{ℕ, zero, suc, ◌+◌, ◌/◌, ◌≤◌, ◌<◌}
 use native.Mathlib.Nat.{add-zero}
 use native.Mathlib.Numerals.{add-one}
 use native.Mathlib.Omega.{arith}
-use lib.ListN.{length, length-map, length-set, drop}
-use lib.Seq.{sets, sets-eq}
+use lib.ListN.{length, length-map, length-set, take, drop, drop_of_length-le}
+use lib.Seq.{sets, sets-eq, length-take-le}
 use lib.Dec.{leb}
 use borrow.Author.Tests.{le-leb, lt-leb, leb-true, leb-false}
 use Rattle.columns.specs.declared.Fault.{Fault}
@@ -57,6 +57,14 @@ module _ (list : ℕ) (f : List ℕ) (first : ℕ) (rs : List Record) where
       let z : 0 + n ≡ n = omega arith in
       let s : sets rs 0 (map here (up_from 0 n)) ≡ map here (up_from 0 n) ++ drop (0 + length (map here (up_from 0 n))) rs = sets-eq (map here (up_from 0 n)) rs 0 (omega (arith, e)) in
       ap (filled list f first rs) (sym z) ∙ sym (stored_from n 0) ∙ s ∙ ap (λ (j : ℕ). map here (up_from 0 n) ++ drop j rs) (ap (λ (j : ℕ). 0 + j) e ∙ z)
+
+-- the first n slots taken, beside the slots past them
+pub filled_part : (list : ℕ) (f : List ℕ) (first : ℕ) (rs : List Record) (n : ℕ) → n ≤ length rs → filled list f first (take n rs) n ++ drop n rs ≡ filled list f first rs n
+filled_part list f first rs n h =
+    let e : length (take n rs) ≡ n = length-take-le n rs h in
+    let z : drop n (take n rs) ≡ [] = drop_of_length-le (take n rs) (omega (arith, e)) in
+    let s = map (record_in list f first) (up_from 0 n) in
+    ap (λ ys. ys ++ drop n rs) (stored_all list f first (take n rs) n (omega (arith, e)) ∙ ap (λ ys. s ++ ys) z ∙ append-nil s) ∙ sym (stored_all list f first rs n h)
 
 -- ---- the answers of the functions
 

@@ -65,18 +65,6 @@ fn plan_for(list: u64, file: &[u8], room: usize) -> Plan
     }
 }
 
-fn count_of(plan: Plan) -> usize
-    ensures { result ≡ plan.count }
-{
-    plan.count
-}
-
-fn answer_of(plan: Plan) -> Answer
-    ensures { result ≡ plan.answer }
-{
-    plan.answer
-}
-
 // The record of entry i.
 fn record_of(list: u64, file: &[u8], plan: Plan, i: usize) -> Record
     requires { HasEntry file.now plan.first i }
@@ -92,11 +80,8 @@ pub fn directory(list: u64, file: &[u8], table: &mut [Record]) -> Answer
         × (table.new ≡ slots_left table.old (listed_in list file.now)) }
 {
     let told = plan_for(list, file, table.len());
-    let n = count_of(told);
-    let mut i = 0;
-    while i < n {
-        table[i] = record_of(list, file, told, i);
-        i += 1;
+    for (i, slot) in table[..told.count].iter_mut().enumerate() {
+        *slot = record_of(list, file, told, i);
     }
-    answer_of(told)
+    told.answer
 }

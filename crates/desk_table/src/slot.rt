@@ -14,16 +14,7 @@ fn eight(file: &[u8], at: usize) -> [u8; FIELD_COLUMNS]
     requires { at + field_columns ≤ length file.now }
     ensures { result ≡ take field_columns (drop at file.now) }
 {
-    [
-        file[at],
-        file[at + 1],
-        file[at + 2],
-        file[at + 3],
-        file[at + 4],
-        file[at + 5],
-        file[at + 6],
-        file[at + 7],
-    ]
+    *file[at..].first_chunk().unwrap()
 }
 
 // What stands for a misspelt entry; no file that reading accepts has one.
