@@ -46,22 +46,23 @@ unfolding spells
 one_more left x ys = length-append (spell left x) (9 ∷ spells left ys)
 
 -- one turn: a number and a tab
-pub turn_length : (xs : List Signed) (left k size t n : ℕ) → 0 < left → k + left ≡ 13 → length xs ≡ 13 → size + length (spells left (drop k xs)) ≡ t
-    → n ≡ length (spell (left - 1) (get_or xs k nought)) → size + (n + 1) + length (spells (left - 1) (drop (k + 1) xs)) ≡ t
-turn_length xs left k size t n h c l inv en =
-    let m : left ≡ suc (left - 1) = omega arith in
+pub turn_length : (xs : List Signed) (k size t n : ℕ) → k < 13 → length xs ≡ 13 → size + length (spells (13 - k) (drop k xs)) ≡ t
+    → n ≡ length (spell (12 - k) (get_or xs k nought)) → size + (n + 1) + length (spells (13 - (k + 1)) (drop (k + 1) xs)) ≡ t
+turn_length xs k size t n h l inv en =
+    let m : 13 - k ≡ suc (12 - k) = omega arith in
+    let e : 13 - (k + 1) ≡ 12 - k = omega arith in
     let d : drop k xs ≡ get_or xs k nought ∷ drop (k + 1) xs = rw add-one (drop-cons xs k nought (omega arith)) in
-    let a : length (spells left (drop k xs)) ≡ length (spells (suc (left - 1)) (get_or xs k nought ∷ drop (k + 1) xs)) = ap₂ (λ (j : ℕ) (ys : List Signed). length (spells j ys)) m d in
-    omega (arith, a, one_more (left - 1) (get_or xs k nought) (drop (k + 1) xs))
+    let a : length (spells (13 - k) (drop k xs)) ≡ length (spells (suc (12 - k)) (get_or xs k nought ∷ drop (k + 1) xs)) = ap₂ (λ (j : ℕ) (ys : List Signed). length (spells j ys)) m d in
+    rw e (omega (arith, a, one_more (12 - k) (get_or xs k nought) (drop (k + 1) xs)))
 
 pub turns_begin : (xs : List Signed) → 0 + length (spells 13 (drop 0 xs)) ≡ length (spells 13 xs)
 turns_begin xs = zero-add _
 
-pub turns_done : (xs : List Signed) (left k size t : ℕ) → left ≤ 0 → size + length (spells left (drop k xs)) ≡ t → size ≡ t
+pub turns_done : (xs : List Signed) (k size t : ℕ) → 13 ≤ k → size + length (spells (13 - k) (drop k xs)) ≡ t → size ≡ t
 unfolding spells
-turns_done xs left k size t h inv =
-    let m : left ≡ 0 = omega arith in
-    let a : length (spells left (drop k xs)) ≡ 0 = rw m refl in
+turns_done xs k size t h inv =
+    let m : 13 - k ≡ 0 = omega arith in
+    let a : length (spells (13 - k) (drop k xs)) ≡ 0 = rw m refl in
     omega (arith, a)
 
 -- ---- the line

@@ -73,19 +73,20 @@ unfolding spell
 num_plain left x p e = simp (ne_eqb _ _ e) p
 
 -- one turn: a number and a tab
-pub turn : {o bs o₁ o₂ o₃ : List ℕ} {at r₁ r₂ r₃ : ℕ} (xs : List Signed) (left k : ℕ) → 0 < left → k + left ≡ 13 → length xs ≡ 13
-    → Owes o at bs o₁ r₁ (spells left (drop k xs)) → Wrote o₁ r₁ (spell (left - 1) (get_or xs k nought)) o₂ r₂ → Wrote o₂ r₂ (9 ∷ []) o₃ r₃
-    → Owes o at bs o₃ r₃ (spells (left - 1) (drop (k + 1) xs))
+pub turn : {o bs o₁ o₂ o₃ : List ℕ} {at r₁ r₂ r₃ : ℕ} (xs : List Signed) (k : ℕ) → k < 13 → length xs ≡ 13
+    → Owes o at bs o₁ r₁ (spells (13 - k) (drop k xs)) → Wrote o₁ r₁ (spell (12 - k) (get_or xs k nought)) o₂ r₂ → Wrote o₂ r₂ (9 ∷ []) o₃ r₃
+    → Owes o at bs o₃ r₃ (spells (13 - (k + 1)) (drop (k + 1) xs))
 unfolding spells
-turn xs left k h c l p q t =
-    let m : left ≡ suc (left - 1) = omega arith in
+turn xs k h l p q t =
+    let m : 13 - k ≡ suc (12 - k) = omega arith in
+    let n : 13 - (k + 1) ≡ 12 - k = omega arith in
     let d : drop k xs ≡ get_or xs k nought ∷ drop (k + 1) xs = rw add-one (drop-cons xs k nought (omega arith)) in
-    owes_less (owes_less (rw (m, d) at p) q) t
+    rw n (owes_less (owes_less (rw (m, d) at p) q) t)
 
-pub turns_end : {o bs o' : List ℕ} {at r : ℕ} (xs : List Signed) (left k : ℕ) → left ≤ 0 → Owes o at bs o' r (spells left (drop k xs)) → Wrote o at bs o' r
+pub turns_end : {o bs o' : List ℕ} {at r : ℕ} (xs : List Signed) (k : ℕ) → 13 ≤ k → Owes o at bs o' r (spells (13 - k) (drop k xs)) → Wrote o at bs o' r
 unfolding spells
-turns_end xs left k h p =
-    let m : left ≡ 0 = omega arith in
+turns_end xs k h p =
+    let m : 13 - k ≡ 0 = omega arith in
     owes_none (rw m at p)
 
 pub wrote_entry : {o o₁ o₂ o₃ : List ℕ} {at r₁ r₂ r₃ m : ℕ} (label : List ℕ) (known : Bool) (n : ℕ) (x : Fields) (xs : List Signed) → m ≡ cond known 69 85 → xs ≡ sized false n ∷ in_order x

@@ -95,32 +95,22 @@ fn in_order(n: DirectoryNumber, x: Fields) -> [Signed; 13]
         neg: false,
         size: n.0,
     };
-    let numbers = order::in_order(x);
     let mut xs = [number; 13];
-    let mut k = 0;
-    while k < order::NUMBERS {
-        let y = numbers[k];
-        k += 1;
-        xs[k] = y;
-    }
+    xs[1..].copy_from_slice(&order::in_order(x));
     xs
 }
 
 // Writes the numbers, a tab behind each.
+#[tactic(auto, using(sheets::proofs::Written::written))]
 fn put_numbers(out: &mut [u8], at: usize, xs: [Signed; 13]) -> usize
     requires { at < 2 ^ 60 }
     ensures wrote { Wrote out.old at (spells number_count xs) out.new result }
     ensures upper_bound { result ≤ at + 377 }
 {
-    let mut left = 13;
-    let mut k = 0;
     let mut next = at;
-    while 0 < left {
-        left -= 1;
-        let x = xs[k];
-        next = put_num(out, next, left, x);
+    for (k, x) in xs.iter().enumerate() {
+        next = put_num(out, next, order::NUMBERS - k, *x);
         next = columns_emit::put(out, next, b'\t');
-        k += 1;
     }
     next
 }
@@ -169,19 +159,14 @@ fn num_len(left: usize, x: Signed) -> usize
 }
 
 // How many bytes the numbers take, a tab behind each.
+#[tactic(auto, using(sheets::proofs::Measured::measured))]
 fn numbers_len(xs: [Signed; 13]) -> usize
     ensures value { result ≡ length (spells number_count xs) }
     ensures upper_bound { result ≤ 273 }
 {
-    let mut left = 13;
-    let mut k = 0;
     let mut size = 0;
-    while 0 < left {
-        left -= 1;
-        let x = xs[k];
-        let n = num_len(left, x);
-        size += n + 1;
-        k += 1;
+    for (k, x) in xs.iter().enumerate() {
+        size += num_len(order::NUMBERS - k, *x) + 1;
     }
     size
 }

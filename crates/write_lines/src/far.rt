@@ -11,8 +11,8 @@ ghost use Rattle.write_lines.specs.Classes.{table_size, Tabled};
 ghost use Rattle.write_lines.specs.Shown.{begins_entry, EntryAt, plain_at, plain_class, Shown};
 
 use crate::table::PARTS;
+use columns::DirectoryNumber;
 use columns::format::MOST_INTEGER_WIDE;
-use columns::{DirectoryNumber, byte_u32};
 use references::NO_ENTRY;
 use sheets_numbers::{UNREAD, find, size_at};
 
@@ -22,8 +22,8 @@ fn told(table: &[u8], q: usize) -> DirectoryNumber
     requires table_len { length table.now ≡ table_size }
 {
     let i = 4 * q;
-    let low = byte_u32(table[i]) + 256 * byte_u32(table[i + 1]);
-    let high = byte_u32(table[i + 2]) + 256 * byte_u32(table[i + 3]);
+    let low = u32::from(table[i]) + 256 * u32::from(table[i + 1]);
+    let high = u32::from(table[i + 2]) + 256 * u32::from(table[i + 3]);
     DirectoryNumber(low + 65536 * high)
 }
 
@@ -93,7 +93,7 @@ fn number_at(t: &[u8], at: usize) -> DirectoryNumber
         if 400000000 < number {
             return DirectoryNumber(number);
         }
-        number = number * 10 + byte_u32(t[i] - b'0');
+        number = number * 10 + u32::from(t[i] - b'0');
         i += 1;
     }
     DirectoryNumber(number)
