@@ -3,15 +3,16 @@ use mathlib.Core.Path.{◌≡◌, sym, ◌∙◌}
 use mathlib.Core.List.{List}
 use Prim.Native.Nat.{ℕ, ◌*◌, ◌≤◌, ◌<◌}
 use lib.ListN.{length}
+use Rattle.std.proofs.Common.{Ok, Err, None, Some}
 use Rattle.columns.specs.declared.Fault.{Fault}
 use Rattle.columns.specs.declared.Fault.TheVariants.{Room, TooLong}
+use Rattle.columns.specs.declared.Refusal.{Refusal}
 use Rattle.columns.specs.declared.SheetLine.{SheetLine}
 use Rattle.columns.specs.Laid.{Wrote}
 use Rattle.columns.specs.Refusal.{accepted, refused, number}
 use Rattle.columns.proofs.Writes.{wrote_length}
 use Rattle.cards.specs.declared.Counts.{Counts}
 use Rattle.cards.specs.Cards.{total}
-use Rattle.sheets.specs.declared.SheetVerdict.TheVariants.{Good as GoodSheet}
 use Rattle.sheets.specs.Sheet.{lines_in, sheet_of}
 use Rattle.sheets.specs.Order.{verdict_of}
 use Rattle.sheets.specs.WellFormed.{Each}
@@ -19,11 +20,8 @@ use Rattle.model.specs.Model.{model_of}
 use Rattle.model.specs.Canonical.{canonical}
 use Rattle.model.specs.Write.{write_model, writes}
 use Rattle.write_check.specs.declared.Ruled.{Ruled}
-use Rattle.write_check.specs.declared.Ruled.TheVariants.{Good, Refused}
-use Rattle.write_check.specs.Answers.{ruled_of}
+use Rattle.write_check.specs.Answers.{Ruling, ruled_of}
 use Rattle.write_check.proofs.Facts.{Passed, ruled_good, ruled_refused}
-use Rattle.file_canonical.specs.declared.Lines.{Lines}
-use Rattle.file_canonical.specs.declared.Lines.TheVariants.{Are, TooMany}
 use Rattle.file_canonical.specs.Counting.{lines_of_sheet}
 use Rattle.file_canonical.specs.Laying.{Ranged}
 use Rattle.file_canonical.proofs.Answers.{passed, answer-file, answer-length, answer_long}
@@ -36,22 +34,22 @@ not_written : (list : ℕ) (t : List ℕ) (n : Fault) (place : ℕ) → write_mo
 unfolding writes
 not_written list t n place e = rw e
 
-module _ (list : ℕ) (t o : List ℕ) (r : Ruled) (er : r ≡ ruled_of list t) where
-  module _ (n : Fault) (l : SheetLine) (e : r ≡ Refused n l) where
-    refuses : writes list t ≡ refused n l.0
-    refuses = not_written list t n l.0 (ruled_refused list t n l (sym e ∙ er))
+module _ (list : ℕ) (t o : List ℕ) (r : Ruling) (er : r ≡ ruled_of list t) where
+  module _ (w : Refusal SheetLine) (e : r ≡ Err w) where
+    refuses : writes list t ≡ refused w.fault w.line.0
+    refuses = not_written list t w.fault w.line.0 (ruled_refused list t w (sym e ∙ er))
 
-    pub refused_answer : (y : Answer) → y ≡ answer (number n) l.0 0 → y ≡ answer_of (length o) (writes list t)
-    refused_answer = answered.refused_answer (writes list t) o n l.0 refuses
+    pub refused_answer : (y : Answer) → y ≡ answer (number w.fault) w.line.0 0 → y ≡ answer_of (length o) (writes list t)
+    refused_answer = answered.refused_answer (writes list t) o w.fault w.line.0 refuses
 
     pub refused_left : o ≡ left_in o (writes list t)
-    refused_left = answered.refused_left (writes list t) o n l.0 refuses
+    refused_left = answered.refused_left (writes list t) o w.fault w.line.0 refuses
 
-  module _ (n : ℕ) (k : Lines) (e : r ≡ Good n k) where
-    good : Passed list t n k
-    good = ruled_good list t n k (sym e ∙ er)
+  module _ (d : Ruled) (e : r ≡ Ok d) where
+    good : Passed list t d.entries d.lines
+    good = ruled_good list t d.entries d.lines (sym e ∙ er)
 
-    module _ (many : k ≡ TooMany) where
+    module _ (many : d.lines ≡ None) where
       long : writes list t ≡ refused TooLong 0
       long = answer_long list t (model_of (sheet_of (lines_in t))) good.model (sym good.lines ∙ many)
 
@@ -61,12 +59,12 @@ module _ (list : ℕ) (t o : List ℕ) (r : Ruled) (er : r ≡ ruled_of list t) 
       pub long_left : o ≡ left_in o (writes list t)
       long_left = answered.refused_left (writes list t) o TooLong 0 long
 
-    module _ (c : Counts) (few : k ≡ Are c) where
+    module _ (c : Counts) (few : d.lines ≡ Some c) where
       -- what laying the file needs
-      pub needs_good : verdict_of t ≡ GoodSheet n
+      pub needs_good : verdict_of t ≡ Ok d.entries
       needs_good = good.verdict
 
-      pub needs_counts : lines_of_sheet (lines_in t) ≡ Are c
+      pub needs_counts : lines_of_sheet (lines_in t) ≡ Some c
       needs_counts = sym good.lines ∙ few
 
       pub needs_ranges : Each Ranged (sheet_of (lines_in t)).rows
