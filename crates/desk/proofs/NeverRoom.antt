@@ -45,7 +45,6 @@ use Rattle.directory.specs.Rules.{ranges_ok, all_fit, references, entry_rules, r
 use Rattle.owners.specs.declared.Owned.{Owned}
 use Rattle.owners.specs.declared.Owned.TheVariants.{Everyone, Entry, Line}
 use Rattle.owners.specs.InFile.{owners_in, outcome as ownership_outcome}
-use Rattle.std.specs.Prelude.{Ok, Err}
 use Rattle.layouts.specs.Known.{known}
 use Rattle.layouts.specs.Entities.{Entity, fault, verdict, entity_check}
 use Rattle.sheets.specs.Sheet.{Sheet, lines_in, sheet_of}

@@ -17,7 +17,7 @@ use Rattle.std.specs.Prelude.{Ok}
 use Rattle.records.specs.declared.Check.{Check}
 use Rattle.records.specs.Record.{Values, values, wrong, trimmed, kept}
 use Rattle.records.specs.Reading.{checked}
-use Rattle.std.specs.Prelude.{Ok, Err}
+use Rattle.std.specs.Prelude.{Err}
 use Rattle.layouts.specs.Verdict.{Verdict}
 use Rattle.layouts.specs.Known.{known}
 use Rattle.layouts.specs.Entities.{Entity, verdict, fault, entity_check}

@@ -30,7 +30,6 @@ use Rattle.records.proofs.Bounds.{done_count, done_end, failed_start}
 use Rattle.records.proofs.Globals.{parameter_above, record_above, opening_in}
 use Rattle.records.proofs.Items.{items_are}
 use Rattle.model.specs.Read.{GlobalRead, global_read, given, global_text, global_line, spelling_line, field_fits, no_stray, by_values, global_in}
-use Rattle.std.specs.Prelude.{Ok, Err}
 use Rattle.columns.specs.declared.Refusal.{Refusal}
 use Rattle.columns.specs.Refusal.{refusal_at}
 use Rattle.read_passes.specs.Passes.{FilePass, GlobalAnswer, delimiters, pass_of, answer_of, global_answer}

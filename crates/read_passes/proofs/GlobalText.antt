@@ -26,7 +26,6 @@ use Rattle.records.specs.Reading.{Stands, Sane}
 use Rattle.records.proofs.Globals.{fits-seen}
 use Rattle.records.proofs.Texts.{length-text, small}
 use Rattle.model.specs.Read.{global_text, global_line, spelling_line, no_stray}
-use Rattle.std.specs.Prelude.{Ok, Err}
 use Rattle.columns.specs.Refusal.{refusal_at}
 use Rattle.read_passes.specs.Passes.{pass_of}
 use Rattle.read_passes.specs.Walks.{got_value, value_fits, fields_fit}

@@ -23,7 +23,7 @@ use Rattle.directory.specs.Naming.{types_at}
 use Rattle.directory.proofs.Asked.{asks_nothing, asks_class, rest_all, rest_on, rest_no, rest_done}
 use Rattle.model.specs.Read.{Listed, first_entry, entries_in, references_of, references_in}
 use Rattle.model.proofs.Types.{types-listed}
-use Rattle.std.specs.Prelude.{Ok, Err}
+use Rattle.std.specs.Prelude.{Err}
 use Rattle.columns.specs.declared.Refusal.{Refusal}
 use Rattle.columns.specs.Refusal.{refusal_at}
 use Rattle.read_passes.specs.Passes.{FilePass}

@@ -19,7 +19,6 @@ use Rattle.directory.specs.Lines.{entry_at, label_at}
 use Rattle.directory.specs.Asking.{outcome_of, rule_of}
 use Rattle.directory.proofs.Ranges.{rule_outcome}
 use Rattle.model.specs.Read.{Listed, two, by_entry, entry_in, entries_in, first_entry}
-use Rattle.std.specs.Prelude.{Ok, Err}
 use Rattle.columns.specs.declared.Refusal.{Refusal}
 use Rattle.columns.specs.Refusal.{refusal_at}
 use Rattle.read_passes.specs.Passes.{FilePass, pass_of}
