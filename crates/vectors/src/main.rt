@@ -18,18 +18,15 @@ use std::io::Read;
 // A vector: whether it is written (1) or read (0), under which list, the answer that is expected; where its name, its input and the
 // expected output stand in its pack, up to where the next vector begins.
 #[derive(Clone, Copy)]
-pub enum Packed {
-    Vector {
-        op: u64,
-        list: u64,
-        number: u64,
-        place: u64,
-        name: usize,
-        input: usize,
-        output: usize,
-        end: usize,
-    },
-    Broken,
+pub struct Vector {
+    pub op: u64,
+    pub list: u64,
+    pub number: u64,
+    pub place: u64,
+    pub name: usize,
+    pub input: usize,
+    pub output: usize,
+    pub end: usize,
 }
 
 // More than the pack takes.
@@ -102,36 +99,23 @@ fn all(rt: &impl Print, p: &[u8], out: &mut [u8]) -> Results
     let mut passed: u64 = 0;
     let mut at = 0;
     while at < p.len() {
-        match vector_at(p, at) {
-            Packed::Broken => {
-                blame(rt, b"a broken pack");
-                return Results { tried, passed };
-            }
-            Packed::Vector {
-                op,
-                list,
-                number,
-                place,
-                name,
-                input,
-                output,
-                end,
-            } => {
-                passed += score(
-                    rt,
-                    op,
-                    list,
-                    number,
-                    place,
-                    &p[name..input],
-                    &p[input..output],
-                    &p[output..end],
-                    out,
-                );
-                tried += 1;
-                at = end;
-            }
-        }
+        let Some(v) = vector_at(p, at) else {
+            blame(rt, b"a broken pack");
+            return Results { tried, passed };
+        };
+        passed += score(
+            rt,
+            v.op,
+            v.list,
+            v.number,
+            v.place,
+            &p[v.name..v.input],
+            &p[v.input..v.output],
+            &p[v.output..v.end],
+            out,
+        );
+        tried += 1;
+        at = v.end;
     }
     Results { tried, passed }
 }

@@ -3,7 +3,7 @@
 ghost use Rattle.std.specs.Prelude.{◌≡◌, ◌+◌, ◌^◌, ◌≤◌, ◌<◌, length};
 ghost use Rattle.vectors.specs.Packs.{number_at, vector_at, Lies};
 
-use crate::Packed;
+use crate::Vector;
 use columns::{Field, wide};
 use columns_fixed::read_field;
 
@@ -31,15 +31,15 @@ fn length_at(p: &[u8], at: usize) -> usize
     wide(n)
 }
 
-// The vector from `at` on.
-pub fn vector_at(p: &[u8], at: usize) -> Packed
+// The vector from `at` on, unless the pack is broken there.
+pub fn vector_at(p: &[u8], at: usize) -> Option<Vector>
     requires { at ≤ length p.now }
     ensures value { result ≡ vector_at p.now at }
     ensures lies { Lies at (length p.now) result }
 {
     let n = p.len();
     if n - at < HEAD {
-        return Packed::Broken;
+        return None;
     }
     let op = number_at(p, at) as u64;
     let list = number_at(p, at + 8) as u64;
@@ -50,9 +50,9 @@ pub fn vector_at(p: &[u8], at: usize) -> Packed
     let output = input + length_at(p, at + 40);
     let end = output + length_at(p, at + 48);
     if n < end {
-        return Packed::Broken;
+        return None;
     }
-    Packed::Vector {
+    Some(Vector {
         op,
         list,
         number,
@@ -61,5 +61,5 @@ pub fn vector_at(p: &[u8], at: usize) -> Packed
         input,
         output,
         end,
-    }
+    })
 }

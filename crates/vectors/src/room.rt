@@ -10,23 +10,12 @@ pub fn fill(out: &mut [u8])
     ensures out_after { out.new ≡ ready (length out.old) }
     ensures out_len_unchanged { length out.new ≡ length out.old }
 {
-    let mut i = 0;
-    while i < out.len() {
-        out[i] = FILL;
-        i += 1;
-    }
+    out.fill(FILL);
 }
 
 // Whether all is as it was filled from `from` on.
 pub fn untouched(out: &[u8], from: usize) -> bool
     ensures { result ≡ untouched (drop from out.now) }
 {
-    let mut i = from;
-    while i < out.len() {
-        if out[i] != FILL {
-            return false;
-        }
-        i += 1;
-    }
-    true
+    out.iter().skip(from).all(|b| *b == FILL)
 }
