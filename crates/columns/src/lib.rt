@@ -58,7 +58,7 @@ pub struct Signed {
     pub size: u32,
 }
 
-// A count or a number of the file as a length.
+// A count or a number of the file as a length: a function of our own, since std has no `From<u32>` for `usize`.
 pub fn wide(x: u32) -> usize
     ensures { (result ≡ x) × (result < 2 ^ 32) }
 {
@@ -69,12 +69,12 @@ pub fn wide(x: u32) -> usize
 pub fn byte_u32(b: u8) -> u32
     ensures { (result ≡ b) × (result < 256) }
 {
-    b as u32
+    u32::from(b)
 }
 
 // The same of 64 bits, for numbers of many digits.
 pub fn byte_u64(b: u8) -> u64
     ensures { (result ≡ b) × (result < 256) }
 {
-    b as u64
+    u64::from(b)
 }
