@@ -65,14 +65,14 @@ pub fn wide(x: u32) -> usize
     x as usize
 }
 
-// A byte as a number of 32 bits: a digit that is added up.
+// A byte as a number of 32 bits: a digit that is added up. Code may as well write `u32::from`; `demands` has a theorem on this name.
 pub fn byte_u32(b: u8) -> u32
     ensures { (result ≡ b) × (result < 256) }
 {
     u32::from(b)
 }
 
-// The same of 64 bits, for numbers of many digits.
+// The same of 64 bits, for numbers of many digits: `u64::from`, which code writes; `demands` has a theorem on this name.
 pub fn byte_u64(b: u8) -> u64
     ensures { (result ≡ b) × (result < 256) }
 {
