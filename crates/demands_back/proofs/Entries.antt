@@ -14,9 +14,9 @@ use Rattle.cards.specs.declared.Counts.{Counts}
 use Rattle.cards.specs.Cards.{total, entry_line}
 use Rattle.cards.specs.Written.{Bodies, line_of, counts_of, file_of, zeros}
 use Rattle.cards.proofs.Round.{d-line}
-use Rattle.directory.specs.declared.EntryRead.TheVariants.{Spelt}
+use Rattle.std.specs.Prelude.{Some}
 use Rattle.directory.specs.Fields.{entry_of}
-use Rattle.directory.specs.Lines.{parameter_line, entry_at, label_at}
+use Rattle.directory.specs.Lines.{parameter_line, entry_at, label_at, spelt_entry}
 use Rattle.directory.specs.Rules.{references, all_fit, reference_rule}
 use Rattle.directory.proofs.Ruled.{rules_pass_lem}
 use Rattle.directory.specs.Reading.{first_line, second_line, Writable}
@@ -85,7 +85,7 @@ module _ (S G D P : List (List ℕ)) (bs : Bodies S) (bg : Bodies G) (bd : Bodie
         ∙ ap (λ (x : List ℕ). x ++ ((68 ∷ zeros (2 * i + 1 + 1)) ++ (10 ∷ []))) at.second)
 
     -- its D lines spell it
-    pub entry-spelt : entry_at F (entry_line C i) ≡ Spelt e.fields (parameter_line from) (count_of e)
+    pub entry-spelt : entry_at F (entry_line C i) ≡ Some (spelt_entry e.fields (parameter_line from) (count_of e))
     entry-spelt = entry_read e.fields from (count_of e) e.label written F (entry_line C i) _ _ first_stands second_stands
 
     entry_label : label_at F (entry_line C i) ≡ e.label

@@ -6,7 +6,8 @@ use Prim.Native.Nat.{ℕ, ◌+◌, ◌-◌, ◌*◌, ◌/◌, ◌≤◌, ◌<◌
 use native.Mathlib.Omega.{arith}
 use native.Mathlib.Decide.{dec_lt, ℕ_discrete}
 use lib.ListN.{length, get_or}
-use Rattle.columns.specs.declared.SignedField.{SignedField}
+use Rattle.std.specs.Prelude.{Option, Some, None}
+use Rattle.columns.specs.declared.Signed.{Signed}
 use Rattle.columns.specs.declared.ParameterLine.{ParameterLine}
 use Rattle.columns.specs.Fixed.{signed_of}
 use Rattle.columns.specs.Refusal.{accepted}
@@ -16,9 +17,9 @@ use Rattle.cards.specs.declared.Counts.{Counts}
 use Rattle.cards.specs.Cards.{total, entry_line}
 use Rattle.cards.specs.Written.{Bodies, counts_of, file_of}
 use Rattle.directory.specs.declared.Fields.{Fields}
-use Rattle.directory.specs.declared.EntryRead.TheVariants.{Spelt, Wrong}
 use Rattle.directory.specs.Fields.{fields_of, field_count}
-use Rattle.directory.specs.Lines.{again, pointer, lines, slot_in, Numbers, numbers, misspelt, numbers_from, positive, size_of, is_same, parameter_line, spelt, entry_at}
+use Rattle.directory.specs.Lines.{again, pointer, lines, slot_in, Numbers, numbers, misspelt, numbers_from, positive, size_of, is_same, parameter_line, spelt, entry_at, spelt_entry}
+use Rattle.directory.proofs.Within.{same_spelt}
 use Rattle.owners.specs.declared.Owned.TheVariants.{Everyone}
 use Rattle.owners.specs.InFile.{size_or0, name_of, owner_in, from_in, count_in, owners_in, outcome}
 use Rattle.owners.specs.Rules.{Named}
@@ -34,23 +35,23 @@ use Rattle.demands_back.proofs.Entries.{entry-spelt}
 -- ---- what an entry's D lines spell is what ownership goes by
 
 -- pointer and line count of an entry that was spelt
-module _ (x : Fields) (from : ParameterLine) (count : ℕ) (a p l : SignedField) where
+module _ (x : Fields) (from : ParameterLine) (count : ℕ) (a p l : Option Signed) where
   spelt_ranges_by : (y : Fields) (b : Bool) → is_same y.entity a && (positive p && positive l) ≡ b
-      → cond b (Spelt y (parameter_line (size_of p)) (size_of l)) Wrong ≡ Spelt x from count → (size_or0 p ≡ from.0) × (size_or0 l ≡ count)
+      → cond b (Some (spelt_entry y (parameter_line (size_of p)) (size_of l))) None ≡ Some (spelt_entry x from count) → (size_or0 p ≡ from.0) × (size_or0 l ≡ count)
   spelt_ranges_by y true e h =
       let both = both_right (is_same y.entity a) (positive p && positive l) e in
-      let ef : parameter_line (size_of p) ≡ from = cc in
-      let ec : size_of l ≡ count = cc in (
+      let ef : parameter_line (size_of p) ≡ from = (same_spelt _ _ h).1 in
+      let ec : size_of l ≡ count = (same_spelt _ _ h).2 in (
         sym (size_same p (both_left (positive p) (positive l) both)) ∙ ap (λ (k : ParameterLine). k.0) ef,
         sym (size_same l (both_right (positive p) (positive l) both)) ∙ ec,
       )
   spelt_ranges_by y false e h = let z : ◌≡◌ {A = ℕ} 0 1 = cc in absurd (omega arith)
 
-  spelt_ranges : (ns : Numbers) → spelt ns a p l ≡ Spelt x from count → (size_or0 p ≡ from.0) × (size_or0 l ≡ count)
+  spelt_ranges : (ns : Numbers) → spelt ns a p l ≡ Some (spelt_entry x from count) → (size_or0 p ≡ from.0) × (size_or0 l ≡ count)
   spelt_ranges (numbers ns) h = spelt_ranges_by (fields_of ns) (is_same (fields_of ns).entity a && (positive p && positive l)) refl h
   spelt_ranges misspelt h = let z : ◌≡◌ {A = ℕ} 0 1 = cc in absurd (omega arith)
 
-entry_ranges : (f : List ℕ) (c : Counts) (i : ℕ) (x : Fields) (from : ParameterLine) (count : ℕ) → entry_at f (entry_line c i) ≡ Spelt x from count
+entry_ranges : (f : List ℕ) (c : Counts) (i : ℕ) (x : Fields) (from : ParameterLine) (count : ℕ) → entry_at f (entry_line c i) ≡ Some (spelt_entry x from count)
     → (from_in f c i ≡ from.0) × (count_in f c i ≡ count)
 unfolding entry_at from_in count_in
 entry_ranges f c i x from count e =

@@ -36,8 +36,8 @@ use Rattle.columns.specs.First.{first_not}
 use Rattle.columns.specs.Format.{most_lines, most_list}
 use Rattle.cards.specs.Shared.{file_line}
 use Rattle.cards.specs.Cards.{start, lines_of, seven, numbered_of, step_of, line_ok, place_of, pass, closes, closed, length_ok, cards_of, outcome}
-use Rattle.directory.specs.declared.EntryRead.{EntryRead}
-use Rattle.directory.specs.declared.EntryRead.TheVariants.{Spelt, Wrong as WrongEntry}
+use Rattle.std.specs.Prelude.{Option, Some, None}
+use Rattle.directory.specs.declared.Spelt.{Spelt}
 use Rattle.directory.specs.declared.Fields.{Fields}
 use Rattle.directory.specs.Lines.{entry_at, label_at}
 use Rattle.directory.specs.Fields.{entry_of}
@@ -220,9 +220,9 @@ entry-not : (f : List ℕ) (place k : ℕ) → NotRoom (entry_in f place k)
 unfolding entry_in
 entry-not f place k = pick (entry_at f k)
   where
-    pick : (x : EntryRead) → NotRoom (by_entry (label_at f k) place x)
-    pick WrongEntry = λ e. omega arith
-    pick (Spelt x from count) = then_not (entry_rules x place) _ (rules_not x place) (λ _. tt)
+    pick : (x : Option Spelt) → NotRoom (by_entry (label_at f k) place x)
+    pick None = λ e. omega arith
+    pick (Some e) = then_not (entry_rules e.fields place) _ (rules_not e.fields place) (λ _. tt)
 
 owners_not : (c : Counts) (o : Owned) → NotRoom (ownership_outcome c o)
 owners_not c Everyone = tt

@@ -17,11 +17,12 @@ use Rattle.cards.specs.declared.Counts.{Counts}
 use Rattle.cards.specs.Cards.{entries, entry_line}
 use Rattle.cards.proofs.Complete.{rules}
 use Rattle.directory.specs.declared.Fields.{Fields}
-use Rattle.directory.specs.declared.EntryRead.TheVariants.{Spelt}
+use Rattle.std.specs.Prelude.{Some}
 use Rattle.directory.specs.Fields.{entry_of as directory_entry}
-use Rattle.directory.specs.Lines.{slot_in, pointer, lines, entry_at, parameter_line as line_number}
+use Rattle.directory.specs.Lines.{slot_in, pointer, lines, entry_at, parameter_line as line_number, spelt_entry}
 use Rattle.directory.specs.Rules.{reference_rule, references, all_fit}
 use Rattle.directory.proofs.Ruled.{Ruled, rules_of}
+use Rattle.directory.proofs.Within.{same_spelt}
 use Rattle.owners.specs.InFile.{owner_in, from_in, count_in}
 use Rattle.owners.specs.Rules.{Owns}
 use Rattle.owners.proofs.Round.{passes_owns}
@@ -58,12 +59,11 @@ taken (refused n p) h = let z : ◌≡◌ {A = ℕ} 0 1 = cc in absurd (never z)
 abbrev pub entry_is : Listed → EntryIs
 entry_is e = record { fields = e.fields; pointer = e.pointer; lines = e.lines }
 
-ruled : (f : List ℕ) (p k : ℕ) (x : Fields) (from count : ℕ) → entry_at f k ≡ Spelt x (line_number from) count → pass_of (entry_in f p k) ≡ Passes → Ruled x
+ruled : (f : List ℕ) (p k : ℕ) (x : Fields) (from count : ℕ) → entry_at f k ≡ Some (spelt_entry x (line_number from) count) → pass_of (entry_in f p k) ≡ Passes → Ruled x
 ruled f p k x from count e h =
     let t = taken (entry_in f p k) h in
     let a = entry_apart f p k t.0 t.1 in
-    let s = a.spelt in
-    let q : a.fields ≡ x = cc in
+    let q : a.fields ≡ x = (same_spelt _ _ (sym a.spelt ∙ e)).0 in
     rw (← q) (rules_of a.fields p tt a.rules)
 
 -- ---- the values of one entry
@@ -174,7 +174,7 @@ module _ (list : ℕ) (f : List ℕ) (b : Before) (ys : List Carried) (p : Passe
   entry_meets i h =
       let e = passed_entry f b p i h in
       let v = values_of i h in
-      let s : entry_at f (entry_line c i) ≡ Spelt (entry_of f c i).fields (line_number (entry_of f c i).pointer) (entry_of f c i).lines = rw e.listed e.is in
+      let s : entry_at f (entry_line c i) ≡ Some (spelt_entry (entry_of f c i).fields (line_number (entry_of f c i).pointer) (entry_of f c i).lines) = rw e.listed e.is in
       let r = ruled f (first_entry c + 2 * i) (entry_line c i) (entry_of f c i).fields (entry_of f c i).pointer (entry_of f c i).lines s (rule_passes i h) in
       record {
         spelt = s;

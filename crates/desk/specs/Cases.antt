@@ -1,8 +1,7 @@
 -- Worked examples: cases a to l of document 01, where a file has them: a to k are values in the text of a record, l is a status field.
 use Rattle.std.specs.Prelude.{◌≡◌, refl, cond, List, [], ◌∷◌, ◌++◌, map, ℕ}
+use Rattle.std.specs.Prelude.{Option, Some, None}
 use Prim.Native.String.{String}
-use Rattle.columns.specs.declared.Field.{Field}
-use Rattle.columns.specs.declared.Field.TheVariants.{Number, Bad}
 use Rattle.columns.specs.Quoted.{codes}
 use Rattle.columns.specs.declared.Fault.TheVariants.{Directory}
 use Rattle.columns.specs.Refusal.{number}
@@ -44,9 +43,9 @@ abbrev told : Values → Told
 told (values vs end) = reads_as (map spelled vs)
 told (wrong n start at) = refuses (number n)
 
-abbrev status_told : Field → Told
-status_told (Number n) = cond (status_ok n) passes (refuses (number Directory))
-status_told Bad = refuses (number Directory)
+abbrev status_told : Option ℕ → Told
+status_told (Some n) = cond (status_ok n) passes (refuses (number Directory))
+status_told None = refuses (number Directory)
 
 abbrev computed : Case → Told
 computed (value t x) = told (values_at text_columns comma semicolon (codes t ++ (semicolon ∷ [])) 0)

@@ -1,5 +1,6 @@
 -- The rules of document 01 for a file, with no order of checks in them.
 use Rattle.std.specs.Prelude.{◌≡◌, true, false, List, [], ◌∷◌, ℕ, ◌+◌, ◌*◌, ◌≤◌, ◌<◌, length, get_or, drop}
+use Rattle.std.specs.Prelude.{Some}
 use Rattle.columns.specs.Columns.{blank, text_of}
 use Rattle.columns.specs.Format.{line_bytes, text_columns, parameter_columns, most_list}
 use Rattle.values.specs.declared.Value.{Value}
@@ -10,9 +11,8 @@ use Rattle.cards.specs.declared.Counts.{Counts}
 use Rattle.cards.specs.Cards.{entries, entry_line, parameter_line}
 use Rattle.cards.specs.Rules.{Meets}
 use Rattle.directory.specs.declared.Fields.{Fields}
-use Rattle.directory.specs.declared.EntryRead.TheVariants.{Spelt}
 use Rattle.directory.specs.Fields.{entry_of}
-use Rattle.directory.specs.Lines.{entry_at, parameter_line as line_number}
+use Rattle.directory.specs.Lines.{entry_at, parameter_line as line_number, spelt_entry}
 use Rattle.directory.specs.Rules.{ranges_ok, references, all_fit}
 use Rattle.owners.specs.InFile.{owner_in}
 use Rattle.layouts.specs.Known.{known}
@@ -46,7 +46,7 @@ InRange e k = (e.pointer ≤ k) × (k < e.pointer + e.lines)
 -- an entry of a file that meets the rules: `types` are those of all entries, c and d the delimiters
 pub record EntryMeets (list : ℕ) (f : List ℕ) (counts : Counts) (c d : ℕ) (types : List ℕ) (i : ℕ) (e : EntryIs) : Type 0 where
   -- two D lines that spell it, in the ranges of its fields, and no MACRO
-  pub spelt : entry_at f (entry_line counts i) ≡ Spelt e.fields (line_number e.pointer) e.lines
+  pub spelt : entry_at f (entry_line counts i) ≡ Some (spelt_entry e.fields (line_number e.pointer) e.lines)
   pub ranges : ranges_ok e.fields ≡ true
   pub no_macro : type_of e.fields ≡ 306 → ⊥
   -- its references name entries of the file, of the types that they must name

@@ -2,12 +2,12 @@
 -- is line parameters. An entry that is misspelt, or whose P lines do not stand in the file, has none: a file that was accepted has no such
 -- entry.
 use Rattle.std.specs.Prelude.{cond, List, [], ◌++◌, ℕ, zero, suc, ◌+◌, ◌-◌, ◌*◌, ◌≤◌, ◌<◌, length, leb}
+use Rattle.std.specs.Prelude.{Option, Some, None}
 use Rattle.columns.specs.Columns.{text_of}
 use Rattle.columns.specs.Format.{line_bytes, parameter_columns, most_lines, most_bytes}
 use Rattle.records.specs.Record.{values_at}
 use Rattle.directory.specs.declared.Fields.{Fields}
-use Rattle.directory.specs.declared.EntryRead.{EntryRead}
-use Rattle.directory.specs.declared.EntryRead.TheVariants.{Spelt, Wrong}
+use Rattle.directory.specs.declared.Spelt.{Spelt}
 use Rattle.directory.specs.Lines.{entry_at, label_at}
 use Rattle.directory.specs.Naming.{types_at}
 use Rattle.read_entities.specs.Marks.{carried_in}
@@ -22,9 +22,10 @@ spelt_bytes list f first n parameters c d i x pointer count =
     (carried_in (values_at parameter_columns c d (text_of f (line_bytes * (parameters + (pointer - 1))) parameter_columns count) 0)))
     []
 
-abbrev pub read_bytes : ℕ → List ℕ → ℕ → ℕ → ℕ → ℕ → ℕ → ℕ → EntryRead → List ℕ
-read_bytes list f first n parameters c d i Wrong = []
-read_bytes list f first n parameters c d i (Spelt x pointer count) = spelt_bytes list f first n parameters c d i x pointer.0 count
+abbrev pub read_bytes : ℕ → List ℕ → ℕ → ℕ → ℕ → ℕ → ℕ → ℕ → Option Spelt → List ℕ
+read_bytes list f first n parameters c d i None = []
+read_bytes list f first n parameters c d i (Some e) =
+    spelt_bytes list f first n parameters c d i e.fields e.pointer.0 e.lines
 
 unfoldable pub row_bytes : ℕ → List ℕ → ℕ → ℕ → ℕ → ℕ → ℕ → ℕ → List ℕ
 row_bytes list f first n parameters c d i = read_bytes list f first n parameters c d i (entry_at f (first + 2 * i))
@@ -44,9 +45,9 @@ SpeltReads f parameters c d pointer count =
     → Unrefused (values_at parameter_columns c d (text_of f (line_bytes * (parameters + (pointer - 1))) parameter_columns count) 0)
 
 -- a misspelt entry has none
-abbrev pub EntryReads : List ℕ → ℕ → ℕ → ℕ → EntryRead → Type 0
-EntryReads f parameters c d Wrong = Unit {0}
-EntryReads f parameters c d (Spelt x pointer count) = SpeltReads f parameters c d pointer.0 count
+abbrev pub EntryReads : List ℕ → ℕ → ℕ → ℕ → Option Spelt → Type 0
+EntryReads f parameters c d None = Unit {0}
+EntryReads f parameters c d (Some e) = SpeltReads f parameters c d e.pointer.0 e.lines
 
 -- that of entry i
 unfoldable pub RowReads : List ℕ → ℕ → ℕ → ℕ → ℕ → ℕ → Type 0

@@ -14,9 +14,8 @@ use Rattle.values.specs.Value.{Item}
 use Rattle.records.specs.Record.{values_at}
 use Rattle.records.specs.Reading.{Stands}
 use Rattle.directory.specs.declared.Fields.{Fields}
-use Rattle.directory.specs.declared.EntryRead.{EntryRead}
-use Rattle.directory.specs.declared.EntryRead.TheVariants.{Spelt, Wrong}
-use Rattle.columns.specs.declared.ParameterLine.{ParameterLine}
+use Rattle.std.specs.Prelude.{Option, Some, None}
+use Rattle.directory.specs.declared.Spelt.{Spelt}
 use Rattle.directory.specs.Lines.{entry_at, label_at}
 use Rattle.directory.specs.Naming.{types_at}
 use Rattle.directory.proofs.Slots.{label_columns}
@@ -77,13 +76,13 @@ module _ (list : ℕ) (f : List ℕ) (first n parameters c d i : ℕ) (x : Field
       let k : 81 * (parameters + (pointer - 1)) + count * 81 ≤ length f = rw (eb, em) at h in
       simp (le-leb _ _ k) (rw (en, eb, em) at p)
 
-module _ (list : ℕ) (f : List ℕ) (first n parameters c d i : ℕ) {e : EntryRead} (ee : e ≡ entry_at f (first + 2 * i)) where
-  pub row-none : {o : List ℕ} {at : ℕ} → e ≡ Wrong → Wrote o at (row_bytes list f first n parameters c d i) o at
+module _ (list : ℕ) (f : List ℕ) (first n parameters c d i : ℕ) {e : Option Spelt} (ee : e ≡ entry_at f (first + 2 * i)) where
+  pub row-none : {o : List ℕ} {at : ℕ} → e ≡ None → Wrote o at (row_bytes list f first n parameters c d i) o at
   unfolding row_bytes
   row-none h = rw (← ee, h) wrote_none
 
-  pub row_some : {o o' : List ℕ} {at r : ℕ} {x : Fields} {pointer : ParameterLine} {count : ℕ} → e ≡ Spelt x pointer count
-      → Wrote o at (spelt_bytes list f first n parameters c d i x pointer.0 count) o' r → Wrote o at (row_bytes list f first n parameters c d i) o' r
+  pub row_some : {o o' : List ℕ} {at r : ℕ} {x : Spelt} → e ≡ Some x
+      → Wrote o at (spelt_bytes list f first n parameters c d i x.fields x.pointer.0 x.lines) o' r → Wrote o at (row_bytes list f first n parameters c d i) o' r
   unfolding row_bytes
   row_some h p = rw (← ee, h) p
 
@@ -95,8 +94,8 @@ spelt-reads f parameters c d pointer count eb em p h =
     let k : 81 * (parameters + (pointer - 1)) + count * 81 ≤ length f = rw (eb, em) at h in
     rw (eb, em) (p k)
 
-pub row_reads : (f : List ℕ) (first parameters c d i : ℕ) {e : EntryRead} → e ≡ entry_at f (first + 2 * i) → {x : Fields} {pointer : ParameterLine} {count : ℕ} → e ≡ Spelt x pointer count
-    → RowReads f first parameters c d i → SpeltReads f parameters c d pointer.0 count
+pub row_reads : (f : List ℕ) (first parameters c d i : ℕ) {e : Option Spelt} → e ≡ entry_at f (first + 2 * i) → {x : Spelt} → e ≡ Some x
+    → RowReads f first parameters c d i → SpeltReads f parameters c d x.pointer.0 x.lines
 unfolding RowReads
 row_reads f first parameters c d i ee h p = rw (← ee, h) at p
 

@@ -18,7 +18,7 @@ ghost use Rattle.print.specs.Rows.{spelt_bytes, row_bytes, rows_bytes, SpeltRead
 
 use columns::format::{FIELD_COLUMNS, LINE_BYTES};
 use columns::{DirectoryNumber, ParameterLine, wide};
-use directory::{EntryRead, Fields};
+use directory::{Fields, Spelt};
 use directory_read::{entry_at, label_at};
 use layouts_lists::known;
 use print_values::put_values;
@@ -158,12 +158,14 @@ fn put_row(
     ensures upper_bound { result ≤ at + 15000000000 }
 {
     match entry_at(file, first + 2 * i) {
-        EntryRead::Wrong => at,
-        EntryRead::Spelt {
-            fields,
-            pointer,
-            lines,
-        } => put_spelt(
+        None => at,
+        Some(
+            Spelt {
+                fields,
+                pointer,
+                lines,
+            },
+        ) => put_spelt(
             out, at, list, file, first, n, parameters, c, d, i, fields, pointer, lines,
         ),
     }

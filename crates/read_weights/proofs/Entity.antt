@@ -12,9 +12,8 @@ use Rattle.cards.specs.Cards.{first_d, entries, entry_line, parameter_line}
 use Rattle.cards.specs.Shared.{file_line}
 use Rattle.records.specs.Record.{values_at}
 use Rattle.records.specs.Reading.{Stands}
-use Rattle.directory.specs.declared.Fields.{Fields}
-use Rattle.directory.specs.declared.EntryRead.{EntryRead}
-use Rattle.directory.specs.declared.EntryRead.TheVariants.{Spelt}
+use Rattle.std.specs.Prelude.{Option, Some}
+use Rattle.directory.specs.declared.Spelt.{Spelt}
 use Rattle.directory.specs.Lines.{entry_at}
 use Rattle.directory.specs.Naming.{types_at}
 use Rattle.model.specs.Model.{type_of}
@@ -75,16 +74,16 @@ module _ (f : List ℕ) (c : Counts) (rd : Ready f c) where
   pub entry-inside : (i k : ℕ) → i < entries c → k ≡ entry_line c i → 81 * k + 162 ≤ length f
   entry-inside i k h e = omega (arith, rd.holds.size, rd.holds.even)
 
-module _ (list : ℕ) (f : List ℕ) (c : Counts) (p d : ℕ) (rd : Ready f c) (i : ℕ) (h : i < entries c) (k : ℕ) (r : EntryRead) (ek : k ≡ entry_line c i) (er : r ≡ entry_at f k) where
+module _ (list : ℕ) (f : List ℕ) (c : Counts) (p d : ℕ) (rd : Ready f c) (i : ℕ) (h : i < entries c) (k : ℕ) (r : Option Spelt) (ek : k ≡ entry_line c i) (er : r ≡ entry_at f k) where
   place : k + 1 ≡ first_entry c + 2 * i
   place = omega arith
 
-  module _ (x : Fields) (from : ParameterLine) (count : ℕ) (e : r ≡ Spelt x from count) (y : EntityAnswer)
-      (ey : y ≡ record_answer list f c p d x.entity.size x.form.size from.0 count) where
+  module _ (x : Spelt) (e : r ≡ Some x) (y : EntityAnswer)
+      (ey : y ≡ record_answer list f c p d x.fields.entity.size x.fields.form.size x.pointer.0 x.lines) where
     told : y ≡ entity_pass_of list (all_types f c) (type_of (entry_of f c i).fields) (entry_of f c i).fields.form.size (values_at 64 p d (parameters_of f c (entry_of f c i)) 0)
     unfolding record_answer
     told =
-        rw (listed_fields f c rd i h k r ek er x from count e, listed_pointer f c rd i h k r ek er x from count e, listed-lines f c rd i h k r ek er x from count e)
+        rw (listed_fields f c rd i h k r ek er x e, listed_pointer f c rd i h k r ek er x e, listed-lines f c rd i h k r ek er x e)
         ey
 
     pub entity-passes : y ≡ GoodEntity → Good ≡ entity_at list f c p d i

@@ -15,8 +15,8 @@ use Rattle.cards.specs.Cards.{first_d, first_p, entries, entry_line}
 use Rattle.cards.specs.Shared.{file_line}
 use Rattle.values.specs.Value.{Item}
 use Rattle.directory.specs.declared.Fields.{Fields}
-use Rattle.directory.specs.declared.EntryRead.{EntryRead}
-use Rattle.directory.specs.declared.EntryRead.TheVariants.{Spelt, Wrong}
+use Rattle.std.specs.Prelude.{Option, Some, None}
+use Rattle.directory.specs.declared.Spelt.{Spelt}
 use Rattle.directory.specs.Lines.{entry_at, label_at}
 use Rattle.directory.specs.Naming.{types_at}
 use Rattle.directory.proofs.Slots.{label_columns}
@@ -113,46 +113,46 @@ row-parts list f c p d i k x from count head size y rd h ek ey eh es ez =
 
 pub ruleset parts = (entry_few, row_fits, row_light, row-parts)
 
-module _ (list : ℕ) (f : List ℕ) (c : Counts) (p d : ℕ) (rd : Ready f c) (i : ℕ) (h : i < entries c) (k : ℕ) (r : EntryRead) (ek : k ≡ entry_line c i) (er : r ≡ entry_at f k) where
+module _ (list : ℕ) (f : List ℕ) (c : Counts) (p d : ℕ) (rd : Ready f c) (i : ℕ) (h : i < entries c) (k : ℕ) (r : Option Spelt) (ek : k ≡ entry_line c i) (er : r ≡ entry_at f k) where
   -- every entry is spelt
-  pub row_never : r ≡ Wrong → GoodRows 0 ≡ rows_of (row_length list f c p d i) (entity_at list f c p d i)
+  pub row_never : r ≡ None → GoodRows 0 ≡ rows_of (row_length list f c p d i) (entity_at list f c p d i)
   row_never e = absurd (never_wrong f c rd i h k r ek er e)
 
-  module _ (x : Fields) (from : ParameterLine) (count : ℕ) (e : r ≡ Spelt x from count) where
-    some : 1 ≤ from.0
-    some = pointer_some f c rd i h k r ek er x from count e
+  module _ (x : Spelt) (e : r ≡ Some x) where
+    some : 1 ≤ x.pointer.0
+    some = pointer_some f c rd i h k r ek er x e
 
-    stays : from.0 + count ≤ c.p + 1
-    stays = pointer_stays f c rd i h k r ek er x from count e
+    stays : x.pointer.0 + x.lines ≤ c.p + 1
+    stays = pointer_stays f c rd i h k r ek er x e
 
-    spelt_is : spelt_bytes list f (first_d c) (entries c) (first_p c) p d i x from.0 count
-        ≡ entity_bytes list (types_at f (first_d c) (entries c)) (2 * i + 1) x (label_at f (first_d c + 2 * i)) (record_carried f c p d from.0 count)
+    spelt_is : spelt_bytes list f (first_d c) (entries c) (first_p c) p d i x.fields x.pointer.0 x.lines
+        ≡ entity_bytes list (types_at f (first_d c) (entries c)) (2 * i + 1) x.fields (label_at f (first_d c + 2 * i)) (record_carried f c p d x.pointer.0 x.lines)
     unfolding spelt_bytes record_carried
     spelt_is =
-        let inside : 81 * (first_p c + (from.0 - 1)) + count * 81 ≤ length f = omega (arith, rd.holds.size, rd.holds.has_t, some, stays) in
+        let inside : 81 * (first_p c + (x.pointer.0 - 1)) + x.lines * 81 ≤ length f = omega (arith, rd.holds.size, rd.holds.has_t, some, stays) in
         simp (le-leb _ _ inside)
 
     row_is : row_bytes list f (first_d c) (entries c) (first_p c) p d i
-        ≡ entity_bytes list (types_at f (first_d c) (entries c)) (2 * i + 1) x (label_at f k) (record_carried f c p d from.0 count)
+        ≡ entity_bytes list (types_at f (first_d c) (entries c)) (2 * i + 1) x.fields (label_at f k) (record_carried f c p d x.pointer.0 x.lines)
     unfolding row_bytes
     row_is =
-        let q : entry_at f (first_d c + 2 * i) ≡ Spelt x from count = sym (er ∙ ap (entry_at f) ek) ∙ e in
+        let q : entry_at f (first_d c + 2 * i) ≡ Some x = sym (er ∙ ap (entry_at f) ek) ∙ e in
         ap (read_bytes list f (first_d c) (entries c) (first_p c) p d i) q ∙ spelt_is
-        ∙ ap (λ (j : ℕ). entity_bytes list (types_at f (first_d c) (entries c)) (2 * i + 1) x (label_at f j) (record_carried f c p d from.0 count)) (sym ek)
+        ∙ ap (λ (j : ℕ). entity_bytes list (types_at f (first_d c) (entries c)) (2 * i + 1) x.fields (label_at f j) (record_carried f c p d x.pointer.0 x.lines)) (sym ek)
 
-    row-length : length (line_of (entry (known list x.entity.size x.form.size) (sized false (2 * i + 1)) x (label_at f k)) ++ (10 ∷ [])) + carried_length (record_carried f c p d from.0 count)
+    row-length : length (line_of (entry (known list x.fields.entity.size x.fields.form.size) (sized false (2 * i + 1)) x.fields (label_at f k)) ++ (10 ∷ [])) + carried_length (record_carried f c p d x.pointer.0 x.lines)
         ≡ row_length list f c p d i
     unfolding row_length
-    row-length = sym (ap length row_is ∙ entity-length list (types_at f (first_d c) (entries c)) (2 * i + 1) x (label_at f k) (record_carried f c p d from.0 count))
+    row-length = sym (ap length row_is ∙ entity-length list (types_at f (first_d c) (entries c)) (2 * i + 1) x.fields (label_at f k) (record_carried f c p d x.pointer.0 x.lines))
 
-    pub row_told : {z : Rows} → z ≡ spelt_rows list f c p d i k x from.0 count → z ≡ rows_of (row_length list f c p d i) (entity_at list f c p d i)
+    pub row_told : {z : Rows} → z ≡ spelt_rows list f c p d i k x.fields x.pointer.0 x.lines → z ≡ rows_of (row_length list f c p d i) (entity_at list f c p d i)
     unfolding spelt_rows
-    row_told ez = ez ∙ by (record_answer list f c p d x.entity.size x.form.size from.0 count) refl
+    row_told ez = ez ∙ by (record_answer list f c p d x.fields.entity.size x.fields.form.size x.pointer.0 x.lines) refl
       where
-        by : (y : EntityAnswer) → y ≡ record_answer list f c p d x.entity.size x.form.size from.0 count
-            → answer_rows y (length (line_of (entry (known list x.entity.size x.form.size) (sized false (2 * i + 1)) x (label_at f k)) ++ (10 ∷ [])) + carried_length (record_carried f c p d from.0 count)) (file_line (k + 1))
+        by : (y : EntityAnswer) → y ≡ record_answer list f c p d x.fields.entity.size x.fields.form.size x.pointer.0 x.lines
+            → answer_rows y (length (line_of (entry (known list x.fields.entity.size x.fields.form.size) (sized false (2 * i + 1)) x.fields (label_at f k)) ++ (10 ∷ [])) + carried_length (record_carried f c p d x.pointer.0 x.lines)) (file_line (k + 1))
             ≡ rows_of (row_length list f c p d i) (entity_at list f c p d i)
-        by GoodEntity ey = ap GoodRows row-length ∙ ap (rows_of (row_length list f c p d i)) (entity-passes list f c p d rd i h k r ek er x from count e GoodEntity ey refl)
-        by (RefusedEntity w) ey = ap (rows_of (row_length list f c p d i)) (entity_refuses list f c p d rd i h k r ek er x from count e (RefusedEntity w) ey w refl)
+        by GoodEntity ey = ap GoodRows row-length ∙ ap (rows_of (row_length list f c p d i)) (entity-passes list f c p d rd i h k r ek er x e GoodEntity ey refl)
+        by (RefusedEntity w) ey = ap (rows_of (row_length list f c p d i)) (entity_refuses list f c p d rd i h k r ek er x e (RefusedEntity w) ey w refl)
 
 pub ruleset ones = (entry-inside, pointer_some, pointer_stays, row_never, row_told)

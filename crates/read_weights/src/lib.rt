@@ -14,7 +14,7 @@ ghost use Rattle.read_weights.specs.Weights.{record_carried, row_length, answer_
 use cards::Counts;
 use columns::format::{FIELD_COLUMNS, LINE_BYTES};
 use columns::{Fault, FileLine, ParameterLine, wide};
-use directory::{EntryRead, Fields};
+use directory::{Fields, Spelt};
 use read_entities::{EntityAnswer, Weighed};
 use sheets_lay::entry_len;
 
@@ -149,12 +149,14 @@ pub fn entity_at(list: u64, file: &[u8], c: Counts, parameter: u8, closing: u8, 
     let k = cards::entry_line(c, i);
     let read = directory_read::entry_at(file, k);
     match read {
-        EntryRead::Wrong => Rows::Good(0),
-        EntryRead::Spelt {
-            fields,
-            pointer,
-            lines,
-        } => row_at(
+        None => Rows::Good(0),
+        Some(
+            Spelt {
+                fields,
+                pointer,
+                lines,
+            },
+        ) => row_at(
             list, file, c, parameter, closing, i, k, fields, pointer, lines,
         ),
     }
