@@ -3,7 +3,7 @@
 use mathlib.Core.Path.{◌≡◌, refl, ◌∙◌}
 use mathlib.Core.Bool.{Bool, true, false, cond}
 use mathlib.Core.List.{List}
-use Prim.Native.Nat.{ℕ, ◌-◌}
+use Prim.Native.Nat.{ℕ}
 use native.Mathlib.Omega.{arith}
 use lib.Dec.{eqb}
 use lib.ListN.{length, get_or, drop}
@@ -21,7 +21,7 @@ use Rattle.layouts.specs.Known.{known}
 use Rattle.layouts.specs.Entities.{Entity, verdict, fault, entity_check}
 use Rattle.model.specs.Model.{type_of}
 use Rattle.model.specs.Read.{Listed, is_type, by_parameters, carried}
-use Rattle.read_entities.specs.declared.EntityAnswer.TheVariants.{Good, Refused}
+use Rattle.std.specs.Prelude.{Ok, Err}
 use Rattle.read_entities.specs.Taking.{entity_with}
 use Rattle.read_entities.specs.Answers.{entity_answer, entity_pass_of, type_read, verdict_answer}
 
@@ -106,13 +106,13 @@ answer-fault Layout p = refl
 answer-fault LayoutReference p = refl
 
 module _ {w : LayoutVerdict} where
-  pub answer_good : w ≡ GoodVerdict → Good ≡ verdict_answer w
+  pub answer_good : w ≡ GoodVerdict → Ok tt ≡ verdict_answer w
   answer_good e = rw e
 
-  pub answer_layout : w ≡ Layout → Refused LayoutFault ≡ verdict_answer w
+  pub answer_layout : w ≡ Layout → Err LayoutFault ≡ verdict_answer w
   answer_layout e = rw e
 
-  pub answer_reference : w ≡ LayoutReference → Refused LayoutReferenceFault ≡ verdict_answer w
+  pub answer_reference : w ≡ LayoutReference → Err LayoutReferenceFault ≡ verdict_answer w
   answer_reference e = rw e
 
 pub ruleset answering = (answer_good, answer_layout, answer_reference)

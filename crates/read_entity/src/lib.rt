@@ -16,7 +16,7 @@ use layouts::{LayoutVerdict, Stepped};
 use layouts_lists::known;
 use layouts_machine::end;
 use read_entities::marks::marks_begun;
-use read_entities::{EntityAnswer, EntityWalked, Weighed};
+use read_entities::{Walked, Weighed};
 use read_walk::walk;
 use records::Got;
 use records_read::value_at;
@@ -39,49 +39,49 @@ fn is_type(typ: u32, v: Value) -> bool
     }
 }
 
-fn verdict_answer(w: LayoutVerdict) -> EntityAnswer
+fn verdict_answer(w: LayoutVerdict) -> Result<(), Fault>
     ensures { result ≡ verdict_answer w }
 {
     match w {
-        LayoutVerdict::Good => EntityAnswer::Good,
-        LayoutVerdict::Layout => EntityAnswer::Refused(Fault::Layout),
-        LayoutVerdict::LayoutReference => EntityAnswer::Refused(Fault::LayoutReference),
+        LayoutVerdict::Good => Ok(()),
+        LayoutVerdict::Layout => Err(Fault::Layout),
+        LayoutVerdict::LayoutReference => Err(Fault::LayoutReference),
     }
 }
 
 // What is said of an entity whose first value is its type or not, that the list knows or not, and whose layout stands there
 // behind its values.
-fn pass_answer(typed: bool, inside: bool, g: Stepped) -> EntityAnswer
+fn pass_answer(typed: bool, inside: bool, g: Stepped) -> Result<(), Fault>
     ensures { result ≡ pass_answer typed inside g }
 {
     if !typed {
-        return EntityAnswer::Refused(Fault::FirstValue);
+        return Err(Fault::FirstValue);
     }
     if !inside {
-        return EntityAnswer::Good;
+        return Ok(());
     }
     match g {
         Stepped::Go(s) => {
             let w = end(s);
             verdict_answer(w)
         }
-        Stepped::Bad => EntityAnswer::Refused(Fault::Layout),
+        Stepped::Bad => Err(Fault::Layout),
     }
 }
 
 // The same by the walk over its values, with the bytes of their lines.
-fn weighed_by(typed: bool, inside: bool, walked: EntityWalked) -> Weighed
+fn weighed_by(typed: bool, inside: bool, walked: Result<Walked, Fault>) -> Weighed
     ensures { result ≡ weighed_of typed inside walked }
 {
     match walked {
-        EntityWalked::Wrong(fault) => Weighed {
-            answer: EntityAnswer::Refused(fault),
+        Err(fault) => Weighed {
+            answer: Err(fault),
             length: 0,
         },
-        EntityWalked::Done { state, length } => {
-            let answer = pass_answer(typed, inside, state);
-            Weighed { answer, length }
-        }
+        Ok(walked) => Weighed {
+            answer: pass_answer(typed, inside, walked.state),
+            length: walked.length,
+        },
     }
 }
 
@@ -109,7 +109,7 @@ pub fn entity_pass(
     let g = value_at(file, base, PARAMETER_COLUMNS, lines, c, d, 0);
     match g {
         Got::Refused { fault, .. } => Weighed {
-            answer: EntityAnswer::Refused(fault),
+            answer: Err(fault),
             length: 0,
         },
         Got::Found {

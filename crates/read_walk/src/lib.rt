@@ -12,10 +12,11 @@ ghost use Rattle.directory.specs.Naming.{types_at};
 ghost use Rattle.layouts.specs.Walk.{run};
 ghost use Rattle.read_entities.specs.Walking.{EntityStands, state_after, owed_after, length_after, walked_from, Light};
 
+use columns::Fault;
 use columns::format::PARAMETER_COLUMNS;
 use layouts::Stepped;
 use layouts_machine::{runs_on, with_left};
-use read_entities::EntityWalked;
+use read_entities::Walked;
 use read_entities::marks::mark_step;
 use records::Got;
 use records_read::value_at;
@@ -106,7 +107,7 @@ pub fn walk(
     begun: Stepped,
     first: usize,
     n: usize,
-) -> EntityWalked
+) -> Result<Walked, Fault>
     requires entity_stands { EntityStands file.now base lines c d first n }
     requires from_bound { from ≤ lines * parameter_columns }
     ensures value { result ≡ walked_from (types_at file.now first n) begun 0 0
@@ -121,7 +122,7 @@ pub fn walk(
         let g = value_at(file, base, PARAMETER_COLUMNS, lines, c, d, q);
         match g {
             Got::Refused { fault, .. } => {
-                return EntityWalked::Wrong(fault);
+                return Err(fault);
             }
             Got::Found {
                 value,
@@ -133,7 +134,7 @@ pub fn walk(
                 length = length_after(length, owed, value);
                 owed = owed_after(owed, value);
                 if last {
-                    return EntityWalked::Done { state, length };
+                    return Ok(Walked { state, length });
                 }
                 q = next;
             }
