@@ -1,7 +1,7 @@
 -- No second result fits the contract of a public function of crates entitypass, entities and walking. Assumes nothing.
 use mathlib.Core.Path.{refl, ap₂}
 use Prim.Native.Nat.{ℕ}
-use Rattle.read_entities.specs.declared.EntityAnswer.{EntityAnswer}
+use Rattle.read_entities.specs.Answers.{EntityAnswer}
 use Rattle.read_entity.proofs.entity_pass.Kinds as entitypass-entity-pass-kinds
 use Rattle.read_entity.proofs.entity_pass.Reads as entitypass-entity-pass-reads
 use Rattle.read_entities.proofs.marks.marks_begun.Kinds as marks-marks-begun-kinds

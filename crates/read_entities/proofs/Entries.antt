@@ -21,9 +21,8 @@ use Rattle.layouts.proofs.Fits.{accepts_keeps}
 use Rattle.model.specs.Model.{Carried, type_of, entity_of}
 use Rattle.model.specs.Read.{GlobalRead, Listed, is_type, by_parameters, carried, parameters_of, entity_in, two, listed_type, first_entry, last_pass}
 use Rattle.model.proofs.ReadApart.{entity_apart}
-use Rattle.read_entities.specs.declared.EntityAnswer.{EntityAnswer}
-use Rattle.read_entities.specs.declared.EntityAnswer.TheVariants.{Good, Refused}
-use Rattle.read_entities.specs.Answers.{entity_answer, entity_pass_of}
+use Rattle.std.specs.Prelude.{Ok, Err}
+use Rattle.read_entities.specs.Answers.{EntityAnswer, entity_answer, entity_pass_of}
 use Rattle.read_entities.specs.Marks.{carried_in}
 use Rattle.read_entities.proofs.Passes.{pass-read}
 
@@ -32,11 +31,11 @@ data Of {A : Type 0} (a : A) (place : ℕ) : Outcome A → Type 0 where
   of_accepted : Of a place (accepted a)
   of_refused : (f : Fault) → Of a place (refused f place)
 
-good_of : {A : Type 0} {a : A} {place : ℕ} (o : Outcome A) → Of a place o → entity_answer o ≡ Good → o ≡ accepted a
+good_of : {A : Type 0} {a : A} {place : ℕ} (o : Outcome A) → Of a place o → entity_answer o ≡ Ok tt → o ≡ accepted a
 good_of o of_accepted h = refl
 good_of o (of_refused f) h = let z : ◌≡◌ {A = ℕ} 0 1 = cc in absurd (omega arith)
 
-refused_of : {A : Type 0} {a : A} {place : ℕ} (o : Outcome A) → Of a place o → (f : Fault) → entity_answer o ≡ Refused f → o ≡ refused f place
+refused_of : {A : Type 0} {a : A} {place : ℕ} (o : Outcome A) → Of a place o → (f : Fault) → entity_answer o ≡ Err f → o ≡ refused f place
 refused_of o of_accepted f h = let z : ◌≡◌ {A = ℕ} 0 1 = cc in absurd (omega arith)
 refused_of {A} {a} {place} o (of_refused g) f h = let e : g ≡ f = cc in ap (λ (x : Fault). refused x place) e
 
@@ -82,7 +81,7 @@ entity_keeps list f c g types place e y h = parameters_keep list types place e (
 module _ (list : ℕ) (f : List ℕ) (c : Counts) (g : GlobalRead) (types : List ℕ) (place : ℕ) (e : Listed) {r : EntityAnswer}
     (er : r ≡ entity_pass_of list types (type_of e.fields) e.fields.form.size (values_at 64 g.parameter g.record_end (parameters_of f c e) 0)) where
   -- accepted: the values behind the type are carried
-  pub entity_good : r ≡ Good
+  pub entity_good : r ≡ Ok tt
       → entity_in list f c g types place e ≡ accepted (carried e (carried_in (values_at 64 g.parameter g.record_end (parameters_of f c e) 0)))
   unfolding entity_in
   entity_good h =
@@ -90,7 +89,7 @@ module _ (list : ℕ) (f : List ℕ) (c : Counts) (g : GlobalRead) (types : List
       good_of (by_parameters list types place e vs) (parameters_of_lem list types place e vs) (sym (pass-read list types place e vs) ∙ sym er ∙ h)
 
   -- refused: at the entry's place
-  pub entity_refused : {n : Fault} → r ≡ Refused n → entity_in list f c g types place e ≡ refused n place
+  pub entity_refused : {n : Fault} → r ≡ Err n → entity_in list f c g types place e ≡ refused n place
   unfolding entity_in
   entity_refused {n} h =
       let vs : Values = values_at 64 g.parameter g.record_end (parameters_of f c e) 0 in

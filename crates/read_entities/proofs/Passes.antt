@@ -23,7 +23,7 @@ use Rattle.layouts.specs.Known.{known}
 use Rattle.layouts.specs.Entities.{Entity, verdict, fault, entity_check}
 use Rattle.model.specs.Model.{type_of}
 use Rattle.model.specs.Read.{Listed, is_type, by_parameters, carried}
-use Rattle.read_entities.specs.declared.EntityAnswer.TheVariants.{Good, Refused}
+use Rattle.std.specs.Prelude.{Ok, Err}
 use Rattle.read_entities.specs.Taking.{entity_with}
 use Rattle.read_entities.specs.Answers.{entity_answer, entity_pass_of, type_read, verdict_answer}
 
@@ -105,6 +105,7 @@ pub answer-fault : (w : Verdict) (p : ℕ) → verdict_answer w ≡ entity_answe
 answer-fault (Ok a) p = refl
 answer-fault (Err n) p = refl
 
+<<<<<<< HEAD
 module _ {w : Verdict} where
   pub answer_good : w ≡ Ok tt → Good ≡ verdict_answer w
   answer_good e = rw e
@@ -113,3 +114,16 @@ module _ {w : Verdict} where
   answer_fault e = rw e
 
 pub ruleset answering = (answer_good, answer_fault)
+=======
+module _ {w : LayoutVerdict} where
+  pub answer_good : w ≡ GoodVerdict → Ok tt ≡ verdict_answer w
+  answer_good e = rw e
+
+  pub answer_layout : w ≡ Layout → Err LayoutFault ≡ verdict_answer w
+  answer_layout e = rw e
+
+  pub answer_reference : w ≡ LayoutReference → Err LayoutReferenceFault ≡ verdict_answer w
+  answer_reference e = rw e
+
+pub ruleset answering = (answer_good, answer_layout, answer_reference)
+>>>>>>> he1/he1

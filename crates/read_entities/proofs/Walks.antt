@@ -28,9 +28,11 @@ use Rattle.layouts.specs.Machine.{stand, runs_on}
 use Rattle.layouts.specs.Walk.{stepped, run}
 use Rattle.layouts.proofs.Steps.{runs_left, step_runs}
 use Rattle.layouts.proofs.Runs.{feed-stepped, run_bad, run-append}
-use Rattle.read_entities.specs.declared.EntityWalked.{EntityWalked}
-use Rattle.read_entities.specs.declared.EntityWalked.TheVariants.{Done, Wrong}
-use Rattle.read_entities.specs.Walking.{carried_length, owing, state_after, length_after, owed_after, walked_from}
+use Rattle.std.specs.Prelude.{Ok, Err}
+use Rattle.read_entities.specs.Walking.{EntityWalked, walked_to, carried_length, owing, state_after, length_after, owed_after, walked_from}
+
+abbrev done : Stepped → ℕ → EntityWalked
+done g size = Ok (walked_to g size)
 
 -- ---- defaults
 
@@ -146,21 +148,25 @@ module _ (types : List ℕ) (g : Option LayoutState) (owed size : ℕ) (t : List
   walk_one : (v : Value) (vals : Values) → Writable (length t) v
       → walked_from types g owed size (more (item_of t v) vals) ≡ walked_from types (state_after types g owed v) (owed_after owed v) (length_after size owed v) vals
   walk_one v (wrong fault start at) h = refl
-  walk_one Default (values vs end) h = ap (λ (l : List Item). Done (run types g l) (size + carried_length l)) (owing_default owed (trimmed vs))
-  walk_one (Whole neg n) (values vs end) h = ap₂ Done (given-state types g owed t (Whole neg n) (trimmed vs) refl) (given-length types g owed t (Whole neg n) (trimmed vs) refl size h)
-  walk_one (Real neg m eneg e double) (values vs end) h = ap₂ Done (given-state types g owed t (Real neg m eneg e double) (trimmed vs) refl) (given-length types g owed t (Real neg m eneg e double) (trimmed vs) refl size h)
-  walk_one (Text start count) (values vs end) h = ap₂ Done (given-state types g owed t (Text start count) (trimmed vs) refl) (given-length types g owed t (Text start count) (trimmed vs) refl size h)
+  walk_one Default (values vs end) h = ap (λ (l : List Item). done (run types g l) (size + carried_length l)) (owing_default owed (trimmed vs))
+  walk_one (Whole neg n) (values vs end) h = ap₂ done (given-state types g owed t (Whole neg n) (trimmed vs) refl) (given-length types g owed t (Whole neg n) (trimmed vs) refl size h)
+  walk_one (Real neg m eneg e double) (values vs end) h = ap₂ done (given-state types g owed t (Real neg m eneg e double) (trimmed vs) refl) (given-length types g owed t (Real neg m eneg e double) (trimmed vs) refl size h)
+  walk_one (Text start count) (values vs end) h = ap₂ done (given-state types g owed t (Text start count) (trimmed vs) refl) (given-length types g owed t (Text start count) (trimmed vs) refl size h)
 
-  walk_all : (v : Value) (next : ℕ) → Writable (length t) v → walked_from types g owed size (values (item_of t v ∷ []) next) ≡ Done (state_after types g owed v) (length_after size owed v)
+  walk_all : (v : Value) (next : ℕ) → Writable (length t) v → walked_from types g owed size (values (item_of t v ∷ []) next) ≡ done (state_after types g owed v) (length_after size owed v)
   unfolding run carried_length
-  walk_all v next h = walk_one v (values [] next) h ∙ ap (Done (state_after types g owed v)) (add-zero (length_after size owed v))
+  walk_all v next h = walk_one v (values [] next) h ∙ ap (done (state_after types g owed v)) (add-zero (length_after size owed v))
 
 -- ---- the loop over a record: f is the answer
 
 module _ {file : List ℕ} {base lines : ℕ} (st : Stands file base 64 lines) {c d : ℕ} (pc : 0 < c) (pd : 0 < d) (types : List ℕ) where
   module _ (q owed size : ℕ) (g : Option LayoutState) {got : Got} {f : EntityWalked} (h : q ≤ lines * 64) (eg : got ≡ value_at 64 c d (text_of file base 64 lines) q)
       (inv : walked_from types g owed size (values_at 64 c d (text_of file base 64 lines) q) ≡ f) where
+<<<<<<< HEAD
     pub walk_wrong : {x : Misspelt} → got ≡ Err x → Wrong x.fault ≡ f
+=======
+    pub walk_wrong : {fault : Fault} {s at : ℕ} → got ≡ Refused fault s at → Err fault ≡ f
+>>>>>>> he1/he1
     walk_wrong e = sym (ap (walked_from types g owed size) (at-wrong 64 c d (text_of file base 64 lines) pc pd q (sym eg ∙ e))) ∙ inv
 
     module _ (sane : Sane q (lines * 64) got) {x : Found} (e : got ≡ Ok x) {u : Option LayoutState} {size' : ℕ}
@@ -168,11 +174,19 @@ module _ {file : List ℕ} {base lines : ℕ} (st : Stands file base 64 lines) {
       can : Writable (length (text_of file base 64 lines)) x.value
       can = rw (length-text file base 64 lines st) (can_write q (lines * 64) e sane)
 
+<<<<<<< HEAD
       pub walk_last : x.last ≡ true → Done u size' ≡ f
       walk_last l =
           let t = text_of file base 64 lines in
           ap₂ Done eu el
           ∙ sym (ap (walked_from types g owed size) (at_last 64 c d t pc pd q (sym eg ∙ e ∙ ap (found_at x.value x.start x.next) l)) ∙ walk_all types g owed size t x.value x.next can) ∙ inv
+=======
+      pub walk_last : last ≡ true → Ok (walked_to u size') ≡ f
+      walk_last l =
+          let t = text_of file base 64 lines in
+          ap₂ done eu el
+          ∙ sym (ap (walked_from types g owed size) (at_last 64 c d t pc pd q (sym eg ∙ e ∙ ap (Found v s next) l)) ∙ walk_all types g owed size t v next can) ∙ inv
+>>>>>>> he1/he1
 
       pub walk_more : {o' : ℕ} → o' ≡ owed_after owed x.value → x.last ≡ false → walked_from types u o' size' (values_at 64 c d (text_of file base 64 lines) x.next) ≡ f
       walk_more eo l =

@@ -1,6 +1,12 @@
 -- The code's form: what the last pass says of one entity: the answer of `by_parameters` without what is carried and without the place.
+<<<<<<< HEAD
 use Rattle.std.specs.Prelude.{Bool, false, cond, not, ◌&&◌, List, ℕ, eqb, get_or, drop, Option, Ok, Err}
 use Rattle.columns.specs.declared.Fault.TheVariants.{FirstValue}
+=======
+use Rattle.std.specs.Prelude.{Bool, false, cond, not, ◌&&◌, List, ℕ, eqb, get_or, drop, Result, Ok, Err}
+use Rattle.columns.specs.declared.Fault.{Fault}
+use Rattle.columns.specs.declared.Fault.TheVariants.{FirstValue, Layout as LayoutFault, LayoutReference as LayoutReferenceFault}
+>>>>>>> he1/he1
 use Rattle.columns.specs.Refusal.{Outcome, accepted, refused, demand, ◌then◌}
 use Rattle.values.specs.declared.Value.{Value}
 use Rattle.values.specs.declared.Value.TheVariants.{Default, Whole, Real, Text}
@@ -11,21 +17,22 @@ use Rattle.layouts.specs.declared.LayoutState.{LayoutState}
 use Rattle.layouts.specs.Entities.{entity_check}
 use Rattle.layouts.specs.Walk.{ended}
 use Rattle.model.specs.Read.{is_type}
-use Rattle.read_entities.specs.declared.EntityAnswer.{EntityAnswer}
-use Rattle.read_entities.specs.declared.EntityAnswer.TheVariants.{Good, Refused}
-use Rattle.read_entities.specs.declared.EntityWalked.{EntityWalked}
-use Rattle.read_entities.specs.declared.EntityWalked.TheVariants.{Done, Wrong}
 use Rattle.read_entities.specs.declared.Weighed.{Weighed}
 use Rattle.read_entities.specs.Taking.{entity_with}
+use Rattle.read_entities.specs.Walking.{EntityWalked}
+
+-- nothing is wrong, or the first refusal
+abbrev pub EntityAnswer : Type 0
+EntityAnswer = Result (Unit {0}) Fault
 
 -- an outcome without its value and its place
 abbrev pub entity_answer : {A : Type 0} → Outcome A → EntityAnswer
-entity_answer (accepted a) = Good
-entity_answer (refused fault place) = Refused fault
+entity_answer (accepted a) = Ok tt
+entity_answer (refused fault place) = Err fault
 
 -- an entity of this type and form, with these values in its record: nothing else of its entry has a say
 unfoldable pub entity_pass_of : ℕ → List ℕ → ℕ → ℕ → Values → EntityAnswer
-entity_pass_of list types typ form (wrong fault start at) = Refused fault
+entity_pass_of list types typ form (wrong fault start at) = Err fault
 entity_pass_of list types typ form (values vs end) =
     entity_answer
     (demand (is_type typ (get_or vs 0 default)) FirstValue 0
@@ -41,6 +48,7 @@ type_read typ (Real neg m eneg e double) = false
 type_read typ (Text start count) = false
 
 -- the answer that a verdict is
+<<<<<<< HEAD
 abbrev pub verdict_answer : Verdict → EntityAnswer
 verdict_answer (Ok a) = Good
 verdict_answer (Err fault) = Refused fault
@@ -48,8 +56,18 @@ verdict_answer (Err fault) = Refused fault
 -- by whether the first value is the type, whether the list knows the entity, and where its layout stands behind its values
 abbrev pub pass_answer : Bool → Bool → Option LayoutState → EntityAnswer
 pass_answer typed inside g = cond typed (cond inside (verdict_answer (ended g)) Good) (Refused FirstValue)
+=======
+abbrev pub verdict_answer : LayoutVerdict → EntityAnswer
+verdict_answer GoodVerdict = Ok tt
+verdict_answer Layout = Err LayoutFault
+verdict_answer LayoutReference = Err LayoutReferenceFault
+
+-- by whether the first value is the type, whether the list knows the entity, and where its layout stands behind its values
+abbrev pub pass_answer : Bool → Bool → Stepped → EntityAnswer
+pass_answer typed inside g = cond typed (cond inside (verdict_answer (ended g)) (Ok tt)) (Err FirstValue)
+>>>>>>> he1/he1
 
 -- the same by the walk over its values, with the bytes of their lines
 unfoldable pub weighed_of : Bool → Bool → EntityWalked → Weighed
-weighed_of typed inside (Done state size) = record { answer = pass_answer typed inside state; length = size }
-weighed_of typed inside (Wrong fault) = record { answer = Refused fault; length = 0 }
+weighed_of typed inside (Ok w) = record { answer = pass_answer typed inside w.state; length = w.length }
+weighed_of typed inside (Err fault) = record { answer = Err fault; length = 0 }

@@ -1,6 +1,12 @@
 -- The code's form: one walk over an entity's values: what the layout and the sheet see are those up to the last that is no default, so a
 -- default is owed until a value is given behind it. Its lines in the sheet are measured on the way.
+<<<<<<< HEAD
 use Rattle.std.specs.Prelude.{cond, List, [], ◌∷◌, ◌++◌, ℕ, ◌+◌, ◌*◌, ◌≤◌, ◌<◌, length, replicate, Option}
+=======
+use Rattle.std.specs.Prelude.{cond, List, [], ◌∷◌, ◌++◌, ℕ, ◌+◌, ◌*◌, ◌≤◌, ◌<◌, length, replicate}
+use Rattle.std.specs.Prelude.{Result, Ok, Err}
+use Rattle.columns.specs.declared.Fault.{Fault}
+>>>>>>> he1/he1
 use Rattle.columns.specs.Format.{line_bytes, parameter_columns}
 use Rattle.values.specs.declared.Value.{Value}
 use Rattle.values.specs.Value.{Item, default, spelled, is_missing}
@@ -10,8 +16,7 @@ use Rattle.records.specs.Reading.{Stands}
 use Rattle.records.specs.Written.{copied}
 use Rattle.layouts.specs.declared.LayoutState.{LayoutState}
 use Rattle.layouts.specs.Walk.{stepped, run}
-use Rattle.read_entities.specs.declared.EntityWalked.{EntityWalked}
-use Rattle.read_entities.specs.declared.EntityWalked.TheVariants.{Done, Wrong}
+use Rattle.read_entities.specs.declared.Walked.{Walked}
 
 -- the bytes of the value lines of these values: the mark, a tab, the spelling, an LF
 unfoldable pub carried_length : List Item → ℕ
@@ -43,13 +48,20 @@ owed_after owed v = cond (is_missing v) (owed + 1) 0
 
 -- ---- behind all
 
+-- the layout and the bytes reached, or the first refusal
+abbrev pub EntityWalked : Type 0
+EntityWalked = Result Walked Fault
+
+abbrev pub walked_to : Stepped → ℕ → Walked
+walked_to state size = record { state = state; length = size }
+
 -- the rest of the walk, so many defaults owed and so many bytes measured
 abbrev pub walked_from : List ℕ → Option LayoutState → ℕ → ℕ → Values → EntityWalked
 walked_from types g owed size (values vs end) =
-    Done (run types g (owing owed (trimmed vs))) (size + carried_length (owing owed (trimmed vs)))
-walked_from types g owed size (wrong fault start at) = Wrong fault
+    Ok (walked_to (run types g (owing owed (trimmed vs))) (size + carried_length (owing owed (trimmed vs))))
+walked_from types g owed size (wrong fault start at) = Err fault
 
 -- no more bytes than m
 abbrev pub Light : ℕ → EntityWalked → Type 0
-Light m (Done state size) = size ≤ m
-Light m (Wrong fault) = Unit {0}
+Light m (Ok w) = w.length ≤ m
+Light m (Err fault) = Unit {0}

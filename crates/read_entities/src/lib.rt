@@ -16,27 +16,26 @@ pub struct Taken {
     pub next: usize,
 }
 
-// What the last pass says of an entity: nothing is wrong, or its first refusal.
-#[derive(Clone, Copy)]
-pub enum EntityAnswer {
-    Good,
-    Refused(Fault),
-}
-
-// What the last pass says of an entity, and the bytes of the lines of the values that it carries.
+// What the last pass says of an entity: nothing is wrong, or its first refusal; and the bytes of the lines of the values that it carries.
 #[derive(Clone, Copy)]
 pub struct Weighed {
-    pub answer: EntityAnswer,
+    pub answer: Result<(), Fault>,
     pub length: usize,
 }
 
 // An entity's values behind its type, walked over: the layout behind the last that is no default, and the bytes of the value
-// lines up to it; or the first refusal.
+// lines up to it.
 #[derive(Clone, Copy)]
+<<<<<<< HEAD
 pub enum EntityWalked {
     Done {
         state: Option<LayoutState>,
         length: usize,
     },
     Wrong(Fault),
+=======
+pub struct Walked {
+    pub state: Stepped,
+    pub length: usize,
+>>>>>>> he1/he1
 }

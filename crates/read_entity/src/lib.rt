@@ -16,7 +16,7 @@ use layouts::LayoutState;
 use layouts_lists::known;
 use layouts_machine::end;
 use read_entities::marks::marks_begun;
-use read_entities::{EntityAnswer, EntityWalked, Weighed};
+use read_entities::{Walked, Weighed};
 use read_walk::walk;
 use records::{Found, Misspelt};
 use records_read::value_at;
@@ -39,6 +39,7 @@ fn is_type(typ: u32, v: Value) -> bool
     }
 }
 
+<<<<<<< HEAD
 #[tactic(auto, using(read_entities::proofs::Passes::answering))]
 fn verdict_answer(w: Result<(), Fault>) -> EntityAnswer
     ensures { result ≡ verdict_answer w }
@@ -46,42 +47,59 @@ fn verdict_answer(w: Result<(), Fault>) -> EntityAnswer
     match w {
         Ok(()) => EntityAnswer::Good,
         Err(fault) => EntityAnswer::Refused(fault),
+=======
+fn verdict_answer(w: LayoutVerdict) -> Result<(), Fault>
+    ensures { result ≡ verdict_answer w }
+{
+    match w {
+        LayoutVerdict::Good => Ok(()),
+        LayoutVerdict::Layout => Err(Fault::Layout),
+        LayoutVerdict::LayoutReference => Err(Fault::LayoutReference),
+>>>>>>> he1/he1
     }
 }
 
 // What is said of an entity whose first value is its type or not, that the list knows or not, and whose layout stands there
 // behind its values.
+<<<<<<< HEAD
 fn pass_answer(typed: bool, inside: bool, g: Option<LayoutState>) -> EntityAnswer
+=======
+fn pass_answer(typed: bool, inside: bool, g: Stepped) -> Result<(), Fault>
+>>>>>>> he1/he1
     ensures { result ≡ pass_answer typed inside g }
 {
     if !typed {
-        return EntityAnswer::Refused(Fault::FirstValue);
+        return Err(Fault::FirstValue);
     }
     if !inside {
-        return EntityAnswer::Good;
+        return Ok(());
     }
     match g {
         Some(s) => {
             let w = end(s);
             verdict_answer(w)
         }
+<<<<<<< HEAD
         None => EntityAnswer::Refused(Fault::Layout),
+=======
+        Stepped::Bad => Err(Fault::Layout),
+>>>>>>> he1/he1
     }
 }
 
 // The same by the walk over its values, with the bytes of their lines.
-fn weighed_by(typed: bool, inside: bool, walked: EntityWalked) -> Weighed
+fn weighed_by(typed: bool, inside: bool, walked: Result<Walked, Fault>) -> Weighed
     ensures { result ≡ weighed_of typed inside walked }
 {
     match walked {
-        EntityWalked::Wrong(fault) => Weighed {
-            answer: EntityAnswer::Refused(fault),
+        Err(fault) => Weighed {
+            answer: Err(fault),
             length: 0,
         },
-        EntityWalked::Done { state, length } => {
-            let answer = pass_answer(typed, inside, state);
-            Weighed { answer, length }
-        }
+        Ok(walked) => Weighed {
+            answer: pass_answer(typed, inside, walked.state),
+            length: walked.length,
+        },
     }
 }
 
@@ -108,8 +126,13 @@ pub fn entity_pass(
 {
     let g = value_at(file, base, PARAMETER_COLUMNS, lines, c, d, 0);
     match g {
+<<<<<<< HEAD
         Err(Misspelt { fault, .. }) => Weighed {
             answer: EntityAnswer::Refused(fault),
+=======
+        Got::Refused { fault, .. } => Weighed {
+            answer: Err(fault),
+>>>>>>> he1/he1
             length: 0,
         },
         Ok(

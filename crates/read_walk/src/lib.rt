@@ -12,10 +12,11 @@ ghost use Rattle.directory.specs.Naming.{types_at};
 ghost use Rattle.layouts.specs.Walk.{run};
 ghost use Rattle.read_entities.specs.Walking.{EntityStands, state_after, owed_after, length_after, walked_from, Light};
 
+use columns::Fault;
 use columns::format::PARAMETER_COLUMNS;
 use layouts::LayoutState;
 use layouts_machine::{runs_on, with_left};
-use read_entities::EntityWalked;
+use read_entities::Walked;
 use read_entities::marks::mark_step;
 use records::{Found, Misspelt};
 use records_read::value_at;
@@ -117,7 +118,7 @@ pub fn walk(
     begun: Option<LayoutState>,
     first: usize,
     n: usize,
-) -> EntityWalked
+) -> Result<Walked, Fault>
     requires entity_stands { EntityStands file.now base lines c d first n }
     requires from_bound { from ≤ lines * parameter_columns }
     ensures value { result ≡ walked_from (types_at file.now first n) begun 0 0
@@ -131,8 +132,13 @@ pub fn walk(
     loop {
         let g = value_at(file, base, PARAMETER_COLUMNS, lines, c, d, q);
         match g {
+<<<<<<< HEAD
             Err(Misspelt { fault, .. }) => {
                 return EntityWalked::Wrong(fault);
+=======
+            Got::Refused { fault, .. } => {
+                return Err(fault);
+>>>>>>> he1/he1
             }
             Ok(
                 Found {
@@ -146,7 +152,7 @@ pub fn walk(
                 length = length_after(length, owed, value);
                 owed = owed_after(owed, value);
                 if last {
-                    return EntityWalked::Done { state, length };
+                    return Ok(Walked { state, length });
                 }
                 q = next;
             }
