@@ -105,25 +105,11 @@ pub answer-fault : (w : Verdict) (p : ℕ) → verdict_answer w ≡ entity_answe
 answer-fault (Ok a) p = refl
 answer-fault (Err n) p = refl
 
-<<<<<<< HEAD
 module _ {w : Verdict} where
-  pub answer_good : w ≡ Ok tt → Good ≡ verdict_answer w
+  pub answer_good : w ≡ Ok tt → Ok tt ≡ verdict_answer w
   answer_good e = rw e
 
-  pub answer_fault : {n : Fault} → w ≡ Err n → Refused n ≡ verdict_answer w
+  pub answer_fault : {n : Fault} → w ≡ Err n → Err n ≡ verdict_answer w
   answer_fault e = rw e
 
 pub ruleset answering = (answer_good, answer_fault)
-=======
-module _ {w : LayoutVerdict} where
-  pub answer_good : w ≡ GoodVerdict → Ok tt ≡ verdict_answer w
-  answer_good e = rw e
-
-  pub answer_layout : w ≡ Layout → Err LayoutFault ≡ verdict_answer w
-  answer_layout e = rw e
-
-  pub answer_reference : w ≡ LayoutReference → Err LayoutReferenceFault ≡ verdict_answer w
-  answer_reference e = rw e
-
-pub ruleset answering = (answer_good, answer_layout, answer_reference)
->>>>>>> he1/he1

@@ -162,11 +162,7 @@ module _ (types : List ℕ) (g : Option LayoutState) (owed size : ℕ) (t : List
 module _ {file : List ℕ} {base lines : ℕ} (st : Stands file base 64 lines) {c d : ℕ} (pc : 0 < c) (pd : 0 < d) (types : List ℕ) where
   module _ (q owed size : ℕ) (g : Option LayoutState) {got : Got} {f : EntityWalked} (h : q ≤ lines * 64) (eg : got ≡ value_at 64 c d (text_of file base 64 lines) q)
       (inv : walked_from types g owed size (values_at 64 c d (text_of file base 64 lines) q) ≡ f) where
-<<<<<<< HEAD
-    pub walk_wrong : {x : Misspelt} → got ≡ Err x → Wrong x.fault ≡ f
-=======
-    pub walk_wrong : {fault : Fault} {s at : ℕ} → got ≡ Refused fault s at → Err fault ≡ f
->>>>>>> he1/he1
+    pub walk_wrong : {x : Misspelt} → got ≡ Err x → Err x.fault ≡ f
     walk_wrong e = sym (ap (walked_from types g owed size) (at-wrong 64 c d (text_of file base 64 lines) pc pd q (sym eg ∙ e))) ∙ inv
 
     module _ (sane : Sane q (lines * 64) got) {x : Found} (e : got ≡ Ok x) {u : Option LayoutState} {size' : ℕ}
@@ -174,19 +170,11 @@ module _ {file : List ℕ} {base lines : ℕ} (st : Stands file base 64 lines) {
       can : Writable (length (text_of file base 64 lines)) x.value
       can = rw (length-text file base 64 lines st) (can_write q (lines * 64) e sane)
 
-<<<<<<< HEAD
-      pub walk_last : x.last ≡ true → Done u size' ≡ f
-      walk_last l =
-          let t = text_of file base 64 lines in
-          ap₂ Done eu el
-          ∙ sym (ap (walked_from types g owed size) (at_last 64 c d t pc pd q (sym eg ∙ e ∙ ap (found_at x.value x.start x.next) l)) ∙ walk_all types g owed size t x.value x.next can) ∙ inv
-=======
-      pub walk_last : last ≡ true → Ok (walked_to u size') ≡ f
+      pub walk_last : x.last ≡ true → Ok (walked_to u size') ≡ f
       walk_last l =
           let t = text_of file base 64 lines in
           ap₂ done eu el
-          ∙ sym (ap (walked_from types g owed size) (at_last 64 c d t pc pd q (sym eg ∙ e ∙ ap (Found v s next) l)) ∙ walk_all types g owed size t v next can) ∙ inv
->>>>>>> he1/he1
+          ∙ sym (ap (walked_from types g owed size) (at_last 64 c d t pc pd q (sym eg ∙ e ∙ ap (found_at x.value x.start x.next) l)) ∙ walk_all types g owed size t x.value x.next can) ∙ inv
 
       pub walk_more : {o' : ℕ} → o' ≡ owed_after owed x.value → x.last ≡ false → walked_from types u o' size' (values_at 64 c d (text_of file base 64 lines) x.next) ≡ f
       walk_more eo l =

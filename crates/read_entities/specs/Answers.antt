@@ -1,12 +1,7 @@
 -- The code's form: what the last pass says of one entity: the answer of `by_parameters` without what is carried and without the place.
-<<<<<<< HEAD
-use Rattle.std.specs.Prelude.{Bool, false, cond, not, ◌&&◌, List, ℕ, eqb, get_or, drop, Option, Ok, Err}
-use Rattle.columns.specs.declared.Fault.TheVariants.{FirstValue}
-=======
-use Rattle.std.specs.Prelude.{Bool, false, cond, not, ◌&&◌, List, ℕ, eqb, get_or, drop, Result, Ok, Err}
+use Rattle.std.specs.Prelude.{Bool, false, cond, not, ◌&&◌, List, ℕ, eqb, get_or, drop, Option, Result, Ok, Err}
 use Rattle.columns.specs.declared.Fault.{Fault}
-use Rattle.columns.specs.declared.Fault.TheVariants.{FirstValue, Layout as LayoutFault, LayoutReference as LayoutReferenceFault}
->>>>>>> he1/he1
+use Rattle.columns.specs.declared.Fault.TheVariants.{FirstValue}
 use Rattle.columns.specs.Refusal.{Outcome, accepted, refused, demand, ◌then◌}
 use Rattle.values.specs.declared.Value.{Value}
 use Rattle.values.specs.declared.Value.TheVariants.{Default, Whole, Real, Text}
@@ -48,24 +43,13 @@ type_read typ (Real neg m eneg e double) = false
 type_read typ (Text start count) = false
 
 -- the answer that a verdict is
-<<<<<<< HEAD
 abbrev pub verdict_answer : Verdict → EntityAnswer
-verdict_answer (Ok a) = Good
-verdict_answer (Err fault) = Refused fault
+verdict_answer (Ok a) = Ok tt
+verdict_answer (Err fault) = Err fault
 
 -- by whether the first value is the type, whether the list knows the entity, and where its layout stands behind its values
 abbrev pub pass_answer : Bool → Bool → Option LayoutState → EntityAnswer
-pass_answer typed inside g = cond typed (cond inside (verdict_answer (ended g)) Good) (Refused FirstValue)
-=======
-abbrev pub verdict_answer : LayoutVerdict → EntityAnswer
-verdict_answer GoodVerdict = Ok tt
-verdict_answer Layout = Err LayoutFault
-verdict_answer LayoutReference = Err LayoutReferenceFault
-
--- by whether the first value is the type, whether the list knows the entity, and where its layout stands behind its values
-abbrev pub pass_answer : Bool → Bool → Stepped → EntityAnswer
 pass_answer typed inside g = cond typed (cond inside (verdict_answer (ended g)) (Ok tt)) (Err FirstValue)
->>>>>>> he1/he1
 
 -- the same by the walk over its values, with the bytes of their lines
 unfoldable pub weighed_of : Bool → Bool → EntityWalked → Weighed

@@ -1,12 +1,8 @@
 -- The code's form: one walk over an entity's values: what the layout and the sheet see are those up to the last that is no default, so a
 -- default is owed until a value is given behind it. Its lines in the sheet are measured on the way.
-<<<<<<< HEAD
 use Rattle.std.specs.Prelude.{cond, List, [], ◌∷◌, ◌++◌, ℕ, ◌+◌, ◌*◌, ◌≤◌, ◌<◌, length, replicate, Option}
-=======
-use Rattle.std.specs.Prelude.{cond, List, [], ◌∷◌, ◌++◌, ℕ, ◌+◌, ◌*◌, ◌≤◌, ◌<◌, length, replicate}
 use Rattle.std.specs.Prelude.{Result, Ok, Err}
 use Rattle.columns.specs.declared.Fault.{Fault}
->>>>>>> he1/he1
 use Rattle.columns.specs.Format.{line_bytes, parameter_columns}
 use Rattle.values.specs.declared.Value.{Value}
 use Rattle.values.specs.Value.{Item, default, spelled, is_missing}
@@ -52,7 +48,7 @@ owed_after owed v = cond (is_missing v) (owed + 1) 0
 abbrev pub EntityWalked : Type 0
 EntityWalked = Result Walked Fault
 
-abbrev pub walked_to : Stepped → ℕ → Walked
+abbrev pub walked_to : Option LayoutState → ℕ → Walked
 walked_to state size = record { state = state; length = size }
 
 -- the rest of the walk, so many defaults owed and so many bytes measured

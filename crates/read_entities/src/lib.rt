@@ -26,16 +26,7 @@ pub struct Weighed {
 // An entity's values behind its type, walked over: the layout behind the last that is no default, and the bytes of the value
 // lines up to it.
 #[derive(Clone, Copy)]
-<<<<<<< HEAD
-pub enum EntityWalked {
-    Done {
-        state: Option<LayoutState>,
-        length: usize,
-    },
-    Wrong(Fault),
-=======
 pub struct Walked {
-    pub state: Stepped,
+    pub state: Option<LayoutState>,
     pub length: usize,
->>>>>>> he1/he1
 }

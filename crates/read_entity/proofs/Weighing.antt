@@ -37,13 +37,8 @@ use Rattle.read_entities.proofs.Walks.{owing-none}
 
 -- ---- the answer by cases
 
-<<<<<<< HEAD
 module _ (typed inside : Bool) (g : Option LayoutState) where
-  pub answer_first : typed ≡ false → Refused FirstValue ≡ pass_answer typed inside g
-=======
-module _ (typed inside : Bool) (g : Stepped) where
   pub answer_first : typed ≡ false → Err FirstValue ≡ pass_answer typed inside g
->>>>>>> he1/he1
   answer_first e = rw e
 
   module _ (e : typed ≡ true) where
@@ -54,11 +49,7 @@ module _ (typed inside : Bool) (g : Stepped) where
       pub answer_go : {s : LayoutState} {w : Verdict} {r : EntityAnswer} → g ≡ Some s → w ≡ end s → r ≡ verdict_answer w → r ≡ pass_answer typed inside g
       answer_go q ew er = rw (e, h, q, ← ew) er
 
-<<<<<<< HEAD
-      pub answer_bad : g ≡ None → Refused Layout ≡ pass_answer typed inside g
-=======
-      pub answer_bad : g ≡ Bad → Err LayoutFault ≡ pass_answer typed inside g
->>>>>>> he1/he1
+      pub answer_bad : g ≡ None → Err Layout ≡ pass_answer typed inside g
       answer_bad q = rw (e, h, q)
 
 pub ruleset answers = (not-true, not-false, answer_first, answer_outside, answer_go, answer_bad)
@@ -68,11 +59,7 @@ module _ (typed inside : Bool) {w : EntityWalked} where
   unfolding weighed_of
   weighed_wrong e = rw e
 
-<<<<<<< HEAD
-  pub weighed_done : {u : Option LayoutState} {size : ℕ} {a : EntityAnswer} → w ≡ Done u size → a ≡ pass_answer typed inside u → record { answer = a; length = size } ≡ weighed_of typed inside w
-=======
   pub weighed_done : {u : Walked} {a : EntityAnswer} → w ≡ Ok u → a ≡ pass_answer typed inside u.state → record { answer = a; length = u.length } ≡ weighed_of typed inside w
->>>>>>> he1/he1
   unfolding weighed_of
   weighed_done e ea = rw (e, ea)
 
@@ -94,51 +81,30 @@ module _ (list : ℕ) (types : List ℕ) (typ form : ℕ) where
       by true false = refl
       by false b = refl
 
-<<<<<<< HEAD
-  values_wrong : (i : Item) (vals : Values) (g : Option LayoutState) (f : Fault) → walked_from types g 0 0 vals ≡ Wrong f → Refused f ≡ entity_pass_of list types typ form (more i vals)
-=======
-  values_wrong : (i : Item) (vals : Values) (g : Stepped) (f : Fault) → walked_from types g 0 0 vals ≡ Err f → Err f ≡ entity_pass_of list types typ form (more i vals)
->>>>>>> he1/he1
+  values_wrong : (i : Item) (vals : Values) (g : Option LayoutState) (f : Fault) → walked_from types g 0 0 vals ≡ Err f → Err f ≡ entity_pass_of list types typ form (more i vals)
   unfolding entity_pass_of
   values_wrong i (values vs to) g f h = let z : ◌≡◌ {A = ℕ} 0 1 = cc in absurd (omega arith)
   values_wrong i (wrong n s at) g f h = let e : f ≡ n = cc in ap (λ (x : Fault). Err x) e
 
-<<<<<<< HEAD
-  values_done : (i : Item) (vals : Values) (u : Option LayoutState) (size : ℕ) → walked_from types (marks_begun list typ form) 0 0 vals ≡ Done u size
-      → pass_answer (is_type typ i) (known list typ form) u ≡ entity_pass_of list types typ form (more i vals)
-  values_done i (values vs to) u size h =
-      let e : u ≡ run types (marks_begun list typ form) (owing 0 (trimmed vs)) = cc in
-=======
   values_done : (i : Item) (vals : Values) (u : Walked) → walked_from types (marks_begun list typ form) 0 0 vals ≡ Ok u
       → pass_answer (is_type typ i) (known list typ form) u.state ≡ entity_pass_of list types typ form (more i vals)
   values_done i (values vs to) u h =
       let w : walked_to (run types (marks_begun list typ form) (owing 0 (trimmed vs))) (0 + carried_length (owing 0 (trimmed vs))) ≡ u = cc in
       let e : u.state ≡ run types (marks_begun list typ form) (owing 0 (trimmed vs)) = sym (ap (λ (x : Walked). x.state) w) in
->>>>>>> he1/he1
       ap (pass_answer (is_type typ i) (known list typ form)) (e ∙ ap (run types (marks_begun list typ form)) (owing-none (trimmed vs))) ∙ pass_all i vs to
   values_done i (wrong n s at) u h = let z : ◌≡◌ {A = ℕ} 0 1 = cc in absurd (omega arith)
 
 -- ---- what is carried, measured
 
-<<<<<<< HEAD
-none-carried : (types : List ℕ) (i : Item) (vals : Values) (g : Option LayoutState) (f : Fault) → walked_from types g 0 0 vals ≡ Wrong f → 0 ≡ carried_length (carried_in (more i vals))
-=======
-none-carried : (types : List ℕ) (i : Item) (vals : Values) (g : Stepped) (f : Fault) → walked_from types g 0 0 vals ≡ Err f → 0 ≡ carried_length (carried_in (more i vals))
->>>>>>> he1/he1
+none-carried : (types : List ℕ) (i : Item) (vals : Values) (g : Option LayoutState) (f : Fault) → walked_from types g 0 0 vals ≡ Err f → 0 ≡ carried_length (carried_in (more i vals))
 unfolding carried_length
 none-carried types i (values vs to) g f h = let z : ◌≡◌ {A = ℕ} 0 1 = cc in absurd (omega arith)
 none-carried types i (wrong n s at) g f h = refl
 
-<<<<<<< HEAD
-all_carried : (types : List ℕ) (i : Item) (vals : Values) (g u : Option LayoutState) (size : ℕ) → walked_from types g 0 0 vals ≡ Done u size → size ≡ carried_length (carried_in (more i vals))
-all_carried types i (values vs to) g u size h =
-    let e : size ≡ 0 + carried_length (owing 0 (trimmed vs)) = cc in
-=======
-all_carried : (types : List ℕ) (i : Item) (vals : Values) (g : Stepped) (u : Walked) → walked_from types g 0 0 vals ≡ Ok u → u.length ≡ carried_length (carried_in (more i vals))
+all_carried : (types : List ℕ) (i : Item) (vals : Values) (g : Option LayoutState) (u : Walked) → walked_from types g 0 0 vals ≡ Ok u → u.length ≡ carried_length (carried_in (more i vals))
 all_carried types i (values vs to) g u h =
     let w : walked_to (run types g (owing 0 (trimmed vs))) (0 + carried_length (owing 0 (trimmed vs))) ≡ u = cc in
     let e : u.length ≡ 0 + carried_length (owing 0 (trimmed vs)) = sym (ap (λ (x : Walked). x.length) w) in
->>>>>>> he1/he1
     e ∙ zero-add _ ∙ ap carried_length (owing-none (trimmed vs))
 all_carried types i (wrong n s at) g u h = let z : ◌≡◌ {A = ℕ} 0 1 = cc in absurd (omega arith)
 
@@ -160,15 +126,9 @@ module _ {c d : ℕ} (pc : 0 < c) (pd : 0 < d) (t : List ℕ) {got : Got} (eg : 
       unfolding weighed_of
       weigh_walked typed inside er = ap (λ (y : Weighed). y.length) er ∙ by w ew
         where
-<<<<<<< HEAD
-          by : (y : EntityWalked) → y ≡ walked_from types g 0 0 (values_at 64 c d t x.next) → (weighed_of typed inside y).length ≡ carried_length (carried_in (values_at 64 c d t 0))
-          by (Wrong f) ex = none-carried types (item_of t x.value) (values_at 64 c d t x.next) g f (sym ex) ∙ whole
-          by (Done u size) ex = all_carried types (item_of t x.value) (values_at 64 c d t x.next) g u size (sym ex) ∙ whole
-=======
-          by : (x : EntityWalked) → x ≡ walked_from types g 0 0 (values_at 64 c d t next) → (weighed_of typed inside x).length ≡ carried_length (carried_in (values_at 64 c d t 0))
-          by (Err f) ex = none-carried types (item_of t v) (values_at 64 c d t next) g f (sym ex) ∙ whole
-          by (Ok u) ex = all_carried types (item_of t v) (values_at 64 c d t next) g u (sym ex) ∙ whole
->>>>>>> he1/he1
+          by : (z : EntityWalked) → z ≡ walked_from types g 0 0 (values_at 64 c d t x.next) → (weighed_of typed inside z).length ≡ carried_length (carried_in (values_at 64 c d t 0))
+          by (Err f) ex = none-carried types (item_of t x.value) (values_at 64 c d t x.next) g f (sym ex) ∙ whole
+          by (Ok u) ex = all_carried types (item_of t x.value) (values_at 64 c d t x.next) g u (sym ex) ∙ whole
 
 pub weigh_light : (m : ℕ) (w : EntityWalked) (typed inside : Bool) {r : Weighed} → r ≡ weighed_of typed inside w → Light m w → r.length ≤ m
 unfolding weighed_of
@@ -182,11 +142,7 @@ weigh_light m w typed inside er h = by w er h
 
 module _ (list : ℕ) (types : List ℕ) (typ form : ℕ) where
   module _ {c d : ℕ} (pc : 0 < c) (pd : 0 < d) (t : List ℕ) {got : Got} (eg : got ≡ value_at 64 c d t 0) where
-<<<<<<< HEAD
-    pub pass_refused : {x : Misspelt} → got ≡ Err x → Refused x.fault ≡ entity_pass_of list types typ form (values_at 64 c d t 0)
-=======
-    pub pass_refused : {f : Fault} {s at : ℕ} → got ≡ RefusedValue f s at → Err f ≡ entity_pass_of list types typ form (values_at 64 c d t 0)
->>>>>>> he1/he1
+    pub pass_refused : {x : Misspelt} → got ≡ Err x → Err x.fault ≡ entity_pass_of list types typ form (values_at 64 c d t 0)
     unfolding entity_pass_of
     pass_refused e = sym (ap (entity_pass_of list types typ form) (at-wrong 64 c d t pc pd 0 (sym eg ∙ e)))
 
@@ -209,16 +165,9 @@ module _ (list : ℕ) (types : List ℕ) (typ form : ℕ) where
         unfolding weighed_of
         pass_walked er = ap (λ (y : Weighed). y.answer) er ∙ by w ew ∙ sym (ap (entity_pass_of list types typ form) rest)
           where
-<<<<<<< HEAD
             by : (z : EntityWalked) → z ≡ walked_from types g 0 0 (values_at 64 c d t x.next) → (weighed_of typed inside z).answer ≡ entity_pass_of list types typ form (more (item_of t x.value) (values_at 64 c d t x.next))
-            by (Wrong f) ex = values_wrong list types typ form (item_of t x.value) (values_at 64 c d t x.next) g f (sym ex)
-            by (Done u size) ex =
-                rw (its_type, ei) (values_done list types typ form (item_of t x.value) (values_at 64 c d t x.next) u size (ap (λ (y : Option LayoutState). walked_from types y 0 0 (values_at 64 c d t x.next)) (sym eb) ∙ sym ex))
-=======
-            by : (x : EntityWalked) → x ≡ walked_from types g 0 0 (values_at 64 c d t next) → (weighed_of typed inside x).answer ≡ entity_pass_of list types typ form (more (item_of t v) (values_at 64 c d t next))
-            by (Err f) ex = values_wrong list types typ form (item_of t v) (values_at 64 c d t next) g f (sym ex)
+            by (Err f) ex = values_wrong list types typ form (item_of t x.value) (values_at 64 c d t x.next) g f (sym ex)
             by (Ok u) ex =
-                rw (its_type, ei) (values_done list types typ form (item_of t v) (values_at 64 c d t next) u (ap (λ (y : Stepped). walked_from types y 0 0 (values_at 64 c d t next)) (sym eb) ∙ sym ex))
->>>>>>> he1/he1
+                rw (its_type, ei) (values_done list types typ form (item_of t x.value) (values_at 64 c d t x.next) u (ap (λ (y : Option LayoutState). walked_from types y 0 0 (values_at 64 c d t x.next)) (sym eb) ∙ sym ex))
 
 pub ruleset passes = (pass_refused, pass_single, pass_walked, weigh_refused, weigh_single, weigh_walked, weigh_light, next_in)

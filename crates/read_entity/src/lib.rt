@@ -39,33 +39,19 @@ fn is_type(typ: u32, v: Value) -> bool
     }
 }
 
-<<<<<<< HEAD
 #[tactic(auto, using(read_entities::proofs::Passes::answering))]
-fn verdict_answer(w: Result<(), Fault>) -> EntityAnswer
+fn verdict_answer(w: Result<(), Fault>) -> Result<(), Fault>
     ensures { result ≡ verdict_answer w }
 {
     match w {
-        Ok(()) => EntityAnswer::Good,
-        Err(fault) => EntityAnswer::Refused(fault),
-=======
-fn verdict_answer(w: LayoutVerdict) -> Result<(), Fault>
-    ensures { result ≡ verdict_answer w }
-{
-    match w {
-        LayoutVerdict::Good => Ok(()),
-        LayoutVerdict::Layout => Err(Fault::Layout),
-        LayoutVerdict::LayoutReference => Err(Fault::LayoutReference),
->>>>>>> he1/he1
+        Ok(()) => Ok(()),
+        Err(fault) => Err(fault),
     }
 }
 
 // What is said of an entity whose first value is its type or not, that the list knows or not, and whose layout stands there
 // behind its values.
-<<<<<<< HEAD
-fn pass_answer(typed: bool, inside: bool, g: Option<LayoutState>) -> EntityAnswer
-=======
-fn pass_answer(typed: bool, inside: bool, g: Stepped) -> Result<(), Fault>
->>>>>>> he1/he1
+fn pass_answer(typed: bool, inside: bool, g: Option<LayoutState>) -> Result<(), Fault>
     ensures { result ≡ pass_answer typed inside g }
 {
     if !typed {
@@ -79,11 +65,7 @@ fn pass_answer(typed: bool, inside: bool, g: Stepped) -> Result<(), Fault>
             let w = end(s);
             verdict_answer(w)
         }
-<<<<<<< HEAD
-        None => EntityAnswer::Refused(Fault::Layout),
-=======
-        Stepped::Bad => Err(Fault::Layout),
->>>>>>> he1/he1
+        None => Err(Fault::Layout),
     }
 }
 
@@ -126,13 +108,8 @@ pub fn entity_pass(
 {
     let g = value_at(file, base, PARAMETER_COLUMNS, lines, c, d, 0);
     match g {
-<<<<<<< HEAD
         Err(Misspelt { fault, .. }) => Weighed {
-            answer: EntityAnswer::Refused(fault),
-=======
-        Got::Refused { fault, .. } => Weighed {
             answer: Err(fault),
->>>>>>> he1/he1
             length: 0,
         },
         Ok(

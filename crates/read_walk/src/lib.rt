@@ -132,13 +132,8 @@ pub fn walk(
     loop {
         let g = value_at(file, base, PARAMETER_COLUMNS, lines, c, d, q);
         match g {
-<<<<<<< HEAD
             Err(Misspelt { fault, .. }) => {
-                return EntityWalked::Wrong(fault);
-=======
-            Got::Refused { fault, .. } => {
                 return Err(fault);
->>>>>>> he1/he1
             }
             Ok(
                 Found {

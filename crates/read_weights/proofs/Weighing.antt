@@ -114,11 +114,7 @@ pub ruleset parts = (entry_few, row_fits, row_light, row-parts)
 
 module _ (list : ℕ) (f : List ℕ) (c : Counts) (p d : ℕ) (rd : Ready f c) (i : ℕ) (h : i < entries c) (k : ℕ) (r : Option Spelt) (ek : k ≡ entry_line c i) (er : r ≡ entry_at f k) where
   -- every entry is spelt
-<<<<<<< ours
-  pub row_never : r ≡ None → GoodRows 0 ≡ rows_of (row_length list f c p d i) (entity_at list f c p d i)
-=======
-  pub row_never : r ≡ Wrong → Ok 0 ≡ rows_of (row_length list f c p d i) (entity_at list f c p d i)
->>>>>>> theirs
+  pub row_never : r ≡ None → Ok 0 ≡ rows_of (row_length list f c p d i) (entity_at list f c p d i)
   row_never e = absurd (never_wrong f c rd i h k r ek er e)
 
   module _ (x : Spelt) (e : r ≡ Some x) where
@@ -155,12 +151,7 @@ module _ (list : ℕ) (f : List ℕ) (c : Counts) (p d : ℕ) (rd : Ready f c) (
         by : (y : EntityAnswer) → y ≡ record_answer list f c p d x.fields.entity.size x.fields.form.size x.pointer.0 x.lines
             → answer_rows y (length (line_of (entry (known list x.fields.entity.size x.fields.form.size) (sized false (2 * i + 1)) x.fields (label_at f k)) ++ (10 ∷ [])) + carried_length (record_carried f c p d x.pointer.0 x.lines)) (file_line (k + 1))
             ≡ rows_of (row_length list f c p d i) (entity_at list f c p d i)
-<<<<<<< ours
-        by GoodEntity ey = ap GoodRows row-length ∙ ap (rows_of (row_length list f c p d i)) (entity-passes list f c p d rd i h k r ek er x e GoodEntity ey refl)
-        by (RefusedEntity w) ey = ap (rows_of (row_length list f c p d i)) (entity_refuses list f c p d rd i h k r ek er x e (RefusedEntity w) ey w refl)
-=======
-        by (Ok u) ey = ap (λ (n : ℕ). Ok n) row-length ∙ ap (rows_of (row_length list f c p d i)) (entity-passes list f c p d rd i h k r ek er x from count e (Ok u) ey refl)
-        by (Err w) ey = ap (rows_of (row_length list f c p d i)) (entity_refuses list f c p d rd i h k r ek er x from count e (Err w) ey w refl)
->>>>>>> theirs
+        by (Ok u) ey = ap (λ (n : ℕ). Ok n) row-length ∙ ap (rows_of (row_length list f c p d i)) (entity-passes list f c p d rd i h k r ek er x e (Ok u) ey refl)
+        by (Err w) ey = ap (rows_of (row_length list f c p d i)) (entity_refuses list f c p d rd i h k r ek er x e (Err w) ey w refl)
 
 pub ruleset ones = (entry-inside, pointer_some, pointer_stays, row_never, row_told)

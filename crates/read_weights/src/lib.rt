@@ -13,16 +13,10 @@ ghost use Rattle.read_weights.specs.Weights.{record_carried, row_length, answer_
 
 use cards::Counts;
 use columns::format::{FIELD_COLUMNS, LINE_BYTES};
-<<<<<<< ours
-use columns::{Fault, FileLine, ParameterLine, wide};
-use directory::{Fields, Spelt};
-use read_entities::{EntityAnswer, Weighed};
-=======
 use columns::{Fault, FileLine, ParameterLine, Refusal, wide};
-use directory::{EntryRead, Fields};
+use directory::{Fields, Spelt};
 use read_entities::Weighed;
 use read_passes::Before;
->>>>>>> theirs
 use sheets_lay::entry_len;
 
 // What a file tells that passes all checks: its counts and delimiters, and the bytes of the sheet behind its G lines.
@@ -131,8 +125,7 @@ pub fn entity_at(list: u64, file: &[u8], c: Counts, parameter: u8, closing: u8, 
     let k = cards::entry_line(c, i);
     let read = directory_read::entry_at(file, k);
     match read {
-<<<<<<< ours
-        None => Rows::Good(0),
+        None => Ok(0),
         Some(
             Spelt {
                 fields,
@@ -140,14 +133,6 @@ pub fn entity_at(list: u64, file: &[u8], c: Counts, parameter: u8, closing: u8, 
                 lines,
             },
         ) => row_at(
-=======
-        EntryRead::Wrong => Ok(0),
-        EntryRead::Spelt {
-            fields,
-            pointer,
-            lines,
-        } => row_at(
->>>>>>> theirs
             list, file, c, parameter, closing, i, k, fields, pointer, lines,
         ),
     }
