@@ -5,9 +5,7 @@ use Prim.Native.Nat.{ℕ, ◌+◌, ◌-◌, ◌≤◌, ◌<◌}
 use native.Mathlib.Omega.{arith}
 use lib.ListN.{length}
 use borrow.Author.Tests.{le-leb, lt-leb}
-use Rattle.std.proofs.Common.{Option, Some, None}
-use Rattle.columns.specs.declared.Field.{Field}
-use Rattle.columns.specs.declared.Field.TheVariants.{Number, Bad}
+use Rattle.std.specs.Prelude.{Option, Some, None, unwrap_or}
 use Rattle.columns.specs.Columns.{columns}
 use Rattle.columns.specs.Fixed.{field_of}
 use Rattle.vectors.specs.declared.Vector.{Vector}
@@ -52,19 +50,19 @@ pub ruleset packs = (name_input, input_output, output_end, end_pack, input_pack,
 
 -- ---- a vector is read off its numbers
 
-module _ (p : List ℕ) (at : ℕ) (f : Field) (is : f ≡ field_of (columns p at (at + 8))) where
-  pub number_is : (n : ℕ) → f ≡ Number n → n ≡ number_at p at
+module _ (p : List ℕ) (at : ℕ) (f : Option ℕ) (is : f ≡ field_of (columns p at (at + 8))) where
+  pub number_is : (r : ℕ) → r ≡ unwrap_or f 0 → r ≡ number_at p at
   unfolding number_at
-  number_is n e = rw (← is, e)
-
-  pub number_bad : f ≡ Bad → 0 ≡ number_at p at
-  unfolding number_at
-  number_bad e = rw (← is, e)
+  number_is r e = rw (← is) (by f e)
+    where
+      by : (g : Option ℕ) → r ≡ unwrap_or g 0 → r ≡ or_nought g
+      by (Some n) q = q
+      by None q = q
 
 pub same_number : (p : List ℕ) (at n r : ℕ) → n ≡ number_at p at → r ≡ n → r ≡ number_at p at
 same_number p at n r e h = h ∙ e
 
-pub ruleset numbers = (number_is, number_bad, same_number)
+pub ruleset numbers = (number_is, same_number)
 
 pub vector_short : (p : List ℕ) (at : ℕ) → at ≤ length p → length p - at < head_bytes → None ≡ vector_at p at
 unfolding vector_at

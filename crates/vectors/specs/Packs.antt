@@ -1,8 +1,6 @@
 -- The code's form: a pack of vectors, where a vector stands in it, and how many of them pass.
 use Rattle.std.specs.Prelude.{◌≡◌, cond, List, ℕ, ◌+◌, ◌-◌, ◌≤◌, ◌<◌, length, take, drop, leb}
 use Rattle.std.specs.Prelude.{Option, Some, None}
-use Rattle.columns.specs.declared.Field.{Field}
-use Rattle.columns.specs.declared.Field.TheVariants.{Number, Bad}
 use Rattle.columns.specs.Columns.{columns}
 use Rattle.columns.specs.Fixed.{field_of}
 use Rattle.vectors.specs.declared.Vector.{Vector}
@@ -14,9 +12,9 @@ abbrev pub head_bytes : ℕ
 head_bytes = 57
 
 -- what is no number counts as 0
-abbrev pub or_nought : Field → ℕ
-or_nought (Number n) = n
-or_nought Bad = 0
+abbrev pub or_nought : Option ℕ → ℕ
+or_nought (Some n) = n
+or_nought None = 0
 
 -- the number in the eight columns from `at` on
 unfoldable pub number_at : List ℕ → ℕ → ℕ

@@ -4,7 +4,7 @@ ghost use Rattle.std.specs.Prelude.{◌≡◌, ◌+◌, ◌^◌, ◌≤◌, ◌<
 ghost use Rattle.vectors.specs.Packs.{number_at, vector_at, Lies};
 
 use crate::Vector;
-use columns::{Field, wide};
+use columns::wide;
 use columns_fixed::read_field;
 
 // Seven numbers and an LF.
@@ -15,11 +15,7 @@ fn number_at(p: &[u8], at: usize) -> u32
     requires { at + 8 ≤ length p.now }
     ensures { result ≡ number_at p.now at }
 {
-    let end = at + 8;
-    let Field::Number(n) = read_field(p, at, end) else {
-        return 0;
-    };
-    n
+    read_field(p, at, at + 8).unwrap_or(0)
 }
 
 // The same as a length.
