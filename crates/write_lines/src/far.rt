@@ -2,7 +2,7 @@
 // the sheet's bytes, the number of the first entry that starts there or behind. Where it leads is a guess, of which nothing is proved
 // but that it is a place in the sheet: the line that stands there shows its number, and only then counts (`class_shown`). So the
 // contract does not hang on the table, and `table` counts off an entry that is not found. In a table that `write_check` filled none is
-// missed. The part is found in fourteen looks at the table. In the part an entry is looked for where it would stand if all were equally
+// missed. The part is found in sixteen looks at the table. In the part an entry is looked for where it would stand if all were equally
 // long: then the first line looked at is the one. If it isn't, a second guess is made on the side of it where the entry must be; what is
 // then left is halved down to 256 bytes, and these are walked over. What a look goes over to the next line is never gone over again, so
 // that a look-up costs at most the bytes of one part and some looks more than its length can be halved, whatever the entries' lengths are.
@@ -21,10 +21,8 @@ fn told(table: &[u8], q: usize) -> DirectoryNumber
     requires q_bound { q < 16666 }
     requires table_len { length table.now ≡ table_size }
 {
-    let i = 4 * q;
-    let low = byte_u32(table[i]) + 256 * byte_u32(table[i + 1]);
-    let high = byte_u32(table[i + 2]) + 256 * byte_u32(table[i + 3]);
-    DirectoryNumber(low + 65536 * high)
+    let four = table[4 * q..].first_chunk().unwrap();
+    DirectoryNumber(u32::from_le_bytes(*four))
 }
 
 // The last part before which no entry with a number above this one starts.
@@ -32,18 +30,8 @@ fn part_of(table: &[u8], number: DirectoryNumber) -> usize
     requires { length table.now ≡ table_size }
     ensures { result < 16665 }
 {
-    let mut low = 0;
-    let mut high = PARTS;
-    while 1 < high - low {
-        let mid = low + (high - low) / 2;
-        let first = told(table, mid);
-        if first.0 <= number.0 {
-            low = mid;
-            continue;
-        }
-        high = mid;
-    }
-    low
+    let (parts, _) = table.as_chunks();
+    parts[1..PARTS].partition_point(|first| u32::from_le_bytes(*first) <= number.0)
 }
 
 // Whether a line that begins with b behind this byte is an entry's.
@@ -66,35 +54,30 @@ fn entry_behind(t: &[u8], from: usize, stop: usize) -> usize
     requires le_from { 1 ≤ from }
     ensures { (from ≤ result) × (result ≤ stop) }
 {
-    let mut at = from;
-    while at < stop {
+    for at in from..stop {
         if begins_entry(t[at - 1], t[at]) {
             return at;
         }
-        at += 1;
     }
-    at
+    stop
 }
 
 // The number that an entry's line shows, if it is no larger than one may be.
 fn number_at(t: &[u8], at: usize) -> DirectoryNumber
     requires { at < length t.now }
 {
-    let size = t.len();
-    if size - at < 2 {
+    if t.len() - at < 2 {
         return DirectoryNumber(0);
     }
-    let mut i = at + 2;
     let mut number = 0;
-    while i < size {
-        if t[i] < b'0' {
+    for b in &t[at + 2..] {
+        if *b < b'0' {
             return DirectoryNumber(number);
         }
         if 400000000 < number {
             return DirectoryNumber(number);
         }
-        number = number * 10 + byte_u32(t[i] - b'0');
-        i += 1;
+        number = number * 10 + byte_u32(*b - b'0');
     }
     DirectoryNumber(number)
 }
@@ -179,6 +162,7 @@ fn near(t: &[u8], from: usize, stop: usize, number: DirectoryNumber) -> usize
     requires le_from { 1 ≤ from }
     ensures { (from ≤ result) × (result ≤ stop) }
 {
+    // A library's search halves the indices of a slice; here the halves are bytes, and the place of an entry is found from each.
     let mut low = from;
     let mut high = stop;
     while 256 < high - low {
@@ -205,6 +189,7 @@ fn walk_to(t: &[u8], from: usize, stop: usize, number: DirectoryNumber) -> usize
     requires le_from { 1 ≤ from }
     ensures { (1 ≤ result) × (result ≤ stop) }
 {
+    // From entry to entry: how far a turn goes is found on it, so that no range gives the places.
     let mut at = entry_behind(t, from, stop);
     while at < stop {
         let shown = number_at(t, at);

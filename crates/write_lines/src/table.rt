@@ -61,6 +61,7 @@ pub fn keep(classes: &mut [u8], k: usize, said: Said) -> usize
 fn class_past(t: &[u8], i: usize) -> u8
     ensures { result ≡ get_or (classes_in (lines_in t.now)) i 0 }
 {
+    // From line to line: where the next begins is found on each turn, so that no range gives the places.
     let n = t.len();
     let mut at = 0;
     let mut left = i;

@@ -6,15 +6,6 @@ use Rattle.write_lines.proofs.heads.head_at.Goals as goal
 pub returns-then-end-at : goal.returns-then-end-at
 returns-then-end-at c = search (rules, heads)
 
-pub bounds-t-at : goal.bounds-t-at
-bounds-t-at c = search (rules, heads)
-
-pub is_head-requires : goal.is_head-requires
-is_head-requires c = search (rules, heads)
-
-pub line_at-requires : goal.line_at-requires
-line_at-requires c = search (rules, heads)
-
 pub returns-then-is_head : goal.returns-then-is_head
 returns-then-is_head c = search (rules, heads)
 

@@ -6,9 +6,6 @@ use Rattle.write_lines.proofs.table.some_at.Goals as goal
 pub returns-then-number-ne1 : goal.returns-then-number-ne1
 returns-then-number-ne1 c = search (rules, somes)
 
-pub overflow_cast-i : goal.overflow_cast-i
-overflow_cast-i c = search (rules, somes)
-
 pub returns-then-n-i : goal.returns-then-n-i
 returns-then-n-i c = search (rules, somes)
 

@@ -1,9 +1,0 @@
--- From byte to byte, up to `stop`.
-use Prim.Native.Nat.{◌-◌, ◌≤◌}
-use Rattle.write_lines.proofs.far.entry_behind.Given as goal
-
-abbrev pub invariant-loop-at : goal.invariant-loop-at
-invariant-loop-at l = (l.from ≤ l.at) × (l.at ≤ l.stop)
-
-abbrev pub decreases-loop-at : goal.decreases-loop-at
-decreases-loop-at l = l.stop - l.at

@@ -1,9 +1,0 @@
--- The parts between `low` and `high` become fewer.
-use Prim.Native.Nat.{◌-◌, ◌≤◌, ◌<◌}
-use Rattle.write_lines.proofs.far.part_of.Given as goal
-
-abbrev pub invariant-loop-high : goal.invariant-loop-high
-invariant-loop-high l = (l.low < l.high) × (l.high ≤ 16665)
-
-abbrev pub decreases-loop-high : goal.decreases-loop-high
-decreases-loop-high l = l.high - l.low
