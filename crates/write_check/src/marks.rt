@@ -18,10 +18,7 @@ fn tell(table: &mut [u8], q: usize, number: DirectoryNumber)
         return;
     }
     let i = 4 * q;
-    table[i] = (number.0 % 256) as u8;
-    table[i + 1] = (number.0 / 256 % 256) as u8;
-    table[i + 2] = (number.0 / 65536 % 256) as u8;
-    table[i + 3] = (number.0 / 16777216 % 256) as u8;
+    table[i..i + 4].copy_from_slice(&number.0.to_le_bytes());
 }
 
 // What a line that begins so adds to the next entry's number.
