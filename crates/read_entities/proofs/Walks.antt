@@ -31,7 +31,7 @@ use Rattle.layouts.proofs.Runs.{feed-stepped, run_bad, run-append}
 use Rattle.std.specs.Prelude.{Ok, Err}
 use Rattle.read_entities.specs.Walking.{EntityWalked, walked_to, carried_length, owing, state_after, length_after, owed_after, walked_from}
 
-abbrev done : Stepped → ℕ → EntityWalked
+abbrev done : Option LayoutState → ℕ → EntityWalked
 done g size = Ok (walked_to g size)
 
 -- ---- defaults
