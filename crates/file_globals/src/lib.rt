@@ -58,8 +58,7 @@ fn field_at(t: &[u8], at: usize) -> GlobalLine
 fn missing(n: usize, number: u32) -> usize
     ensures { result ≡ number - n }
 {
-    let k = number as usize;
-    if n < k { k - n } else { 0 }
+    (number as usize).saturating_sub(n)
 }
 
 // One field at position p: its number, of which n is the first that may come, and its value, whose characters stand in src.

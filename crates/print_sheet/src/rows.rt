@@ -96,10 +96,7 @@ pub fn put_entity(
 fn before(line: ParameterLine) -> usize
     ensures { (result ≡ line.0 - 1) × (result < 2 ^ 32) }
 {
-    if line.0 == 0 {
-        return 0;
-    }
-    (line.0 - 1) as usize
+    wide(line.0.saturating_sub(1))
 }
 
 // Entry i as its D lines tell it, if its P lines stand in the file.
