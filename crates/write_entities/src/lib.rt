@@ -7,7 +7,6 @@ mod naming;
 ghost use Rattle.std.specs.Prelude.{◌≡◌, true, ◌+◌, ◌≤◌, length};
 ghost use Rattle.layouts.specs.Walk.{stepped};
 ghost use Rattle.sheets_rows.specs.Rows.{lines_at, values_first};
-ghost use Rattle.model.specs.Write.{equal};
 ghost use Rattle.write_lines.specs.Lines.{or_else, Skipped};
 ghost use Rattle.write_lines.specs.Heads.{said_entity};
 ghost use Rattle.write_lines.specs.Classes.{sheet_types, Tabled};
@@ -67,25 +66,13 @@ fn step_at(
     layouts_machine::step(s, v, class)
 }
 
-fn same(a: bool, b: bool) -> bool
-    ensures { result ≡ equal a b }
-{
-    if a {
-        return b;
-    }
-    !b
-}
-
 // Whether this mark is right, as all before it.
 fn right_too(right: bool, reference: bool, g: Option<LayoutState>) -> bool
     ensures { result ≡ right_too right reference g }
 {
     let mark = mark_of(g);
-    let too = same(reference, mark);
-    if right {
-        return too;
-    }
-    false
+    let too = reference == mark;
+    right && too
 }
 
 // What is judged so far, with the place and how many lines.
@@ -159,7 +146,7 @@ fn answer_of(inside: bool, marked: bool, j: Judged, line: SheetLine) -> SheetPas
 {
     let g = j.state;
     let verdict = verdict_if(inside, g);
-    let right = same(marked, inside);
+    let right = marked == inside;
     match verdict {
         Err(fault) => Err(Refusal { fault, line }),
         Ok(()) => {
