@@ -11,8 +11,8 @@ use Rattle.columns.specs.declared.ParameterLine.{ParameterLine}
 use Rattle.columns.specs.Columns.{columns}
 use Rattle.directory.specs.declared.Fields.{Fields}
 use Rattle.directory.specs.declared.Entry.{Entry}
-use Rattle.directory.specs.declared.EntryRead.{EntryRead}
-use Rattle.directory.specs.declared.EntryRead.TheVariants.{Spelt, Wrong}
+use Rattle.std.specs.Prelude.{Option, Some, None}
+use Rattle.directory.specs.declared.Spelt.{Spelt}
 use Rattle.directory.specs.Fields.{fields_of, entry_of}
 use Rattle.directory.specs.Lines.{parameter_line, entry_at, label_at}
 use Rattle.directory.proofs.Slots.{label_columns}
@@ -49,17 +49,17 @@ label_here f k at label ea el =
     let e : 81 * (k + 1) + 64 - (81 * (k + 1) + 56) ≡ 8 = omega arith in
     el ∙ ap (λ (j : ℕ). take 8 (drop j f)) ea ∙ ap (λ (j : ℕ). take j (drop (81 * (k + 1) + 56) f)) (sym e) ∙ sym (label_columns f k)
 
-module _ (list : ℕ) (f : List ℕ) (n k at : ℕ) (label : List ℕ) (ea : at ≡ 81 * (k + 1) + 56) (el : label ≡ take 8 (drop at f)) (r : EntryRead) (er : r ≡ entry_at f k) where
+module _ (list : ℕ) (f : List ℕ) (n k at : ℕ) (label : List ℕ) (ea : at ≡ 81 * (k + 1) + 56) (el : label ≡ take 8 (drop at f)) (r : Option Spelt) (er : r ≡ entry_at f k) where
   record_read : record_of list n (listed_of label r) ≡ record_at list f n k
   unfolding record_at listed_at
   record_read = rw (label_here f k at label ea el, er)
 
-  pub record_spelt_lem : (x : Fields) (from : ParameterLine) (count : ℕ) (y : Record) → r ≡ Spelt x from count → y ≡ record_spelt list n x label from count → y ≡ record_at list f n k
-  record_spelt_lem x from count y e ey = ey ∙ ap (λ (z : EntryRead). record_of list n (listed_of label z)) (sym e) ∙ record_read
+  pub record_spelt_lem : (x : Spelt) (y : Record) → r ≡ Some x → y ≡ record_spelt list n x.fields label x.pointer x.lines → y ≡ record_at list f n k
+  record_spelt_lem x y e ey = ey ∙ ap (λ (z : Option Spelt). record_of list n (listed_of label z)) (sym e) ∙ record_read
 
-  pub record_wrong : (x : Fields) (y : Record) → r ≡ Wrong → x ≡ fields_of [] → y ≡ record_spelt list n x label (parameter_line 0) 0 → y ≡ record_at list f n k
+  pub record_wrong : (x : Fields) (y : Record) → r ≡ None → x ≡ fields_of [] → y ≡ record_spelt list n x label (parameter_line 0) 0 → y ≡ record_at list f n k
   record_wrong x y e ex ey =
-      ey ∙ ap (λ (z : Fields). record_spelt list n z label (parameter_line 0) 0) ex ∙ ap (λ (z : EntryRead). record_of list n (listed_of label z)) (sym e) ∙ record_read
+      ey ∙ ap (λ (z : Fields). record_spelt list n z label (parameter_line 0) 0) ex ∙ ap (λ (z : Option Spelt). record_of list n (listed_of label z)) (sym e) ∙ record_read
 
 -- entry i
 pub record_numbered : (list : ℕ) (f : List ℕ) (first i n : ℕ) (y : Record) → n ≡ 2 * i + 1 → y ≡ record_at list f n (first + 2 * i) → y ≡ record_in list f first i

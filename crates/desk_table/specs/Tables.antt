@@ -1,5 +1,6 @@
 -- The code's form: what is done with the table: by the plan, and by the records of a file's entries.
 use Rattle.std.specs.Prelude.{cond, List, ℕ, zero, suc, ◌+◌, ◌*◌, ◌^◌, ◌≤◌, ◌<◌, length, set, leb}
+use Rattle.std.specs.Prelude.{Some}
 use Rattle.columns.specs.declared.Fault.TheVariants.{Room}
 use Rattle.columns.specs.declared.ParameterLine.{ParameterLine}
 use Rattle.columns.specs.Refusal.{number}
@@ -7,7 +8,7 @@ use Rattle.columns.specs.Format.{line_bytes}
 use Rattle.cards.specs.declared.Counts.{Counts}
 use Rattle.cards.specs.Cards.{first_d, entries}
 use Rattle.directory.specs.declared.Fields.{Fields}
-use Rattle.directory.specs.declared.EntryRead.TheVariants.{Spelt}
+use Rattle.directory.specs.Lines.{spelt_entry}
 use Rattle.read_passes.specs.Listed.{listed_of, listed_at}
 use Rattle.read_weights.specs.declared.Checked.{Checked}
 use Rattle.read_weights.specs.declared.Checked.TheVariants.{Good, Refused}
@@ -38,7 +39,7 @@ plan_of list f room = plan_by (check_of list f) room
 
 -- an entry's record from what its lines spell, n its directory number
 abbrev pub record_spelt : ℕ → ℕ → Fields → List ℕ → ParameterLine → ℕ → Record
-record_spelt list n x label from count = record_of list n (listed_of label (Spelt x from count))
+record_spelt list n x label from count = record_of list n (listed_of label (Some (spelt_entry x from count)))
 
 -- the record of the entry whose first D line is line k
 unfoldable pub record_at : ℕ → List ℕ → ℕ → ℕ → Record

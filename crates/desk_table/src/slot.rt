@@ -7,7 +7,7 @@ ghost use Rattle.desk_table.specs.Tables.{record_spelt, record_at};
 use columns::format::FIELD_COLUMNS;
 use columns::{DirectoryNumber, ParameterLine, Signed};
 use desk::Record;
-use directory::{EntryRead, Fields};
+use directory::{Fields, Spelt};
 
 // The eight bytes from a place on.
 fn eight(file: &[u8], at: usize) -> [u8; FIELD_COLUMNS]
@@ -84,12 +84,14 @@ pub fn record_at(list: u64, file: &[u8], number: DirectoryNumber, k: usize) -> R
     let label = eight(file, at);
     let read = directory_read::entry_at(file, k);
     match read {
-        EntryRead::Spelt {
-            fields,
-            pointer,
-            lines,
-        } => record_with(list, number, fields, label, pointer, lines),
-        EntryRead::Wrong => {
+        Some(
+            Spelt {
+                fields,
+                pointer,
+                lines,
+            },
+        ) => record_with(list, number, fields, label, pointer, lines),
+        None => {
             let none = no_fields();
             record_with(list, number, none, label, ParameterLine(0), 0)
         }
