@@ -75,11 +75,13 @@ pub fn record_at(list: u64, file: &[u8], number: DirectoryNumber, k: usize) -> R
     let label = eight(file, at);
     let read = directory_read::entry_at(file, k);
     match read {
-        Some(Spelt {
-            fields,
-            pointer,
-            lines,
-        }) => record_with(list, number, fields, label, pointer, lines),
+        Some(
+            Spelt {
+                fields,
+                pointer,
+                lines,
+            },
+        ) => record_with(list, number, fields, label, pointer, lines),
         None => {
             let none = no_fields();
             record_with(list, number, none, label, ParameterLine(0), 0)
