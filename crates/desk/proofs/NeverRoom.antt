@@ -36,7 +36,6 @@ use Rattle.columns.specs.First.{first_not}
 use Rattle.columns.specs.Format.{most_lines, most_list}
 use Rattle.cards.specs.Shared.{file_line}
 use Rattle.cards.specs.Cards.{start, lines_of, seven, numbered_of, step_of, line_ok, place_of, pass, closes, closed, length_ok, cards_of, outcome}
-use Rattle.std.specs.Prelude.{Option, Some, None}
 use Rattle.directory.specs.declared.Spelt.{Spelt}
 use Rattle.directory.specs.declared.Fields.{Fields}
 use Rattle.directory.specs.Lines.{entry_at, label_at}

@@ -21,7 +21,6 @@ use Rattle.layouts.proofs.Fits.{accepts_keeps}
 use Rattle.model.specs.Model.{Carried, type_of, entity_of}
 use Rattle.model.specs.Read.{GlobalRead, Listed, is_type, by_parameters, carried, parameters_of, entity_in, two, listed_type, first_entry, last_pass}
 use Rattle.model.proofs.ReadApart.{entity_apart}
-use Rattle.std.specs.Prelude.{Ok, Err}
 use Rattle.read_entities.specs.Answers.{EntityAnswer, entity_answer, entity_pass_of}
 use Rattle.read_entities.specs.Marks.{carried_in}
 use Rattle.read_entities.proofs.Passes.{pass-read}

@@ -23,7 +23,6 @@ use Rattle.layouts.specs.Known.{known}
 use Rattle.layouts.specs.Entities.{Entity, verdict, fault, entity_check}
 use Rattle.model.specs.Model.{type_of}
 use Rattle.model.specs.Read.{Listed, is_type, by_parameters, carried}
-use Rattle.std.specs.Prelude.{Ok, Err}
 use Rattle.read_entities.specs.Taking.{entity_with}
 use Rattle.read_entities.specs.Answers.{entity_answer, entity_pass_of, type_read, verdict_answer}
 

@@ -28,7 +28,6 @@ use Rattle.layouts.specs.Machine.{stand, runs_on}
 use Rattle.layouts.specs.Walk.{stepped, run}
 use Rattle.layouts.proofs.Steps.{runs_left, step_runs}
 use Rattle.layouts.proofs.Runs.{feed-stepped, run_bad, run-append}
-use Rattle.std.specs.Prelude.{Ok, Err}
 use Rattle.read_entities.specs.Walking.{EntityWalked, walked_to, carried_length, owing, state_after, length_after, owed_after, walked_from}
 
 abbrev done : Option LayoutState → ℕ → EntityWalked

@@ -25,7 +25,6 @@ use Rattle.layouts.specs.Entities.{fault}
 use Rattle.layouts.specs.Walk.{run, verdict_from, judged}
 use Rattle.layouts.proofs.Walk.{check_judged}
 use Rattle.model.specs.Read.{is_type}
-use Rattle.std.specs.Prelude.{Ok, Err}
 use Rattle.read_entities.specs.declared.Walked.{Walked}
 use Rattle.read_entities.specs.declared.Weighed.{Weighed}
 use Rattle.read_entities.specs.Taking.{entity_with}
