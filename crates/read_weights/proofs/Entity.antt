@@ -19,15 +19,14 @@ use Rattle.directory.specs.Lines.{entry_at}
 use Rattle.directory.specs.Naming.{types_at}
 use Rattle.model.specs.Model.{type_of}
 use Rattle.model.specs.Read.{first_entry, parameters_of}
-use Rattle.read_passes.specs.declared.FilePass.TheVariants.{Good, Refused}
+use Rattle.std.specs.Prelude.{Ok, Err}
+use Rattle.columns.specs.Refusal.{refusal_at}
 use Rattle.read_passes.specs.Passes.{pass_of}
 use Rattle.read_passes.specs.Listed.{entry_of, all_types}
 use Rattle.read_passes.specs.Ready.{Ready}
 use Rattle.read_passes.proofs.Referring.{types-stand}
 use Rattle.read_passes.proofs.After.{listed_fields, listed_pointer, listed-lines}
-use Rattle.read_entities.specs.declared.EntityAnswer.{EntityAnswer}
-use Rattle.read_entities.specs.declared.EntityAnswer.TheVariants.{Good as GoodEntity, Refused as RefusedEntity}
-use Rattle.read_entities.specs.Answers.{entity_pass_of}
+use Rattle.read_entities.specs.Answers.{EntityAnswer, entity_pass_of}
 use Rattle.read_entities.specs.Marks.{carried_in}
 use Rattle.read_entities.specs.Walking.{carried_length}
 use Rattle.read_entities.proofs.Entries.{entity_good, entity_refused}
@@ -87,12 +86,12 @@ module _ (list : ℕ) (f : List ℕ) (c : Counts) (p d : ℕ) (rd : Ready f c) (
         rw (listed_fields f c rd i h k r ek er x from count e, listed_pointer f c rd i h k r ek er x from count e, listed-lines f c rd i h k r ek er x from count e)
         ey
 
-    pub entity-passes : y ≡ GoodEntity → Good ≡ entity_at list f c p d i
+    pub entity-passes : y ≡ Ok tt → Ok tt ≡ entity_at list f c p d i
     unfolding entity_at
     entity-passes g = sym (ap pass_of (entity_good list f c (delimited p d) (all_types f c) (first_entry c + 2 * i) (entry_of f c i) told g))
 
-    pub entity_refuses : (w : Fault) → y ≡ RefusedEntity w → Refused w (file_line (k + 1)) ≡ entity_at list f c p d i
+    pub entity_refuses : (w : Fault) → y ≡ Err w → Err (refusal_at w (file_line (k + 1))) ≡ entity_at list f c p d i
     unfolding entity_at
     entity_refuses w g =
-        ap (λ (q : ℕ). Refused w (file_line q)) place
+        ap (λ (q : ℕ). Err (refusal_at w (file_line q))) place
         ∙ sym (ap pass_of (entity_refused list f c (delimited p d) (all_types f c) (first_entry c + 2 * i) (entry_of f c i) told g))

@@ -30,16 +30,15 @@ use Rattle.sheets.proofs.Measured.{entry_length_lem}
 use Rattle.model.specs.Model.{marked}
 use Rattle.read_passes.specs.Ready.{Ready}
 use Rattle.read_passes.proofs.After.{never_wrong, pointer_some, pointer_stays}
-use Rattle.read_entities.specs.declared.EntityAnswer.{EntityAnswer}
-use Rattle.read_entities.specs.declared.EntityAnswer.TheVariants.{Good as GoodEntity, Refused as RefusedEntity}
+use Rattle.std.specs.Prelude.{Ok, Err}
+use Rattle.columns.specs.Refusal.{refusal_at}
+use Rattle.read_entities.specs.Answers.{EntityAnswer}
 use Rattle.read_entities.specs.Marks.{marks_begun, marked_from}
 use Rattle.read_entities.specs.Walking.{carried_length}
 use Rattle.print.specs.Bytes.{value_bytes, entity_bytes}
 use Rattle.print.specs.Rows.{spelt_bytes, read_bytes, row_bytes}
-use Rattle.read_weights.specs.declared.Rows.{Rows}
-use Rattle.read_weights.specs.declared.Rows.TheVariants.{Good as GoodRows, Refused as RefusedRows}
 use Rattle.read_weights.specs.Checks.{record_answer, entity_at}
-use Rattle.read_weights.specs.Weights.{record_carried, row_length, answer_rows, spelt_rows, rows_of, Few}
+use Rattle.read_weights.specs.Weights.{Rows, record_carried, row_length, answer_rows, spelt_rows, rows_of, Few}
 use Rattle.read_weights.proofs.Entity.{entry-inside, entity-passes, entity_refuses}
 
 -- ---- the lines
@@ -74,17 +73,17 @@ head-length b f k n x h = sym (entry_length_lem b n x (label_at f k) ∙ ap (ent
 -- ---- the answer
 
 module _ {y : EntityAnswer} (n : ℕ) (line : FileLine) where
-  pub rows_good : y ≡ GoodEntity → GoodRows n ≡ answer_rows y n line
+  pub rows_good : y ≡ Ok tt → Ok n ≡ answer_rows y n line
   rows_good e = rw e
 
-  pub rows_refused : {w : Fault} → y ≡ RefusedEntity w → RefusedRows w line ≡ answer_rows y n line
+  pub rows_refused : {w : Fault} → y ≡ Err w → Err (refusal_at w line) ≡ answer_rows y n line
   rows_refused e = rw e
 
 pub ruleset answers = (rows_good, rows_refused)
 
 few_rows : (y : EntityAnswer) (n m : ℕ) (line : FileLine) → n ≤ m → Few m (answer_rows y n line)
-few_rows GoodEntity n m line h = h
-few_rows (RefusedEntity w) n m line h = tt
+few_rows (Ok u) n m line h = h
+few_rows (Err w) n m line h = tt
 
 -- ---- entry i
 
@@ -115,7 +114,7 @@ pub ruleset parts = (entry_few, row_fits, row_light, row-parts)
 
 module _ (list : ℕ) (f : List ℕ) (c : Counts) (p d : ℕ) (rd : Ready f c) (i : ℕ) (h : i < entries c) (k : ℕ) (r : EntryRead) (ek : k ≡ entry_line c i) (er : r ≡ entry_at f k) where
   -- every entry is spelt
-  pub row_never : r ≡ Wrong → GoodRows 0 ≡ rows_of (row_length list f c p d i) (entity_at list f c p d i)
+  pub row_never : r ≡ Wrong → Ok 0 ≡ rows_of (row_length list f c p d i) (entity_at list f c p d i)
   row_never e = absurd (never_wrong f c rd i h k r ek er e)
 
   module _ (x : Fields) (from : ParameterLine) (count : ℕ) (e : r ≡ Spelt x from count) where
@@ -152,7 +151,7 @@ module _ (list : ℕ) (f : List ℕ) (c : Counts) (p d : ℕ) (rd : Ready f c) (
         by : (y : EntityAnswer) → y ≡ record_answer list f c p d x.entity.size x.form.size from.0 count
             → answer_rows y (length (line_of (entry (known list x.entity.size x.form.size) (sized false (2 * i + 1)) x (label_at f k)) ++ (10 ∷ [])) + carried_length (record_carried f c p d from.0 count)) (file_line (k + 1))
             ≡ rows_of (row_length list f c p d i) (entity_at list f c p d i)
-        by GoodEntity ey = ap GoodRows row-length ∙ ap (rows_of (row_length list f c p d i)) (entity-passes list f c p d rd i h k r ek er x from count e GoodEntity ey refl)
-        by (RefusedEntity w) ey = ap (rows_of (row_length list f c p d i)) (entity_refuses list f c p d rd i h k r ek er x from count e (RefusedEntity w) ey w refl)
+        by (Ok u) ey = ap (λ (n : ℕ). Ok n) row-length ∙ ap (rows_of (row_length list f c p d i)) (entity-passes list f c p d rd i h k r ek er x from count e (Ok u) ey refl)
+        by (Err w) ey = ap (rows_of (row_length list f c p d i)) (entity_refuses list f c p d rd i h k r ek er x from count e (Err w) ey w refl)
 
 pub ruleset ones = (entry-inside, pointer_some, pointer_stays, row_never, row_told)

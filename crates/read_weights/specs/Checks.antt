@@ -1,22 +1,17 @@
 -- The code's form: the answers of the last pass over one entity and of all checks of a file.
 use Rattle.std.specs.Prelude.{List, [], ℕ, ◌+◌, ◌*◌}
 use Rattle.columns.specs.Columns.{text_of}
-use Rattle.columns.specs.Refusal.{Outcome, accepted, refused, ◌then◌}
+use Rattle.columns.specs.Refusal.{◌then◌}
 use Rattle.columns.specs.Format.{line_bytes, parameter_columns}
 use Rattle.cards.specs.declared.Counts.{Counts}
 use Rattle.cards.specs.Cards.{parameter_line}
-use Rattle.cards.specs.Shared.{file_line}
 use Rattle.records.specs.Record.{values_at}
 use Rattle.model.specs.Model.{Carried}
-use Rattle.model.specs.Read.{GlobalRead, global_read, Listed, Before, first_entry, parameters_of, carried, entity_in, before, read_model}
-use Rattle.read_passes.specs.declared.FilePass.{FilePass}
-use Rattle.read_passes.specs.Passes.{pass_of}
+use Rattle.model.specs.Read.{GlobalRead, global_read, Listed, first_entry, parameters_of, carried, entity_in, before, read_model}
+use Rattle.read_passes.specs.Passes.{FilePass, BeforeAnswer, pass_of, before_answer}
 use Rattle.read_passes.specs.Listed.{entry_of, all_types}
-use Rattle.read_entities.specs.declared.EntityAnswer.{EntityAnswer}
-use Rattle.read_entities.specs.Answers.{entity_pass_of}
+use Rattle.read_entities.specs.Answers.{EntityAnswer, entity_pass_of}
 use Rattle.read_entities.specs.Marks.{carried_in}
-use Rattle.read_weights.specs.declared.Checked.{Checked}
-use Rattle.read_weights.specs.declared.Checked.TheVariants.{Good, Refused}
 
 -- G as the last pass sees it: its two delimiters; its fields have no say
 abbrev pub delimited : ℕ → ℕ → GlobalRead
@@ -36,11 +31,6 @@ entity_at list f c p d i = pass_of (entity_in list f c (delimited p d) (all_type
 abbrev pub carried_of : List ℕ → Counts → ℕ → ℕ → Listed → Carried
 carried_of f c p d e = carried e (carried_in (values_at parameter_columns p d (parameters_of f c e) 0))
 
--- counts and delimiters, or the first refusal
-abbrev pub checked_of : Outcome Before → Checked
-checked_of (accepted b) = Good b.counts b.global.parameter b.global.record_end
-checked_of (refused n p) = Refused n (file_line p)
-
 -- all checks: the refusal of reading under this list, or what was told before the last pass
-unfoldable pub check_of : ℕ → List ℕ → Checked
-check_of list f = checked_of (read_model list f then λ _. before f)
+unfoldable pub check_of : ℕ → List ℕ → BeforeAnswer
+check_of list f = before_answer (read_model list f then λ _. before f)

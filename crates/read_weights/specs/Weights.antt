@@ -1,6 +1,8 @@
 -- The code's form: the last pass with the bytes that the sheet takes behind its G lines.
-use Rattle.std.specs.Prelude.{ℕ, ◌+◌, ◌*◌, ◌≤◌, false, List, [], ◌∷◌, ◌++◌, length}
+use Rattle.std.specs.Prelude.{ℕ, ◌+◌, ◌*◌, ◌≤◌, false, List, [], ◌∷◌, ◌++◌, length, Result, Ok, Err}
 use Rattle.columns.specs.declared.FileLine.{FileLine}
+use Rattle.columns.specs.declared.Refusal.{Refusal}
+use Rattle.columns.specs.Refusal.{refusal_at}
 use Rattle.columns.specs.Columns.{text_of}
 use Rattle.columns.specs.Format.{line_bytes, parameter_columns}
 use Rattle.columns.specs.Letters.{newline}
@@ -14,20 +16,25 @@ use Rattle.directory.specs.Lines.{label_at}
 use Rattle.layouts.specs.Known.{known}
 use Rattle.sheets.specs.Plain.{sized}
 use Rattle.sheets.specs.Sheet.{entry, last, line_of}
-use Rattle.read_passes.specs.declared.FilePass.{FilePass}
-use Rattle.read_passes.specs.declared.FilePass.TheVariants.{Good as GoodPass, Refused as RefusedPass}
-use Rattle.read_entities.specs.declared.EntityAnswer.{EntityAnswer}
-use Rattle.read_entities.specs.declared.EntityAnswer.TheVariants.{Good as GoodEntity, Refused as RefusedEntity}
+use Rattle.read_passes.specs.declared.Before.{Before as Told}
+use Rattle.read_passes.specs.Passes.{FilePass, BeforeAnswer}
+use Rattle.read_entities.specs.Answers.{EntityAnswer}
 use Rattle.read_entities.specs.Marks.{carried_in}
 use Rattle.read_entities.specs.Walking.{carried_length}
 use Rattle.print.specs.Rows.{row_bytes, rows_bytes}
-use Rattle.read_weights.specs.declared.Checked.{Checked}
-use Rattle.read_weights.specs.declared.Checked.TheVariants.{Good, Refused}
-use Rattle.read_weights.specs.declared.Rows.{Rows}
-use Rattle.read_weights.specs.declared.Rows.TheVariants.{Good as GoodRows, Refused as RefusedRows}
 use Rattle.read_weights.specs.Checks.{record_answer}
 use Rattle.read_weights.specs.declared.Weight.{Weight}
-use Rattle.read_weights.specs.declared.Weight.TheVariants.{Good as GoodWeight, Refused as RefusedWeight}
+
+-- entities that pass, and the bytes that they take in the sheet; or the first refusal
+abbrev pub Rows : Type 0
+Rows = Result ℕ (Refusal FileLine)
+
+-- what a file tells that passes all checks, and the bytes behind its G lines; or the first refusal
+abbrev pub Weighing : Type 0
+Weighing = Result Weight (Refusal FileLine)
+
+abbrev pub weight : Told → ℕ → Weight
+weight b n = record { told = b; rows = n }
 
 -- what the record carries that stands in so many P lines from P line `from` on
 unfoldable pub record_carried : List ℕ → Counts → ℕ → ℕ → ℕ → ℕ → List Item
@@ -49,8 +56,8 @@ rows_length list f c p d = rows_from list f c p d 0 (entries c)
 
 -- so many bytes, if an entity passes
 abbrev pub answer_rows : EntityAnswer → ℕ → FileLine → Rows
-answer_rows GoodEntity n line = GoodRows n
-answer_rows (RefusedEntity fault) n line = RefusedRows fault line
+answer_rows (Ok u) n line = Ok n
+answer_rows (Err fault) n line = Err (refusal_at fault line)
 
 -- entry i, whose first D line is line k, with these fields and its record in so many P lines from P line `from` on
 unfoldable pub spelt_rows : ℕ → List ℕ → Counts → ℕ → ℕ → ℕ → ℕ → Fields → ℕ → ℕ → Rows
@@ -62,19 +69,19 @@ spelt_rows list f c p d i k x from lines =
 
 -- so many bytes, if nothing is refused
 abbrev pub rows_of : ℕ → FilePass → Rows
-rows_of n GoodPass = GoodRows n
-rows_of n (RefusedPass fault line) = RefusedRows fault line
+rows_of n (Ok u) = Ok n
+rows_of n (Err r) = Err r
 
 -- the answer of all checks, with those bytes
-abbrev pub weight_of : ℕ → List ℕ → Checked → Weight
-weight_of list f (Good c p d) = GoodWeight c p d (rows_length list f c p d)
-weight_of list f (Refused fault line) = RefusedWeight fault line
+abbrev pub weight_of : ℕ → List ℕ → BeforeAnswer → Weighing
+weight_of list f (Ok b) = Ok (weight b (rows_length list f b.counts b.parameter b.closing))
+weight_of list f (Err r) = Err r
 
 -- no more bytes than m
 abbrev pub Few : ℕ → Rows → Type 0
-Few m (GoodRows n) = n ≤ m
-Few m (RefusedRows fault line) = Unit {0}
+Few m (Ok n) = n ≤ m
+Few m (Err r) = Unit {0}
 
-abbrev pub Light : ℕ → Weight → Type 0
-Light m (GoodWeight c p d n) = n ≤ m
-Light m (RefusedWeight fault line) = Unit {0}
+abbrev pub Light : ℕ → Weighing → Type 0
+Light m (Ok w) = w.rows ≤ m
+Light m (Err r) = Unit {0}

@@ -13,45 +13,17 @@ ghost use Rattle.read_weights.specs.Weights.{record_carried, row_length, answer_
 
 use cards::Counts;
 use columns::format::{FIELD_COLUMNS, LINE_BYTES};
-use columns::{Fault, FileLine, ParameterLine, wide};
+use columns::{Fault, FileLine, ParameterLine, Refusal, wide};
 use directory::{EntryRead, Fields};
-use read_entities::{EntityAnswer, Weighed};
+use read_entities::Weighed;
+use read_passes::Before;
 use sheets_lay::entry_len;
 
-// What a file tells that passes all checks: its counts and delimiters; or its first refusal.
+// What a file tells that passes all checks: its counts and delimiters, and the bytes of the sheet behind its G lines.
 #[derive(Clone, Copy)]
-pub enum Checked {
-    Good {
-        counts: Counts,
-        parameter: u8,
-        closing: u8,
-    },
-    Refused {
-        fault: Fault,
-        line: FileLine,
-    },
-}
-
-// The same, with the bytes of the sheet behind its G lines.
-#[derive(Clone, Copy)]
-pub enum Weight {
-    Good {
-        counts: Counts,
-        parameter: u8,
-        closing: u8,
-        rows: usize,
-    },
-    Refused {
-        fault: Fault,
-        line: FileLine,
-    },
-}
-
-// Entities that pass, and the bytes that they take in the sheet; or the first refusal.
-#[derive(Clone, Copy)]
-pub enum Rows {
-    Good(usize),
-    Refused { fault: Fault, line: FileLine },
+pub struct Weight {
+    pub told: Before,
+    pub rows: usize,
 }
 
 // The entity of this type and form, whose record stands in so many P lines from its pointer on.
@@ -96,12 +68,16 @@ fn head_len(i: usize, x: Fields) -> usize
 }
 
 // So many bytes, if the entity passes.
-fn rows_of(answer: EntityAnswer, length: usize, line: FileLine) -> Rows
+fn rows_of(
+    answer: Result<(), Fault>,
+    length: usize,
+    line: FileLine,
+) -> Result<usize, Refusal<FileLine>>
     ensures { result ≡ answer_rows answer length line }
 {
     match answer {
-        EntityAnswer::Good => Rows::Good(length),
-        EntityAnswer::Refused(fault) => Rows::Refused { fault, line },
+        Ok(()) => Ok(length),
+        Err(fault) => Err(Refusal { fault, line }),
     }
 }
 
@@ -117,7 +93,7 @@ fn row_at(
     fields: Fields,
     pointer: ParameterLine,
     lines: u32,
-) -> Rows
+) -> Result<usize, Refusal<FileLine>>
     requires ready { Ready file.now c }
     requires parameter_nonzero { 0 < parameter }
     requires closing_nonzero { 0 < closing }
@@ -137,7 +113,14 @@ fn row_at(
 }
 
 // Entity i; its entry is spelt, as all are.
-pub fn entity_at(list: u64, file: &[u8], c: Counts, parameter: u8, closing: u8, i: usize) -> Rows
+pub fn entity_at(
+    list: u64,
+    file: &[u8],
+    c: Counts,
+    parameter: u8,
+    closing: u8,
+    i: usize,
+) -> Result<usize, Refusal<FileLine>>
     requires ready { Ready file.now c }
     requires parameter_nonzero { 0 < parameter }
     requires closing_nonzero { 0 < closing }
@@ -149,7 +132,7 @@ pub fn entity_at(list: u64, file: &[u8], c: Counts, parameter: u8, closing: u8, 
     let k = cards::entry_line(c, i);
     let read = directory_read::entry_at(file, k);
     match read {
-        EntryRead::Wrong => Rows::Good(0),
+        EntryRead::Wrong => Ok(0),
         EntryRead::Spelt {
             fields,
             pointer,
