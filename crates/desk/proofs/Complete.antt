@@ -20,9 +20,8 @@ use Rattle.owners.specs.Rules.{Owns}
 use Rattle.owners.proofs.Round.{owns_passes}
 use Rattle.model.specs.Read.{GlobalRead, global_read, given, entry_in, entries_in, listed_type, references_of, references_in, first_entry, before}
 use Rattle.model.proofs.Sizes.{size_same, size_some}
-use Rattle.read_passes.specs.declared.FilePass.{FilePass}
-use Rattle.read_passes.specs.declared.FilePass.TheVariants.{Good as Passes}
-use Rattle.read_passes.specs.Passes.{pass_of}
+use Rattle.std.specs.Prelude.{Ok}
+use Rattle.read_passes.specs.Passes.{FilePass, pass_of}
 use Rattle.read_passes.specs.Listed.{listed_of, listed_at, entry_of, all_entries, all_types}
 use Rattle.read_passes.specs.Walks.{first_among, entry_check}
 use Rattle.read_passes.proofs.Spellings.{stood, types-length, types-at}
@@ -33,7 +32,7 @@ use Rattle.desk.proofs.GlobalRules.{global_complete}
 use Rattle.desk.proofs.Sound.{taken}
 
 -- where each passes, all do
-all_good : (check : ℕ → FilePass) (n i : ℕ) → ((j : ℕ) → i ≤ j → j < i + n → check j ≡ Passes) → first_among check i n ≡ Passes
+all_good : (check : ℕ → FilePass) (n i : ℕ) → ((j : ℕ) → i ≤ j → j < i + n → check j ≡ Ok tt) → first_among check i n ≡ Ok tt
 unfolding first_among
 all_good check zero i h = refl
 all_good check (suc n) i h = rw (h i (omega arith) (omega arith)) (all_good check n (i + 1) (λ j lo hi. h j (omega arith) (omega arith)))
@@ -91,16 +90,16 @@ module _ (list : ℕ) (f : List ℕ) (r : MeetsRules list f) where
         record { entry = o.0; name = o.1.1.0; has = record { is = o.1.0; after = omega arith; before = omega arith } };
   }
 
-  entry-passes : (i : ℕ) → i < entries c → entry_check f c i ≡ Passes
+  entry-passes : (i : ℕ) → i < entries c → entry_check f c i ≡ Ok tt
   unfolding entry_check entry_in
   entry-passes i h =
       let m = r.entry_meets i h in
       rw (m.spelt, rules_pass_lem (r.entry i).fields m.ranges m.no_macro (first_entry c + 2 * i))
 
-  entries-pass : pass_of (entries_in f c) ≡ Passes
+  entries-pass : pass_of (entries_in f c) ≡ Ok tt
   entries-pass = entries_walk f c ∙ all_good (entry_check f c) (entries c) 0 (λ j lo hi. entry-passes j (omega arith))
 
-  references-pass : pass_of (references_in c (all_entries f c)) ≡ Passes
+  references-pass : pass_of (references_in c (all_entries f c)) ≡ Ok tt
   unfolding references_in reference_rule
   references-pass =
       row_walk (references_of (all_types f c)) (entry_of f c) (first_entry c) (entries c) 0 (first_entry c) (omega arith)

@@ -26,16 +26,13 @@ use Rattle.records.specs.Global.{opens, opening_of, global_fits}
 use Rattle.records.specs.Record.{Got, found_at, refused_at, Values, values, wrong, blanks, trimmed, start_at, found, beyond, plain, headed, by_next, more, after, next_at, value_at, values_from, values_at}
 use Rattle.cards.specs.declared.Counts.{Counts}
 use Rattle.cards.specs.declared.Placed.{Placed}
-use Rattle.cards.specs.declared.Placed.TheVariants.{Here, Nowhere}
-use Rattle.cards.specs.declared.LineStep.{LineStep}
-use Rattle.cards.specs.declared.LineStep.TheVariants.{Next as NextLine, Wrong as WrongLine}
-use Rattle.cards.specs.declared.CardsRead.{CardsRead}
-use Rattle.cards.specs.declared.CardsRead.TheVariants.{Counted, Refused as NoCards}
+use Rattle.std.specs.Prelude.{Option, Some, None, Result, Ok, Err}
+use Rattle.columns.specs.Refusal.{refusal_at}
 use Rattle.columns.specs.Columns.{line_at}
 use Rattle.columns.specs.First.{first_not}
 use Rattle.columns.specs.Format.{most_lines, most_list}
 use Rattle.cards.specs.Shared.{file_line}
-use Rattle.cards.specs.Cards.{start, lines_of, seven, numbered_of, step_of, line_ok, place_of, pass, closes, closed, length_ok, cards_of, outcome}
+use Rattle.cards.specs.Cards.{CardsRead, start, lines_of, seven, numbered_of, step_of, line_ok, place_of, pass, closes, closed, length_ok, cards_of, outcome}
 use Rattle.directory.specs.declared.Spelt.{Spelt}
 use Rattle.directory.specs.declared.Fields.{Fields}
 use Rattle.directory.specs.Lines.{entry_at, label_at}
@@ -74,25 +71,25 @@ each_not takes f h p (x ∷ xs) = then_not (f p x) _ (h p x) (λ y. then_not (ea
 
 -- ---- lines
 
-abbrev LineNot : LineStep → Type 0
-LineNot (NextLine c) = Unit {0}
-LineNot (WrongLine n) = number n ≡ 16 → ⊥
+abbrev LineNot : Result Counts Fault → Type 0
+LineNot (Ok c) = Unit {0}
+LineNot (Err n) = number n ≡ 16 → ⊥
 
 abbrev CardsNot : CardsRead → Type 0
-CardsNot (Counted c) = Unit {0}
-CardsNot (NoCards n k) = number n ≡ 16 → ⊥
+CardsNot (Ok c) = Unit {0}
+CardsNot (Err r) = number r.fault ≡ 16 → ⊥
 
 step-not : (c : Counts) (left : ℕ) (l : List ℕ) → LineNot (step_of c left l)
 unfolding step_of numbered_of
 step-not c left l = pick (line_ok l) (place_of c left (get_or l 72 0))
   where
-    last : (b : Bool) (q : Counts) → LineNot (cond b (NextLine q) (WrongLine Sequence))
+    last : (b : Bool) (q : Counts) → LineNot (cond b (Ok q) (Err Sequence))
     last true q = tt
     last false q = λ e. omega arith
 
-    pick : (b : Bool) (x : Placed) → LineNot (cond b (numbered_of x l) (WrongLine Byte))
-    pick true (Here q n) = last (seven l 73 n) q
-    pick true Nowhere = λ e. omega arith
+    pick : (b : Bool) (x : Option Placed) → LineNot (cond b (numbered_of x l) (Err Byte))
+    pick true (Some p) = last (seven l 73 p.number) p.counts
+    pick true None = λ e. omega arith
     pick false x = λ e. omega arith
 
 pass-not : (c : Counts) (k : ℕ) (ls : List (List ℕ)) → CardsNot (pass c k ls)
@@ -100,21 +97,21 @@ unfolding pass
 pass-not c k [] = tt
 pass-not c k (l ∷ ls) = pick (step_of c (length ls) l) (step-not c (length ls) l) (λ q. pass-not q (k + 1) ls)
   where
-    pick : (x : LineStep) → LineNot x → ((q : Counts) → CardsNot (pass q (k + 1) ls)) → CardsNot (elim x [ WrongLine w ↦ NoCards w (file_line k) | NextLine q ↦ pass q (k + 1) ls ])
-    pick (WrongLine w) h again = h
-    pick (NextLine q) h again = again q
+    pick : (x : Result Counts Fault) → LineNot x → ((q : Counts) → CardsNot (pass q (k + 1) ls)) → CardsNot (elim x [ Err w ↦ Err (refusal_at w (file_line k)) | Ok q ↦ pass q (k + 1) ls ])
+    pick (Err w) h again = h
+    pick (Ok q) h again = again q
 
 cards_not : (f : List ℕ) → NotRoom (outcome (cards_of f))
 unfolding cards_of closed
 cards_not f = pick (length_ok (length f)) (pass start 1 (lines_of f)) (pass-not start 1 (lines_of f))
   where
-    last : (b : Bool) (c : Counts) → NotRoom (outcome (cond b (Counted c) (NoCards Terminate (file_line (length f / 81)))))
+    last : (b : Bool) (c : Counts) → NotRoom (outcome (cond b (Ok c) (Err (refusal_at Terminate (file_line (length f / 81))))))
     last true c = tt
     last false c = λ e. omega arith
 
-    pick : (b : Bool) (x : CardsRead) → CardsNot x → NotRoom (outcome (cond b (closed f (length f / 81) x) (NoCards ListOrLength (file_line 0))))
-    pick true (Counted c) h = last (closes c (line_at f (length f / 81 - 1))) c
-    pick true (NoCards n k) h = h
+    pick : (b : Bool) (x : CardsRead) → CardsNot x → NotRoom (outcome (cond b (closed f (length f / 81) x) (Err (refusal_at ListOrLength (file_line 0)))))
+    pick true (Ok c) h = last (closes c (line_at f (length f / 81 - 1))) c
+    pick true (Err r) h = h
     pick false x h = λ e. omega arith
 
 -- ---- values

@@ -34,7 +34,7 @@ use Rattle.model.specs.Model.{Carried, type_of, entity_of}
 use Rattle.model.specs.Read.{Listed, Before, is_type, entry_in, by_parameters, parameters_of, entity_in, references_of, references_in, first_entry, last_pass, read_model, reads}
 use Rattle.model.proofs.ReadApart.{entry_apart, entity_apart, read_apart}
 use Rattle.model.proofs.Sizes.{size_same}
-use Rattle.read_passes.specs.declared.FilePass.TheVariants.{Good as Passes}
+use Rattle.std.specs.Prelude.{Ok}
 use Rattle.read_passes.specs.Passes.{pass_of}
 use Rattle.read_passes.specs.Listed.{entry_of, all_types}
 use Rattle.read_passes.specs.Walks.{entry_check}
@@ -49,7 +49,7 @@ never : ◌≡◌ {A = ℕ} 0 1 → ⊥
 never z = omega arith
 
 -- what passes is accepted
-pub taken : {A : Type 0} (o : Outcome A) → pass_of o ≡ Passes → (a : A) × (o ≡ accepted a)
+pub taken : {A : Type 0} (o : Outcome A) → pass_of o ≡ Ok tt → (a : A) × (o ≡ accepted a)
 taken (accepted a) h = (a, refl)
 taken (refused n p) h = let z : ◌≡◌ {A = ℕ} 0 1 = cc in absurd (never z)
 
@@ -59,7 +59,7 @@ taken (refused n p) h = let z : ◌≡◌ {A = ℕ} 0 1 = cc in absurd (never z)
 abbrev pub entry_is : Listed → EntryIs
 entry_is e = record { fields = e.fields; pointer = e.pointer; lines = e.lines }
 
-ruled : (f : List ℕ) (p k : ℕ) (x : Fields) (from count : ℕ) → entry_at f k ≡ Some (spelt_entry x (line_number from) count) → pass_of (entry_in f p k) ≡ Passes → Ruled x
+ruled : (f : List ℕ) (p k : ℕ) (x : Fields) (from count : ℕ) → entry_at f k ≡ Some (spelt_entry x (line_number from) count) → pass_of (entry_in f p k) ≡ Ok tt → Ruled x
 ruled f p k x from count e h =
     let t = taken (entry_in f p k) h in
     let a = entry_apart f p k t.0 t.1 in
@@ -105,16 +105,16 @@ module _ (list : ℕ) (f : List ℕ) (b : Before) (ys : List Carried) (p : Passe
   abbrev types : List ℕ
   types = all_types f c
 
-  rule_passes : (i : ℕ) → i < entries c → entry_check f c i ≡ Passes
+  rule_passes : (i : ℕ) → i < entries c → entry_check f c i ≡ Ok tt
   rule_passes i h = each_good (entry_check f c) (entries c) 0 i (sym (entries_walk f c) ∙ p.spelt) (omega arith) (omega arith)
 
-  reference_passes : (i : ℕ) → i < entries c → pass_of (references_of types (first_entry c + 2 * i) (entry_of f c i)) ≡ Passes
+  reference_passes : (i : ℕ) → i < entries c → pass_of (references_of types (first_entry c + 2 * i) (entry_of f c i)) ≡ Ok tt
   unfolding references_in
   reference_passes i h =
       each_good (λ j. pass_of (references_of types (first_entry c + 2 * j) (entry_of f c j))) (entries c) 0 i
       (sym (row_walk (references_of types) (entry_of f c) (first_entry c) (entries c) 0 (first_entry c) (omega arith)) ∙ p.refer) (omega arith) (omega arith)
 
-  entity-passes : (i : ℕ) → i < entries c → pass_of (entity_in list f c b.global types (first_entry c + 2 * i) (entry_of f c i)) ≡ Passes
+  entity-passes : (i : ℕ) → i < entries c → pass_of (entity_in list f c b.global types (first_entry c + 2 * i) (entry_of f c i)) ≡ Ok tt
   unfolding last_pass
   entity-passes i h =
       each_good (λ j. pass_of (entity_in list f c b.global types (first_entry c + 2 * j) (entry_of f c j))) (entries c) 0 i

@@ -16,7 +16,6 @@ use Rattle.desk.specs.declared.Answer.{Answer}
 use Rattle.desk.specs.declared.Record.{Record}
 use Rattle.model.specs.Model.{type_of}
 use Rattle.model.specs.Read.{Before, Listed, before, read_model, reads}
-use Rattle.model.specs.Write.{writes}
 
 -- ---- read and write: 16 if the buffer is too short, after all other refusals
 

@@ -11,13 +11,19 @@ ghost use Rattle.read_weights.specs.Checks.{delimited, check_of};
 ghost use Rattle.read_weights.specs.Weights.{rows_length, rows_of, weight_of, Few, Light};
 
 use cards::Counts;
-use columns::{Fault, FileLine, wide};
-use read_passes::BeforeAnswer;
-use read_weights::{Checked, Rows, Weight, entity_at};
+use columns::{Fault, FileLine, Refusal, wide};
+use read_passes::Before;
+use read_weights::{Weight, entity_at};
 use sheets_lay::put_last;
 
 // The last pass: each entity in turn, and behind them the Z line.
-pub fn last_pass(list: u64, file: &[u8], c: Counts, parameter: u8, closing: u8) -> Rows
+pub fn last_pass(
+    list: u64,
+    file: &[u8],
+    c: Counts,
+    parameter: u8,
+    closing: u8,
+) -> Result<usize, Refusal<FileLine>>
     requires ready { Ready file.now c }
     requires parameter_nonzero { 0 < parameter }
     requires closing_nonzero { 0 < closing }
@@ -26,74 +32,35 @@ pub fn last_pass(list: u64, file: &[u8], c: Counts, parameter: u8, closing: u8) 
     ensures few { Few (2 ^ 51) result }
 {
     let n = wide(c.d) / 2;
-    let mut i = 0;
     let mut length = 0;
-    while i < n {
-        let found = entity_at(list, file, c, parameter, closing, i);
-        match found {
-            Rows::Refused { fault, line } => {
-                return Rows::Refused { fault, line };
-            }
-            Rows::Good(more) => {
-                length += more;
-                i += 1;
-            }
-        }
+    for i in 0..n {
+        length += entity_at(list, file, c, parameter, closing, i)?;
     }
     let mut none = [0u8; 1];
     let end = put_last(&mut none, 0, n);
-    Rows::Good(length + end)
+    Ok(length + end)
 }
 
 // All checks of a file under a list, and the bytes of its sheet behind the G lines.
-pub fn weigh(list: u64, file: &[u8]) -> Weight
+pub fn weigh(list: u64, file: &[u8]) -> Result<Weight, Refusal<FileLine>>
     ensures value { result ≡ weight_of list file.now (check_of list file.now) }
     ensures light { Light (2 ^ 51) result }
 {
     if !layouts_lists::is_list(list) {
-        return Weight::Refused {
+        return Err(Refusal {
             fault: Fault::ListOrLength,
             line: FileLine(0),
-        };
+        });
     }
-    let told = read_before::before(file);
-    match told {
-        BeforeAnswer::Refused { fault, line } => Weight::Refused { fault, line },
-        BeforeAnswer::Good {
-            counts,
-            parameter,
-            closing,
-        } => {
-            let found = last_pass(list, file, counts, parameter, closing);
-            match found {
-                Rows::Refused { fault, line } => Weight::Refused { fault, line },
-                Rows::Good(rows) => Weight::Good {
-                    counts,
-                    parameter,
-                    closing,
-                    rows,
-                },
-            }
-        }
-    }
+    let told = read_before::before(file)?;
+    let rows = last_pass(list, file, told.counts, told.parameter, told.closing)?;
+    Ok(Weight { told, rows })
 }
 
 // All checks of a file under a list.
-pub fn check(list: u64, file: &[u8]) -> Checked
+pub fn check(list: u64, file: &[u8]) -> Result<Before, Refusal<FileLine>>
     ensures { result ≡ check_of list file.now }
 {
-    let told = weigh(list, file);
-    match told {
-        Weight::Refused { fault, line } => Checked::Refused { fault, line },
-        Weight::Good {
-            counts,
-            parameter,
-            closing,
-            ..
-        } => Checked::Good {
-            counts,
-            parameter,
-            closing,
-        },
-    }
+    let weight = weigh(list, file)?;
+    Ok(weight.told)
 }

@@ -7,7 +7,6 @@ use native.Mathlib.Omega.{arith}
 use lib.Dec.{leb}
 use lib.ListN.{length, length-append}
 use borrow.Author.Tests.{not-true, not-false}
-use Rattle.columns.specs.declared.Fault.{Fault}
 use Rattle.columns.specs.declared.Fault.TheVariants.{ListOrLength}
 use Rattle.columns.specs.declared.FileLine.{FileLine}
 use Rattle.columns.specs.Laid.{Wrote}
@@ -46,7 +45,9 @@ bytes_of n k (Err w) h = let z : ◌≡◌ {A = ℕ} 0 1 = cc in absurd (omega a
 
 refused_of : (n : ℕ) (q : FilePass) (w : Refusal FileLine) → rows_of n q ≡ Err w → q ≡ Err w
 refused_of n (Ok u) w h = let z : ◌≡◌ {A = ℕ} 0 1 = cc in absurd (omega arith)
-refused_of n (Err v) w h = h
+refused_of n (Err v) w h =
+    let e : v ≡ w = cc in
+    ap (λ (x : Refusal FileLine). Err x) e
 
 pub few_of : (m : ℕ) {y : Rows} {k : ℕ} → Few m y → y ≡ Ok k → k ≤ m
 few_of m h e = rw e at h
@@ -123,7 +124,7 @@ module _ (list : ℕ) (f : List ℕ) (b : Bool) (eb : b ≡ leb list most_list) 
       weigh_last n k =
           ap (weight_of list f) (check_last list f b eb e t et w g (pass_of (last_pass list f w.counts (delimited w.parameter w.closing) (all_entries f w.counts))) refl n (refused_of (rows_length list f w.counts w.parameter w.closing) (pass_of (last_pass list f w.counts (delimited w.parameter w.closing) (all_entries f w.counts))) n (sym ey ∙ k)))
 
-      pub weigh_good : {n : ℕ} → y ≡ GoodRows n → Ok (weight w n) ≡ weight_of list f (check_of list f)
+      pub weigh_good : {n : ℕ} → y ≡ Ok n → Ok (weight w n) ≡ weight_of list f (check_of list f)
       weigh_good {n} k =
           ap (λ (m : ℕ). Ok (weight w m)) (bytes_of (rows_length list f w.counts w.parameter w.closing) n (pass_of (last_pass list f w.counts (delimited w.parameter w.closing) (all_entries f w.counts))) (sym ey ∙ k))
           ∙ ap (weight_of list f) (check_good list f b eb e t et w g (pass_of (last_pass list f w.counts (delimited w.parameter w.closing) (all_entries f w.counts))) refl (good_of (rows_length list f w.counts w.parameter w.closing) n (pass_of (last_pass list f w.counts (delimited w.parameter w.closing) (all_entries f w.counts))) (sym ey ∙ k)))
@@ -138,7 +139,9 @@ module _ (list : ℕ) (f : List ℕ) {r : Weighing} (er : r ≡ weight_of list f
     where
       by : (x : BeforeAnswer) → weight_of list f x ≡ Err n → Err n ≡ x
       by (Ok b) h = let z : ◌≡◌ {A = ℕ} 0 1 = cc in absurd (omega arith)
-      by (Err m) h = sym h
+      by (Err m) h =
+          let e : n ≡ m = cc in
+          ap (λ (x : Refusal FileLine). Err x) e
 
   module _ (w : Weight) (e : r ≡ Ok w) where
     pub weight_good : Ok w.told ≡ check_of list f

@@ -113,7 +113,14 @@ fn row_at(
 }
 
 // Entity i; its entry is spelt, as all are.
-pub fn entity_at(list: u64, file: &[u8], c: Counts, parameter: u8, closing: u8, i: usize) -> Result<usize, Refusal<FileLine>>
+pub fn entity_at(
+    list: u64,
+    file: &[u8],
+    c: Counts,
+    parameter: u8,
+    closing: u8,
+    i: usize,
+) -> Result<usize, Refusal<FileLine>>
     requires ready { Ready file.now c }
     requires parameter_nonzero { 0 < parameter }
     requires closing_nonzero { 0 < closing }

@@ -1,19 +1,13 @@
 -- The same answer without the bytes.
 use borrow.Author.Rules.{rules}
+use Rattle.std.proofs.lemmas.Result.{err_from_is_err_and}
 use Rattle.read_weights.proofs.Weights.{weights}
 use Rattle.read_check.proofs.check.Goals as goal
 
-pub weigh-told-requires : goal.weigh-told-requires
-weigh-told-requires c = search (rules, weights)
+pub returns-in_err-weight : goal.returns-in_err-weight
+returns-in_err-weight c =
+    let p = err_from_is_err_and c.from_residual.result c.from_residual.ensures.1 in
+    rw (p.1, p.2) (search (rules, weights, c.in_err-weight.was))
 
-pub enum_known-told : goal.enum_known-told
-enum_known-told c = search (rules, weights)
-
-pub enum_known-told-in-Good-1 : goal.enum_known-told-in-Good-1
-enum_known-told-in-Good-1 c = search (rules, weights)
-
-pub returns-in-Refused : goal.returns-in-Refused
-returns-in-Refused c = search (rules, weights)
-
-pub returns-in-Good : goal.returns-in-Good
-returns-in-Good c = search (rules, weights)
+pub returns : goal.returns
+returns c = search (rules, weights, c.in_ok-weight.was)

@@ -1,42 +1,22 @@
+-- Each entity in turn, its bytes added up; then the Z line.
 use borrow.Author.Rules.{rules}
+use Rattle.std.proofs.lemmas.Result.{err_from_is_err_and}
 use Rattle.read_weights.proofs.Weights.{lasts}
 use Rattle.read_check.proofs.last_pass.Goals as goal
-
-pub wide-n-requires : goal.wide-n-requires
-wide-n-requires c = search (rules, lasts)
 
 pub loop-i-init : goal.loop-i-init
 loop-i-init c = search (rules, lasts)
 
-pub entity_at-found-requires : goal.entity_at-found-requires
-entity_at-found-requires c = search (rules, lasts)
-
-pub enum_known-found : goal.enum_known-found
-enum_known-found c = search (rules, lasts)
-
-pub returns-in-Refused : goal.returns-in-Refused
-returns-in-Refused c = search (rules, lasts)
-
-pub enum_known-found-in-Good-1 : goal.enum_known-found-in-Good-1
-enum_known-found-in-Good-1 c = search (rules, lasts)
+pub returns-in_err-length-clause-value : goal.returns-in_err-length-clause-value
+returns-in_err-length-clause-value c =
+    let p = err_from_is_err_and c.from_residual.result c.from_residual.ensures.1 in
+    rw (p.1, p.2) (search (rules, lasts, c.in_err-length.was))
 
 pub overflow_add-length : goal.overflow_add-length
-overflow_add-length c = search (rules, lasts)
-
-pub overflow_add-i : goal.overflow_add-i
-overflow_add-i c = search (rules, lasts)
-
-pub loop-i-smaller : goal.loop-i-smaller
-loop-i-smaller c = search (rules, lasts)
+overflow_add-length c = search (rules, lasts, c.in_ok-length.was)
 
 pub loop-i-preserved : goal.loop-i-preserved
-loop-i-preserved c = search (rules, lasts)
-
-pub slice_bounds-put_last-end : goal.slice_bounds-put_last-end
-slice_bounds-put_last-end c = search (rules, lasts)
-
-pub put_last-end-requires : goal.put_last-end-requires
-put_last-end-requires c = search (rules, lasts)
+loop-i-preserved c = search (rules, lasts, c.in_ok-length.was)
 
 pub overflow_add-result : goal.overflow_add-result
 overflow_add-result c = search (rules, lasts)

@@ -11,7 +11,4 @@ use Rattle.read_check.proofs.last_pass.Given as goal
 
 abbrev pub invariant-loop-i : goal.invariant-loop-i
 invariant-loop-i l =
-    (l.i ≤ l.n) × (first_among (entity_at l.list l.file l.c l.parameter l.closing) l.i (l.n - l.i) ≡ pass_of (last_pass l.list l.file l.c (delimited l.parameter l.closing) (all_entries l.file l.c))) × (l.length + rows_from l.list l.file l.c l.parameter l.closing l.i (l.n - l.i) ≡ rows_length l.list l.file l.c l.parameter l.closing) × (l.length ≤ 15000000000 * l.i)
-
-abbrev pub decreases-loop-i : goal.decreases-loop-i
-decreases-loop-i l = l.n - l.i
+    (first_among (entity_at l.list l.file l.c l.parameter l.closing) l.i (l.n - l.i) ≡ pass_of (last_pass l.list l.file l.c (delimited l.parameter l.closing) (all_entries l.file l.c))) × (l.length + rows_from l.list l.file l.c l.parameter l.closing l.i (l.n - l.i) ≡ rows_length l.list l.file l.c l.parameter l.closing) × (l.length ≤ 15000000000 * l.i)
