@@ -26,7 +26,7 @@ use Rattle.records.specs.Global.{opens, opening_of, global_fits}
 use Rattle.records.specs.Record.{Got, found_at, refused_at, Values, values, wrong, blanks, trimmed, start_at, found, beyond, plain, headed, by_next, more, after, next_at, value_at, values_from, values_at}
 use Rattle.cards.specs.declared.Counts.{Counts}
 use Rattle.cards.specs.declared.Placed.{Placed}
-use Rattle.std.specs.Prelude.{Option, Some, None, Result, Ok, Err}
+use Rattle.std.specs.Prelude.{Result}
 use Rattle.columns.specs.Refusal.{refusal_at}
 use Rattle.columns.specs.Columns.{line_at}
 use Rattle.columns.specs.First.{first_not}
