@@ -8,12 +8,12 @@ use borrow.Author.Tests.{le-leb, lt-leb}
 use Rattle.std.specs.Prelude.{Option, Some, None, unwrap_or}
 use Rattle.columns.specs.Columns.{columns}
 use Rattle.columns.specs.Fixed.{field_of}
-use Rattle.vectors.specs.declared.Vector.{Vector}
+use Rattle.vectors.specs.declared.Packed.{Packed}
 use Rattle.vectors.specs.declared.Results.{Results}
 use Rattle.vectors.specs.Passing.{scored}
 use Rattle.vectors.specs.Packs.{head_bytes, number_at, vector, vector_at, part, Lies, tally, Tried, over, broken, one}
 
-module _ (at n : ℕ) (x : Option Vector) (lies : Lies at n x) (v : Vector) (e : x ≡ Some v) where
+module _ (at n : ℕ) (x : Option Packed) (lies : Lies at n x) (v : Packed) (e : x ≡ Some v) where
   inside : Lies at n (Some v)
   inside = rw e at lies
 
@@ -93,11 +93,11 @@ module _ (p : List ℕ) (room at n k : ℕ) (l : Leads p room at n k) where
   pub leads_over : length p ≤ at → Tried p room 0 0 0 (tally n k)
   leads_over h = l.on (tally n k) (over h)
 
-  module _ (x : Option Vector) (is : x ≡ vector_at p at) (lt : at < length p) where
+  module _ (x : Option Packed) (is : x ≡ vector_at p at) (lt : at < length p) where
     pub leads_broken : x ≡ None → Tried p room 0 0 0 (tally n k)
     leads_broken e = l.on (tally n k) (broken lt (sym is ∙ e))
 
-    pub leads_one : (v : Vector) (s : ℕ) (o : List ℕ) → x ≡ Some v → length o ≡ room
+    pub leads_one : (v : Packed) (s : ℕ) (o : List ℕ) → x ≡ Some v → length o ≡ room
         → s ≡ scored v.op v.list v.number v.place (part p v.input v.output) (part p v.output v.end) (length o) → Leads p room v.end (n + 1) (k + s)
     leads_one v s o e same es =
         record { on = λ r t. l.on r (one lt (sym is ∙ e) (rw (es, same) at t)) }

@@ -18,7 +18,7 @@ use std::io::Read;
 // A vector: whether it is written (1) or read (0), under which list, the answer that is expected; where its name, its input and the
 // expected output stand in its pack, up to where the next vector begins.
 #[derive(Clone, Copy)]
-pub struct Vector {
+pub struct Packed {
     pub op: u64,
     pub list: u64,
     pub number: u64,

@@ -3,7 +3,7 @@
 ghost use Rattle.std.specs.Prelude.{◌≡◌, ◌+◌, ◌^◌, ◌≤◌, ◌<◌, length};
 ghost use Rattle.vectors.specs.Packs.{number_at, vector_at, Lies};
 
-use crate::Vector;
+use crate::Packed;
 use columns::wide;
 use columns_fixed::read_field;
 
@@ -28,7 +28,7 @@ fn length_at(p: &[u8], at: usize) -> usize
 }
 
 // The vector from `at` on, unless the pack is broken there.
-pub fn vector_at(p: &[u8], at: usize) -> Option<Vector>
+pub fn vector_at(p: &[u8], at: usize) -> Option<Packed>
     requires { at ≤ length p.now }
     ensures value { result ≡ vector_at p.now at }
     ensures lies { Lies at (length p.now) result }
@@ -48,7 +48,7 @@ pub fn vector_at(p: &[u8], at: usize) -> Option<Vector>
     if n < end {
         return None;
     }
-    Some(Vector {
+    Some(Packed {
         op,
         list,
         number,

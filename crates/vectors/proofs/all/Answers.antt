@@ -17,23 +17,23 @@ slice_bounds-score-start c = search (rules, packs)
 pub slice_bounds-score-end : goal.slice_bounds-score-end
 slice_bounds-score-end c = search (rules, packs)
 
-pub slice_bounds-score-count-in-Vector : goal.slice_bounds-score-count-in-Vector
-slice_bounds-score-count-in-Vector c = search (rules, packs)
+pub slice_bounds-score-count-in-Packed : goal.slice_bounds-score-count-in-Packed
+slice_bounds-score-count-in-Packed c = search (rules, packs)
 
-pub slice_bounds-score-start-in-Vector : goal.slice_bounds-score-start-in-Vector
-slice_bounds-score-start-in-Vector c = search (rules, packs)
+pub slice_bounds-score-start-in-Packed : goal.slice_bounds-score-start-in-Packed
+slice_bounds-score-start-in-Packed c = search (rules, packs)
 
-pub slice_bounds-score-end-in-Vector : goal.slice_bounds-score-end-in-Vector
-slice_bounds-score-end-in-Vector c = search (rules, packs)
+pub slice_bounds-score-end-in-Packed : goal.slice_bounds-score-end-in-Packed
+slice_bounds-score-end-in-Packed c = search (rules, packs)
 
-pub slice_bounds-score-count-in-Vector-2 : goal.slice_bounds-score-count-in-Vector-2
-slice_bounds-score-count-in-Vector-2 c = search (rules, packs)
+pub slice_bounds-score-count-in-Packed-2 : goal.slice_bounds-score-count-in-Packed-2
+slice_bounds-score-count-in-Packed-2 c = search (rules, packs)
 
-pub slice_bounds-score-start-in-Vector-2 : goal.slice_bounds-score-start-in-Vector-2
-slice_bounds-score-start-in-Vector-2 c = search (rules, packs)
+pub slice_bounds-score-start-in-Packed-2 : goal.slice_bounds-score-start-in-Packed-2
+slice_bounds-score-start-in-Packed-2 c = search (rules, packs)
 
-pub slice_bounds-score-end-in-Vector-2 : goal.slice_bounds-score-end-in-Vector-2
-slice_bounds-score-end-in-Vector-2 c = search (rules, packs)
+pub slice_bounds-score-end-in-Packed-2 : goal.slice_bounds-score-end-in-Packed-2
+slice_bounds-score-end-in-Packed-2 c = search (rules, packs)
 
 pub overflow_add-passed : goal.overflow_add-passed
 overflow_add-passed c = search (rules, packs)
