@@ -42,7 +42,8 @@ use Rattle.owners.specs.declared.Owned.{Owned}
 use Rattle.owners.specs.declared.Owned.TheVariants.{Everyone, Entry, Line}
 use Rattle.owners.specs.InFile.{owners_in, outcome as ownership_outcome}
 use Rattle.layouts.specs.Known.{known}
-use Rattle.layouts.specs.Entities.{Entity, fault, verdict, entity_check}
+use Rattle.layouts.specs.Fits.{suits, refers_well, asked}
+use Rattle.layouts.specs.Entities.{Entity, everywhere, fault, verdict, entity_check}
 use Rattle.sheets.specs.Sheet.{Sheet, lines_in, sheet_of}
 use Rattle.sheets.specs.Order.{read_sheet, verdict_of, outcome as sheet_outcome, SheetVerdict}
 use Rattle.model.specs.Read.{Listed, GlobalRead, two, global_text, global_line, field_fits, is_type, parameters_of, references_of, no_stray, by_values, by_opening, global_in, by_entry, entry_in, entries_in, references_in, by_parameters, entity_in, last_pass, before, read_model, reads}
