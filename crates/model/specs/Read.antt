@@ -89,8 +89,8 @@ abbrev pub by_opening : Counts → List ℕ → Option Opening → Outcome Globa
 by_opening c t None = refused Spelling (first_g c + 1)
 by_opening c t (Some o) =
     elim o.last [
-        true ↦ no_stray c t o.next then λ _. accepted (global_read o.parameter o.closing [])
-        | false ↦ by_values c t o.parameter o.closing o.next (values_at text_columns o.parameter o.closing t o.next)
+      | true ↦ no_stray c t o.next then λ _. accepted (global_read o.parameter o.closing [])
+      | false ↦ by_values c t o.parameter o.closing o.next (values_at text_columns o.parameter o.closing t o.next)
     ]
 
 -- what G says, or its first refusal

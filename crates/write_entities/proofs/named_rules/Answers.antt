@@ -10,6 +10,6 @@ loop-at-preserved c =
       search (rules, naming),
       search (rules, naming),
       names-on _ _ _ _ _ _ refl _ _ c.loop-at-test.true line.lower_bound.0 line.lower_bound.1 line.value c.if-end-size.false
-      _ c.head_at-said.ensures _ c.reference_of.ensures c.loop-at.invariant.3 c.in_ok-reference_of.was
-      _ c.entity_of-asked.ensures.found_value (not_refused _ (search rules)) _ _ c.entity_of-asked.ensures.skipped,
+          _ c.head_at-said.ensures _ c.reference_of.ensures c.loop-at.invariant.3 c.in_ok-reference_of.was
+          _ c.entity_of-asked.ensures.found_value (not_refused _ (search rules)) _ _ c.entity_of-asked.ensures.skipped,
     )

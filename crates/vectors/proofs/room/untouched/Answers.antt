@@ -14,5 +14,5 @@ pub returns : goal.returns
 returns c =
     let a = c.args in
     all_from_yields_List (λ b. b == filler) _ _ c.all.result c.all.ensures.ran (YieldsList-from_skip a.from (YieldsList-from_slice a.out.now cc) cc)
-      (λ x b q k. search (rules, tests))
+    (λ x b q k. search (rules, tests))
     ∙ all_untouched (drop a.from a.out.now)
