@@ -25,6 +25,7 @@ fn put_clipped(out: &mut [u8], at: usize, n: u64, end: usize) -> usize
 {
     let mut x = n;
     let mut i = end;
+    // It ends with the digits of x: no index says when.
     while 10 <= x {
         i -= 1;
         put(out, i, digit(x % 10));
@@ -43,6 +44,7 @@ fn put_inside(out: &mut [u8], at: usize, n: u64, end: usize) -> usize
 {
     let mut x = n;
     let mut i = end;
+    // As above, by x itself.
     while 100 <= x {
         let pair = x % 100;
         i -= 2;

@@ -95,6 +95,7 @@ fn put_fields(out: &mut [u8], base: usize, t: &[u8], at: usize, p: usize) -> Flo
     let mut next = at;
     let mut end = p;
     let mut n = FIRST;
+    // From line to line: the first that is no G line ends it, and none is counted before.
     loop {
         let Some(g) = field_at(t, next) else {
             return Flowed { next, end };

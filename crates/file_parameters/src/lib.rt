@@ -51,6 +51,7 @@ fn put_values(out: &mut [u8], base: usize, t: &[u8], at: usize, p: usize) -> Flo
 {
     let mut next = at;
     let mut end = p;
+    // From line to line: the first that is no value line ends it, and none is counted before.
     loop {
         let stop = sheets_read::end_of(t, next);
         if !sheets_read::is_value(t, next, stop) {

@@ -80,6 +80,7 @@ pub fn put_values(
     let mut last = x.last;
     let mut owed = 0;
     let mut next = at;
+    // From value to value: the last says that it is.
     while !last {
         let got = value_at(file, base, PARAMETER_COLUMNS, lines, c, d, q);
         match got {

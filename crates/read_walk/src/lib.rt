@@ -129,6 +129,7 @@ pub fn walk(
     let mut state = begun;
     let mut owed: usize = 0;
     let mut length: usize = 0;
+    // From value to value: the last says that it is.
     loop {
         let g = value_at(file, base, PARAMETER_COLUMNS, lines, c, d, q);
         match g {

@@ -258,6 +258,7 @@ pub fn check_from(
     let mut q = p;
     let mut n: usize = 0;
     let mut kept: usize = 0;
+    // From value to value: the last says that it is.
     loop {
         let Found {
             value,

@@ -98,6 +98,7 @@ fn all(rt: &impl Print, p: &[u8], out: &mut [u8]) -> Results
     let mut tried: u64 = 0;
     let mut passed: u64 = 0;
     let mut at = 0;
+    // From vector to vector: each says where the next begins.
     while at < p.len() {
         let Some(v) = vector_at(p, at) else {
             blame(rt, b"a broken pack");

@@ -57,6 +57,7 @@ fn past_values(t: &[u8], from: usize, begun: SheetState, p: usize) -> Past
     let mut state = begun;
     let mut next = from;
     let mut at = p;
+    // From line to line: each is told by where the one before ends.
     while next < n {
         let end = end_of(t, next);
         if end == n {
@@ -111,6 +112,7 @@ pub fn walk(classes: &mut [u8], t: &[u8]) -> SheetWalked
     let mut pass = Ok(());
     let mut at = 0;
     let mut k = 0;
+    // From line to line, and past value lines at once.
     while at < n {
         let end = end_of(t, at);
         if end == n {

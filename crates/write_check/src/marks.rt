@@ -55,6 +55,7 @@ fn tell_parts(table: &mut [u8], t: &[u8])
     let mut next = 1;
     let mut number = 1;
     let mut at = 0;
+    // From line to line, but where a part is told.
     while at < size {
         let b = t[at];
         if next <= entry_start(b, at) {

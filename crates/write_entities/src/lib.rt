@@ -101,6 +101,7 @@ fn judge(classes: &[u8], n: usize, t: &[u8], from: usize, begun: Option<LayoutSt
     let mut lines = 0;
     let mut state = begun;
     let mut right = true;
+    // From line to line: the first that is no value line ends it.
     while next < size {
         let end = end_of(t, next);
         if end == size {
@@ -237,6 +238,7 @@ pub fn named_rules(list: u64, classes: &[u8], n: usize, t: &[u8]) -> SheetPass
     let size = t.len();
     let mut at = 0;
     let mut place = 1;
+    // From line to line, and past an entity at once.
     while at < size {
         let end = end_of(t, at);
         if end == size {

@@ -79,6 +79,7 @@ pub fn references(classes: &[u8], n: usize, t: &[u8], from: usize, first: SheetL
     let size = t.len();
     let mut at = from;
     let mut place = first.0;
+    // From line to line: each is told by where the one before ends.
     while at < size {
         let end = end_of(t, at);
         if end == size {
