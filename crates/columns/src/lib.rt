@@ -6,6 +6,7 @@ pub mod format;
 pub mod look;
 
 ghost use Rattle.std.specs.Prelude.{◌≡◌, ◌^◌, ◌<◌};
+ghost use Rattle.columns.specs.Refusal.{number};
 
 // Why an input is refused, in the order of the paper's table; specs/Refusal.antt gives the number of each.
 #[derive(Clone, Copy)]
@@ -31,8 +32,37 @@ pub enum Fault {
     TooLong,
 }
 
+// The paper's number of a refusal.
+impl From<Fault> for u64 {
+    ghost from_gives = { λ fault n. n ≡ number fault };
+
+    fn from(fault: Fault) -> u64 {
+        match fault {
+            Fault::ListOrLength => 1,
+            Fault::Byte => 2,
+            Fault::Section => 3,
+            Fault::Sequence => 4,
+            Fault::Terminate => 5,
+            Fault::Spelling => 6,
+            Fault::Limit => 7,
+            Fault::Global => 8,
+            Fault::Directory => 9,
+            Fault::Reference => 10,
+            Fault::Ownership => 11,
+            Fault::FirstValue => 12,
+            Fault::Macro => 13,
+            Fault::Layout => 14,
+            Fault::LayoutReference => 15,
+            Fault::Room => 16,
+            Fault::SheetLine => 17,
+            Fault::Mark => 18,
+            Fault::TooLong => 19,
+        }
+    }
+}
+
 // Directory numbers, parameter line numbers and file line numbers are counted apart; so are the lines of a sheet.
-#[derive(Clone, Copy)]
+#[derive(Clone, Copy, PartialEq, Eq, PartialOrd, Ord)]
 pub struct DirectoryNumber(pub u32);
 
 #[derive(Clone, Copy)]
