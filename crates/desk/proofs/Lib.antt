@@ -9,7 +9,6 @@ pub mod Sound
 pub mod Complete
 pub mod Exactly
 pub mod Answered
-pub mod Numbers
 pub mod Content
 pub mod NeverRoom
 pub mod Slots

@@ -1,6 +1,6 @@
 -- The laws of the check of ownership in a file.
 use mathlib.Core.Path.{◌≡◌, sym, ap, ◌∙◌}
-use mathlib.Core.Bool.{Bool, true, false}
+use mathlib.Core.Bool.{Bool, true, false, not}
 use Prim.Native.Nat.{ℕ, ◌+◌, ◌-◌, ◌*◌, ◌/◌, ◌%◌, ◌≤◌, ◌<◌}
 use native.Mathlib.Nat.{sub-zero}
 use native.Mathlib.Omega.{arith}
@@ -76,14 +76,14 @@ pub ruleset fields = (number_is, size_bad, size_negative, size_some, size_of, na
 -- ---- the first that fails: r is the answer
 
 -- where the test is a line's name
-module _ (f : List ℕ) (c : Counts) (m i e r x : ℕ) (inv : first_not (name_is (owner_in f c) m) i (e - i) ≡ r) (h : i < e) (ex : x ≡ owner_in f c i) where
-  pub name_on : x ≡ m → first_not (name_is (owner_in f c) m) (i + 1) (e - (i + 1)) ≡ r
+module _ (f : List ℕ) (c : Counts) (m i e r x : ℕ) (inv : first_not (name_is (owner_in f c) m) i (e - i) ≡ r) (h : i < e) (ex : x ≡ owner_in f c i) (b : Bool) (eb : b ≡ not (eqb x m)) where
+  pub name_on : b ≡ false → first_not (name_is (owner_in f c) m) (i + 1) (e - (i + 1)) ≡ r
   unfolding name_is
-  name_on t = first_on (name_is (owner_in f c) m) i e r inv h (eq-eqb _ _ (sym ex ∙ t))
+  name_on t = first_on (name_is (owner_in f c) m) i e r inv h (ap (λ j. eqb j m) (sym ex) ∙ not-false _ (sym eb ∙ t))
 
-  pub name_here : (x ≡ m → ⊥) → i ≡ r
+  pub name_here : b ≡ true → i ≡ r
   unfolding name_is
-  name_here t = first_here (name_is (owner_in f c) m) i e r inv h (ne_eqb _ _ (λ z. t (ex ∙ z)))
+  name_here t = first_here (name_is (owner_in f c) m) i e r inv h (ap (λ j. eqb j m) (sym ex) ∙ not-true _ (sym eb ∙ t))
 
 pub entries-start : (test : ℕ → Bool) (d n : ℕ) → d ≡ n → first_not test 0 (d / 2 - 0) ≡ first_not test 0 (n / 2)
 entries-start test d n e = rw (sub-zero, e)

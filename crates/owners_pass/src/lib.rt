@@ -29,7 +29,7 @@ fn run_end(
     let end = from.0 + count;
     for k in from.0..end {
         let name = places::owner_at(file, c, ParameterLine(k));
-        if name.0 != m.0 {
+        if name != m {
             return ParameterLine(k);
         }
     }

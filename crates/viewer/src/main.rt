@@ -57,6 +57,7 @@ fn listed(list: u64, file: &[u8], rows: [Record; SLOTS]) -> [Record; SLOTS]
     table
 }
 
+// Words of this program alone: the crate of `Attribute` prints nothing, so it has no Display.
 fn print_colour(rt: &impl Print, colour: Attribute) -> io::Result<()> {
     match colour {
         Attribute::Number(n) => print!(rt; "{n}"),

@@ -120,10 +120,10 @@ fn guess(s: Span, number: DirectoryNumber) -> usize
 {
     let first = s.first;
     let last = s.last;
-    if number.0 < first.0 {
+    if number < first {
         return s.from;
     }
-    if last.0 <= number.0 {
+    if last <= number {
         return s.from;
     }
     let all = (last.0 - first.0) as usize;
@@ -149,7 +149,7 @@ fn closer(t: &[u8], s: Span, number: DirectoryNumber) -> Span
         return span_of(from, place, first, last);
     }
     let shown = number_at(t, found);
-    if number.0 < shown.0 {
+    if number < shown {
         return span_of(from, place, first, shown);
     }
     span_of(found, stop, shown, last)
@@ -174,7 +174,7 @@ fn near(t: &[u8], from: usize, stop: usize, number: DirectoryNumber) -> usize
             continue;
         }
         let shown = number_at(t, found);
-        if number.0 < shown.0 {
+        if number < shown {
             high = mid;
             continue;
         }
@@ -195,7 +195,7 @@ fn walk_to(t: &[u8], from: usize, stop: usize, number: DirectoryNumber) -> usize
     // From entry to entry.
     while at < stop {
         let shown = number_at(t, at);
-        if number.0 <= shown.0 {
+        if number <= shown {
             return at;
         }
         at = entry_behind(t, at + 1, stop);
@@ -213,12 +213,12 @@ fn search(t: &[u8], s: Span, number: DirectoryNumber) -> usize
 {
     let once = closer(t, s, number);
     let first = once.first;
-    if first.0 == number.0 {
+    if first == number {
         return once.from;
     }
     let twice = closer(t, once, number);
     let first = twice.first;
-    if first.0 == number.0 {
+    if first == number {
         return twice.from;
     }
     let low = near(t, twice.from, twice.stop, number);
