@@ -22,8 +22,10 @@ use Rattle.model.specs.Model.{Model}
 use Rattle.model.specs.Read.{Before, before}
 use Rattle.read_passes.specs.Listed.{entry_of, all_entries}
 use Rattle.read_passes.specs.Ready.{Ready}
-use Rattle.read_weights.specs.declared.Checked.{Checked}
-use Rattle.read_weights.specs.declared.Checked.TheVariants.{Good, Refused}
+use Rattle.std.specs.Prelude.{Result, Ok, Err}
+use Rattle.columns.specs.declared.Refusal.{Refusal}
+use Rattle.read_passes.specs.declared.Before.{Before as Told}
+use Rattle.read_passes.specs.Passes.{BeforeAnswer}
 use Rattle.read_weights.specs.Checks.{check_of}
 use Rattle.read_weights.proofs.Facts.{checked-model, checked-passed, checked-ready, checked_refused}
 use Rattle.desk.specs.Answers.{Shown, label_from, stand_in, nothing, label_byte, label_or, name_in, by_reading, shown}
@@ -104,22 +106,22 @@ name_same : (f : List ℕ) (x : ℕ) (b : Before) (c : Counts) → b.counts ≡ 
 unfolding name_with
 name_same f x b c ec el = ap₂ (λ (m : ℕ) (q : Counts). cond (eqb (x % 2) 1 && ltb (x / 2) m) (label_or f (label_byte (entry_line q (x / 2)))) nothing) el ec
 
-module _ (list : ℕ) (f : List ℕ) (x : ℕ) (r : Checked) (er : r ≡ check_of list f) where
+module _ (list : ℕ) (f : List ℕ) (x : ℕ) (r : BeforeAnswer) (er : r ≡ check_of list f) where
   -- a refused file has no names
-  pub refused_nobody : (n : Fault) (l : FileLine) → r ≡ Refused n l → Nobody ≡ found_of (shown list f x)
+  pub refused_nobody : (n : Refusal FileLine) → r ≡ Err n → Nobody ≡ found_of (shown list f x)
   unfolding shown
-  refused_nobody n l e = ap (λ (o : Outcome Model). found_of (by_reading f x (o then λ _. before f))) (sym (checked_refused list f r er n l e))
+  refused_nobody n e = ap (λ (o : Outcome Model). found_of (by_reading f x (o then λ _. before f))) (sym (checked_refused list f r er n e))
 
-  module _ (c : Counts) (p d : ℕ) (e : r ≡ Good c p d) where
-    shown-with : shown list f x ≡ name_with f x c
+  module _ (w : Told) (e : r ≡ Ok w) where
+    shown-with : shown list f x ≡ name_with f x w.counts
     unfolding shown
     shown-with =
-        let m = checked-model list f r er c p d e in
+        let m = checked-model list f r er w e in
         let b : Before = m.told.whole in
-        let listed = entries-counted f b c m.told.counts (checked-passed list f r er c p d e).listed in
-        ap (λ (o : Outcome Model). by_reading f x (o then λ _. before f)) m.is ∙ ap (by_reading f x) m.told.is ∙ name_same f x b c m.told.counts listed
+        let listed = entries-counted f b w.counts m.told.counts (checked-passed list f r er w e).listed in
+        ap (λ (o : Outcome Model). by_reading f x (o then λ _. before f)) m.is ∙ ap (by_reading f x) m.told.is ∙ name_same f x b w.counts m.told.counts listed
 
-    pub good_found : (y : Found) → y ≡ found_of (name_with f x c) → y ≡ found_of (shown list f x)
+    pub good_found : (y : Found) → y ≡ found_of (name_with f x w.counts) → y ≡ found_of (shown list f x)
     good_found y h = h ∙ ap found_of (sym shown-with)
 
 pub ruleset in_file = (refused_nobody, good_found, checked-ready)

@@ -10,7 +10,6 @@ ghost use Rattle.desk_name.specs.Names.{Shows};
 use cards::Counts;
 use columns::format::FIELD_COLUMNS;
 use columns::{DirectoryNumber, look, wide};
-use read_weights::Checked;
 
 // What a directory number finds: a label and where it starts, a blank one, or no entry.
 #[derive(Clone, Copy)]
@@ -49,8 +48,8 @@ fn looked_up(list: u64, file: &[u8], number: DirectoryNumber) -> Found
 {
     let told = read_check::check(list, file);
     match told {
-        Checked::Refused { .. } => Found::Nobody,
-        Checked::Good { counts, .. } => in_directory(file, counts, number),
+        Err(_) => Found::Nobody,
+        Ok(before) => in_directory(file, before.counts, number),
     }
 }
 

@@ -22,8 +22,10 @@ use Rattle.model.specs.Model.{Model}
 use Rattle.model.specs.Read.{Listed, Before, before, read_model}
 use Rattle.read_passes.specs.Listed.{entries_from, all_entries}
 use Rattle.read_passes.specs.Ready.{Ready}
-use Rattle.read_weights.specs.declared.Checked.{Checked}
-use Rattle.read_weights.specs.declared.Checked.TheVariants.{Good, Refused}
+use Rattle.std.specs.Prelude.{Result, Ok, Err}
+use Rattle.columns.specs.declared.Refusal.{Refusal}
+use Rattle.read_passes.specs.declared.Before.{Before as Told}
+use Rattle.read_passes.specs.Passes.{BeforeAnswer, told}
 use Rattle.read_weights.specs.Checks.{check_of}
 use Rattle.read_weights.proofs.Facts.{checked-model, checked-passed, checked-ready, checked_refused}
 use Rattle.desk.specs.declared.Answer.{Answer}
@@ -69,14 +71,14 @@ module _ (c : Counts) (room : ℕ) where
   unfolding plan_with
   with-room s g d es eg ed h = rw (le-leb (entries c) room (omega arith), es, eg, ed)
 
-module _ (list : ℕ) (f : List ℕ) (room : ℕ) (r : Checked) (er : r ≡ check_of list f) where
-  pub for_refused : (n : Fault) (l : FileLine) (a : Answer) → r ≡ Refused n l → a ≡ answer (number n) l.0 0 → record { answer = a; first = 0; count = 0 } ≡ plan_of list f room
+module _ (list : ℕ) (f : List ℕ) (room : ℕ) (r : BeforeAnswer) (er : r ≡ check_of list f) where
+  pub for_refused : (n : Refusal FileLine) (a : Answer) → r ≡ Err n → a ≡ answer (number n.fault) n.line.0 0 → record { answer = a; first = 0; count = 0 } ≡ plan_of list f room
   unfolding plan_of
-  for_refused n l a e ea = rw (← er, e, ea)
+  for_refused n a e ea = rw (← er, e, ea)
 
-  pub for_good : (c : Counts) (p d : ℕ) (x : Plan) → r ≡ Good c p d → x ≡ plan_with c room → x ≡ plan_of list f room
+  pub for_good : (w : Told) (x : Plan) → r ≡ Ok w → x ≡ plan_with w.counts room → x ≡ plan_of list f room
   unfolding plan_of
-  for_good c p d x e ex = rw (← er, e) ex
+  for_good w x e ex = rw (← er, e) ex
 
 pub ruleset plans = (with_short, with-room, for_refused, for_good)
 
@@ -92,12 +94,12 @@ unfolding records_from record_at up_from
 records_are list f c zero i = refl
 records_are list f c (suc n) i = ap (λ (es : List Record). record_in list f (first_d c) i ∷ es) (records_are list f c n (i + 1))
 
-module _ (list : ℕ) (f : List ℕ) (c : Counts) (p d : ℕ) (e : Good c p d ≡ check_of list f) where
+module _ (list : ℕ) (f : List ℕ) (c : Counts) (p d : ℕ) (e : Ok (told c p d) ≡ check_of list f) where
   listed_are : listed_in list f ≡ accepted (records_from list 0 (all_entries f c))
   unfolding listed_in
   listed_are =
-      let m = checked-model list f (Good c p d) e c p d refl in
-      let l : m.told.whole.listed ≡ all_entries f c = (checked-passed list f (Good c p d) e c p d refl).listed ∙ ap (all_entries f) m.told.counts in
+      let m = checked-model list f (Ok (told c p d)) e (told c p d) refl in
+      let l : m.told.whole.listed ≡ all_entries f c = (checked-passed list f (Ok (told c p d)) e (told c p d) refl).listed ∙ ap (all_entries f) m.told.counts in
       ap (λ (o : Outcome Model). o then λ _. before f then λ b. accepted (records_from list 0 b.listed)) m.is
       ∙ ap (λ (o : Outcome Before). o then λ b. accepted (records_from list 0 b.listed)) m.told.is ∙ ap (λ (es : List Listed). accepted (records_from list 0 es)) l
 
@@ -107,7 +109,7 @@ module _ (list : ℕ) (f : List ℕ) (c : Counts) (p d : ℕ) (e : Good c p d �
 
   pub entry-inside : (i : ℕ) → i < entries c → HasEntry f (first_d c) i
   entry-inside i h =
-      let rd : Ready f c = checked-ready list f (Good c p d) e c p d refl in
+      let rd : Ready f c = checked-ready list f (Ok (told c p d)) e (told c p d) refl in
       (omega (arith, rd.holds.size), omega (arith, rd.holds.most))
 
 -- ---- what the plan says of the table
@@ -128,7 +130,7 @@ module _ (list : ℕ) (f : List ℕ) (rs : List Record) where
     inside = λ i h. absurd (omega (arith, h));
   }
 
-  module _ (c : Counts) (p d : ℕ) (e : Good c p d ≡ check_of list f) where
+  module _ (c : Counts) (p d : ℕ) (e : Ok (told c p d) ≡ check_of list f) where
     abbrev es : List Record
     es = records_from list 0 (all_entries f c)
 
@@ -167,9 +169,9 @@ module _ (list : ℕ) (f : List ℕ) (rs : List Record) where
         let h : length rs < entries c = leb-false (entries c) (length rs) eb in
         rw eb (short_planned h)
 
-  by-planned : (r : Checked) → r ≡ check_of list f → Planned list f rs (plan_by r (length rs))
-  by-planned (Good c p d) e = good_planned c p d e (leb (entries c) (length rs)) refl
-  by-planned (Refused n l) e = refusal_planned n l.0 (table_refused list f n l.0 (checked_refused list f (Refused n l) e n l refl))
+  by-planned : (r : BeforeAnswer) → r ≡ check_of list f → Planned list f rs (plan_by r (length rs))
+  by-planned (Ok w) e = good_planned w.counts w.parameter w.closing e (leb (entries w.counts) (length rs)) refl
+  by-planned (Err n) e = refusal_planned n.fault n.line.0 (table_refused list f n.fault n.line.0 (checked_refused list f (Err n) e n refl))
 
   pub planned : (x : Plan) → x ≡ plan_of list f (length rs) → Planned list f rs x
   unfolding plan_of

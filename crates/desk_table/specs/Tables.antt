@@ -1,5 +1,5 @@
 -- The code's form: what is done with the table: by the plan, and by the records of a file's entries.
-use Rattle.std.specs.Prelude.{cond, List, ℕ, zero, suc, ◌+◌, ◌*◌, ◌^◌, ◌≤◌, ◌<◌, length, set, leb}
+use Rattle.std.specs.Prelude.{cond, List, ℕ, zero, suc, ◌+◌, ◌*◌, ◌^◌, ◌≤◌, ◌<◌, length, set, leb, Ok, Err}
 use Rattle.columns.specs.declared.Fault.TheVariants.{Room}
 use Rattle.columns.specs.declared.ParameterLine.{ParameterLine}
 use Rattle.columns.specs.Refusal.{number}
@@ -9,8 +9,7 @@ use Rattle.cards.specs.Cards.{first_d, entries}
 use Rattle.directory.specs.declared.Fields.{Fields}
 use Rattle.directory.specs.declared.EntryRead.TheVariants.{Spelt}
 use Rattle.read_passes.specs.Listed.{listed_of, listed_at}
-use Rattle.read_weights.specs.declared.Checked.{Checked}
-use Rattle.read_weights.specs.declared.Checked.TheVariants.{Good, Refused}
+use Rattle.read_passes.specs.Passes.{BeforeAnswer}
 use Rattle.read_weights.specs.Checks.{check_of}
 use Rattle.desk.specs.declared.Answer.{Answer}
 use Rattle.desk.specs.declared.Record.{Record}
@@ -28,9 +27,9 @@ plan_with c room =
     (refusing (answer (number Room) 0 (entries c)))
 
 -- as reading tells
-abbrev pub plan_by : Checked → ℕ → Plan
-plan_by (Good c p d) room = plan_with c room
-plan_by (Refused n l) room = refusing (answer (number n) l.0 0)
+abbrev pub plan_by : BeforeAnswer → ℕ → Plan
+plan_by (Ok b) room = plan_with b.counts room
+plan_by (Err r) room = refusing (answer (number r.fault) r.line.0 0)
 
 -- under a list, for so many slots
 unfoldable pub plan_of : ℕ → List ℕ → ℕ → Plan

@@ -11,7 +11,6 @@ ghost use Rattle.desk_table.specs.Tables.{plan_with, plan_of, record_in, HasEntr
 use cards::Counts;
 use columns::wide;
 use desk::{Answer, Record, answers};
-use read_weights::Checked;
 
 // What to do with the table: the answer, and how many entries to store, none for a refusal, the first of them at this line of the file.
 #[derive(Clone, Copy)]
@@ -53,15 +52,15 @@ fn plan_for(list: u64, file: &[u8], room: usize) -> Plan
 {
     let told = read_check::check(list, file);
     match told {
-        Checked::Refused { fault, line } => {
-            let answer = answers::refusal(fault, line.0);
+        Err(refusal) => {
+            let answer = answers::refusal(refusal.fault, refusal.line.0);
             Plan {
                 answer,
                 first: 0,
                 count: 0,
             }
         }
-        Checked::Good { counts, .. } => plan_with(counts, room),
+        Ok(before) => plan_with(before.counts, room),
     }
 }
 
