@@ -26,7 +26,8 @@ use Rattle.read_passes.specs.Listed.{entry_of, entries_from, all_entries}
 use Rattle.read_passes.specs.Ready.{Ready}
 use Rattle.read_passes.proofs.Facts.{entered}
 use Rattle.read_passes.proofs.Whole.{good_entries}
-use Rattle.read_weights.specs.declared.Checked.TheVariants.{Good}
+use Rattle.std.specs.Prelude.{Ok}
+use Rattle.read_passes.specs.Passes.{told}
 use Rattle.read_weights.specs.Checks.{carried_of, check_of}
 use Rattle.read_weights.specs.Weights.{rows_from, rows_length}
 use Rattle.read_weights.proofs.Last.{last_any}
@@ -58,12 +59,12 @@ whole_same : (list : ℕ) (f : List ℕ) (from : ℕ) (ended : Bool) {s s' g g' 
     → whole_bytes list f s g n q p d from ended ≡ whole_bytes list f s' g' n' q' p' d' from ended
 whole_same list f from ended es eg en eq ep ed = rw (es, eg, en, eq, ep, ed)
 
-module _ (list : ℕ) (f : List ℕ) (c : Counts) (p d : ℕ) (h : Good c p d ≡ check_of list f) where
+module _ (list : ℕ) (f : List ℕ) (c : Counts) (p d : ℕ) (h : Ok (told c p d) ≡ check_of list f) where
   abbrev model : Modelled list f c p d
-  model = checked-model list f (Good c p d) h c p d refl
+  model = checked-model list f (Ok (told c p d)) h (told c p d) refl
 
   ready : Ready f c
-  ready = checked-ready list f (Good c p d) h c p d refl
+  ready = checked-ready list f (Ok (told c p d)) h (told c p d) refl
 
   abbrev said : GlobalRead
   said = model.told.whole.global
@@ -73,13 +74,13 @@ module _ (list : ℕ) (f : List ℕ) (c : Counts) (p d : ℕ) (h : Good c p d �
 
   sheet-is : sheet_in list f ≡ sheet_text (sheet_of list (model_with f c said carry))
   unfolding sheet_in
-  sheet-is = ap bytes_of (checked-sheet list f (Good c p d) h c p d refl)
+  sheet-is = ap bytes_of (checked-sheet list f (Ok (told c p d)) h (told c p d) refl)
 
   pub reads-sheet : reads list f ≡ accepted (sheet_in list f)
-  reads-sheet = checked-sheet list f (Good c p d) h c p d refl ∙ ap (λ (bs : List ℕ). accepted bs) (sym sheet-is)
+  reads-sheet = checked-sheet list f (Ok (told c p d)) h (told c p d) refl ∙ ap (λ (bs : List ℕ). accepted bs) (sym sheet-is)
 
   globals_are : global_in f c ≡ accepted said
-  globals_are = sym (ap (global_in f) model.told.counts) ∙ (checked-passed list f (Good c p d) h c p d refl).globals
+  globals_are = sym (ap (global_in f) model.told.counts) ∙ (checked-passed list f (Ok (told c p d)) h (told c p d) refl).globals
 
   -- ---- what the calls need
 
@@ -93,10 +94,10 @@ module _ (list : ℕ) (f : List ℕ) (c : Counts) (p d : ℕ) (h : Good c p d �
   opening-within g o x y next last eg k e = omega (arith, opening_in 8 e k, ready.holds.has_g)
 
   pub parameter_some : 0 < p
-  parameter_some = checked_parameter list f (Good c p d) h c p d refl
+  parameter_some = checked_parameter list f (Ok (told c p d)) h (told c p d) refl
 
   pub closing_some : 0 < d
-  closing_some = checked_closing list f (Good c p d) h c p d refl
+  closing_some = checked_closing list f (Ok (told c p d)) h (told c p d) refl
 
   pub sheet-printable : (s g b q : ℕ) → s ≡ c.s → g ≡ c.g → b ≡ c.d → q ≡ parameter_line c 1 → Printable f (s + g) (b / 2) q p d
   sheet-printable s g b q es eg eb eq = record {

@@ -8,7 +8,7 @@ ghost use Rattle.model.specs.Read.{reads};
 ghost use Rattle.desk.specs.Answers.{answer_of, left_in};
 
 use desk::{Answer, answers};
-use read_weights::Weight;
+use read_passes::Before;
 
 // The sheet of a file under a list. It is measured first, since a refusal changes no byte of out.
 pub fn read(list: u64, file: &[u8], out: &mut [u8]) -> Answer
@@ -17,13 +17,14 @@ pub fn read(list: u64, file: &[u8], out: &mut [u8]) -> Answer
 {
     let told = read_check::weigh(list, file);
     match told {
-        Weight::Refused { fault, line } => answers::refusal(fault, line.0),
-        Weight::Good {
-            counts,
-            parameter,
-            closing,
-            rows,
-        } => {
+        Err(refusal) => answers::refusal(refusal.fault, refusal.line.0),
+        Ok(weight) => {
+            let rows = weight.rows;
+            let Before {
+                counts,
+                parameter,
+                closing,
+            } = weight.told;
             let length = sheet::measure(list, file, counts, parameter, closing, rows);
             if out.len() < length {
                 return answers::no_room(length);

@@ -1,11 +1,11 @@
 // The sheet of a file that passes all checks, and how long it is.
-ghost use Rattle.std.specs.Prelude.{◌≡◌, ◌*◌, ◌^◌, ◌≤◌, ◌<◌, length};
+ghost use Rattle.std.specs.Prelude.{◌≡◌, ◌*◌, ◌^◌, ◌≤◌, ◌<◌, length, Ok};
 ghost use Rattle.columns.specs.Columns.{text_of};
 ghost use Rattle.columns.specs.Laid.{Wrote};
 ghost use Rattle.columns.specs.Format.{text_columns};
 ghost use Rattle.records.specs.Reading.{Stands};
 ghost use Rattle.print.specs.Whole.{field_bytes};
-ghost use Rattle.read_weights.specs.declared.Checked.TheVariants.{Good};
+ghost use Rattle.read_passes.specs.Passes.{told};
 ghost use Rattle.read_weights.specs.Checks.{check_of};
 ghost use Rattle.read_weights.specs.Weights.{rows_length};
 ghost use Rattle.desk.specs.Reading.{sheet_in};
@@ -24,7 +24,7 @@ pub fn put_file(
     parameter: u8,
     closing: u8,
 ) -> usize
-    requires { Good c parameter closing ≡ check_of list file.now }
+    requires { Ok (told c parameter closing) ≡ check_of list file.now }
     ensures { Wrote out.old 0 (sheet_in list file.now) out.new result }
 {
     let s = wide(c.s);
@@ -66,7 +66,7 @@ fn fields_len(
 
 // How long the sheet is, what stands behind its G lines taking so many bytes.
 pub fn measure(list: u64, file: &[u8], c: Counts, parameter: u8, closing: u8, rows: usize) -> usize
-    requires closing_value { Good c parameter closing ≡ check_of list file.now }
+    requires closing_value { Ok (told c parameter closing) ≡ check_of list file.now }
     requires rows_value { rows ≡ rows_length list file.now c parameter closing }
     requires rows_bound { rows ≤ 2 ^ 51 }
     ensures { result ≡ length (sheet_in list file.now) }
