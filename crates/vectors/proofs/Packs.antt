@@ -11,7 +11,7 @@ use Rattle.columns.specs.Fixed.{field_of}
 use Rattle.vectors.specs.declared.Packed.{Packed}
 use Rattle.vectors.specs.declared.Results.{Results}
 use Rattle.vectors.specs.Passing.{scored}
-use Rattle.vectors.specs.Packs.{head_bytes, number_at, vector, vector_at, part, Lies, tally, Tried, over, broken, one}
+use Rattle.vectors.specs.Packs.{head_bytes, or_nought, number_at, vector, vector_at, part, Lies, tally, Tried, over, broken, one}
 
 module _ (at n : ℕ) (x : Option Packed) (lies : Lies at n x) (v : Packed) (e : x ≡ Some v) where
   inside : Lies at n (Some v)

@@ -5,8 +5,8 @@ use Rattle.vectors.proofs.all.Goals as goal
 pub loop-at-init : goal.loop-at-init
 loop-at-init c = search (rules, leading)
 
-pub returns-in-Broken : goal.returns-in-Broken
-returns-in-Broken c = search (rules, leading)
+pub returns-in_default : goal.returns-in_default
+returns-in_default c = search (rules, leading)
 
 pub slice_bounds-score-count : goal.slice_bounds-score-count
 slice_bounds-score-count c = search (rules, packs)
@@ -16,24 +16,6 @@ slice_bounds-score-start c = search (rules, packs)
 
 pub slice_bounds-score-end : goal.slice_bounds-score-end
 slice_bounds-score-end c = search (rules, packs)
-
-pub slice_bounds-score-count-in-Packed : goal.slice_bounds-score-count-in-Packed
-slice_bounds-score-count-in-Packed c = search (rules, packs)
-
-pub slice_bounds-score-start-in-Packed : goal.slice_bounds-score-start-in-Packed
-slice_bounds-score-start-in-Packed c = search (rules, packs)
-
-pub slice_bounds-score-end-in-Packed : goal.slice_bounds-score-end-in-Packed
-slice_bounds-score-end-in-Packed c = search (rules, packs)
-
-pub slice_bounds-score-count-in-Packed-2 : goal.slice_bounds-score-count-in-Packed-2
-slice_bounds-score-count-in-Packed-2 c = search (rules, packs)
-
-pub slice_bounds-score-start-in-Packed-2 : goal.slice_bounds-score-start-in-Packed-2
-slice_bounds-score-start-in-Packed-2 c = search (rules, packs)
-
-pub slice_bounds-score-end-in-Packed-2 : goal.slice_bounds-score-end-in-Packed-2
-slice_bounds-score-end-in-Packed-2 c = search (rules, packs)
 
 pub overflow_add-passed : goal.overflow_add-passed
 overflow_add-passed c = search (rules, packs)

@@ -1,4 +1,3 @@
--- Number, place, length, one after the other.
 use borrow.Author.Rules.{rules}
 use Rattle.vectors.proofs.Passing.{answers}
 use Rattle.vectors.proofs.vector.is_answer.Goals as goal
