@@ -108,14 +108,6 @@ module _ (e : Entry) (j : ℕ) (r : Option Wanted) where
 
 pub ruleset wanting = (asks_none, asks_some, asks_number, asks_reference, wants_structure, wants_font, wants_level, wants_view, wants_matrix, wants_display, wants_colour)
 
--- what one asks
-module _ (types : List ℕ) (o : Option Wanted) where
-  pub asks_nothing : o ≡ None → true ≡ asks_ok types o
-  asks_nothing e = rw e
-
-  pub asks_class : (w : Wanted) → o ≡ Some w → (class : ℕ) (r : Bool) → class ≡ class_at types w.number.0 → r ≡ fits w.want class → r ≡ asks_ok types o
-  asks_class w e class r ec er = rw (e, er, ec)
-
 -- ---- all seven
 
 module _ (types : List ℕ) where

@@ -3,6 +3,7 @@
 // rules, `directory_read` reads the two lines, `directory_lay` lays them, `directory_lookup` looks up what a directory number names.
 #![tactic(auto)]
 
+pub mod entries;
 pub mod lines;
 pub mod order;
 

@@ -6,10 +6,15 @@ ghost use Rattle.columns.specs.Decimal.{signed_dec};
 ghost use Rattle.columns.specs.Format.{field_columns};
 ghost use Rattle.directory.specs.Fields.{attribute_of, entry_of};
 ghost use Rattle.directory.specs.Rules.{or_less, up_to, signs_ok, limits_ok, pair_ok, status_ok, narrow, ranges_ok};
-ghost use Rattle.directory.specs.Asking.{rule_of, of_number, of_attribute, reference_count, wanted_of};
+ghost use Rattle.directory.specs.Rules.{all_fit, references};
+ghost use Rattle.directory.specs.Asking.{asks_ok, rule_of, of_number, of_attribute, reference_count, wanted_of};
 
 use columns::{DirectoryNumber, Fault, Signed};
+use directory::entries::Entries;
 use directory::{Attribute, Entry, Fields, Wanted, order};
+
+// How many references an entry may have.
+const REFERENCES: usize = 7;
 
 // ---- what the numbers mean
 
@@ -172,4 +177,26 @@ pub fn wanted(e: Entry, j: usize) -> Option<Wanted>
         return of_number(e.display, references::ANY);
     }
     of_attribute(colour, references::ENTRY_314)
+}
+
+// Whether what is asked, if it is, names such an entry.
+fn asks_ok<E: Entries>(entries: &E, wanted: Option<Wanted>) -> bool
+    ensures { result ≡ asks_ok (E.types entries.now) wanted }
+{
+    let Some(w) = wanted else {
+        return true;
+    };
+    entries.meet(w)
+}
+
+// Whether all references of an entry do.
+pub fn all_ask_ok<E: Entries>(entries: &E, e: Entry) -> bool
+    ensures { result ≡ all_fit (E.types entries.now) (references e) }
+{
+    for j in 0..REFERENCES {
+        if !asks_ok(entries, wanted(e, j)) {
+            return false;
+        }
+    }
+    true
 }

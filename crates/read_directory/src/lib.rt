@@ -14,6 +14,7 @@ use crate::refer::reference_check;
 use cards::Counts;
 use columns::{Fault, FileLine, Refusal, wide};
 use directory::Spelt;
+use directory_lookup::Directory;
 use read_passes::FilePass;
 
 // Entry i, whose first D line is its place: it passes 9 and 13, with what is kept of 10 behind the entries before it; or it is refused.
@@ -28,7 +29,11 @@ fn entry_check(
     ensures { result ≡ turn_of (entry_check file.now c i) (or_else kept (reference_check file.now c i)) }
 {
     let first = cards::entry_line(c, 0);
-    let total = wide(c.d) / 2;
+    let all = Directory {
+        file,
+        first,
+        entries: wide(c.d) / 2,
+    };
     let k = cards::entry_line(c, i);
     let line = FileLine(k + 1);
     let read = directory_read::entry_at(file, k);
@@ -41,7 +46,7 @@ fn entry_check(
     let rule = directory_rules::entry_rules(fields);
     match rule {
         Err(fault) => Err(Refusal { fault, line }),
-        Ok(()) => Ok(reference_check(file, first, total, fields, line, kept)),
+        Ok(()) => Ok(reference_check(&all, fields, line, kept)),
     }
 }
 

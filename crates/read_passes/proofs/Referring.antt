@@ -5,7 +5,6 @@ use mathlib.Core.List.{List}
 use Prim.Native.Nat.{ℕ, ◌+◌, ◌-◌, ◌*◌, ◌/◌}
 use native.Mathlib.Nat.{sub-zero}
 use native.Mathlib.Omega.{arith}
-use borrow.Author.Tests.{not-true, not-false}
 use Rattle.columns.specs.declared.Fault.{Fault}
 use Rattle.columns.specs.declared.Fault.TheVariants.{Reference}
 use Rattle.columns.specs.declared.FileLine.{FileLine}
@@ -21,7 +20,6 @@ use Rattle.directory.specs.Lines.{entry_at, label_at}
 use Rattle.directory.specs.Rules.{all_fit, references, reference_rule}
 use Rattle.directory.specs.Asking.{rule_of}
 use Rattle.directory.specs.Naming.{types_at}
-use Rattle.directory.proofs.Asked.{asks_nothing, asks_class, rest_all, rest_on, rest_no, rest_done}
 use Rattle.model.specs.Read.{Listed, first_entry, entries_in, references_of, references_in}
 use Rattle.model.proofs.Types.{types-listed}
 use Rattle.std.specs.Prelude.{Err}
@@ -34,10 +32,6 @@ use Rattle.read_passes.specs.Walks.{or_else, first_among, turn_of, entry_check, 
 use Rattle.read_passes.proofs.Listing.{entries_are}
 use Rattle.read_passes.proofs.Walks.{row_walk, entries_walk, both_on, both_here, both_end, turn_wrong, turn_good, turn_refused}
 use Rattle.read_passes.proofs.Whole.{good_entries}
-
--- ---- one reference
-
-pub ruleset asks = (not-true, not-false, asks_nothing, asks_class, rest_all, rest_on, rest_no, rest_done)
 
 -- ---- those of one entry
 

@@ -9,7 +9,7 @@ use lib.ListN.{length, take, drop, length-drop}
 use lib.Seq.{drop-drop}
 use lib.Dec.{eqb}
 use borrow.Author.Tests.{eq-eqb, ne_eqb}
-use Rattle.std.proofs.Common.{Err, Ok}
+use Rattle.std.proofs.Common.{Err, Ok, Option, Some, None}
 use Rattle.columns.specs.Columns.{columns}
 use Rattle.sheets.specs.declared.SheetState.{SheetState}
 use Rattle.sheets.specs.Line.{run}
@@ -19,7 +19,7 @@ use Rattle.columns.specs.declared.SheetLine.{SheetLine}
 use Rattle.sheets.specs.declared.Said.{Said}
 use Rattle.sheets.specs.declared.Said.TheVariants.{Start, Global, Entry, Value as Given, Last, Nothing}
 use Rattle.sheets.specs.Sheet.{Line, start, global, entry, value, last, none, line_from, into, pieces_of, says_of, said_by, said_by_all, lines_in}
-use Rattle.sheets.specs.Order.{sheet_line, closed, value_step, none_step, step_line, finish, SheetStep}
+use Rattle.sheets.specs.Order.{sheet_line, closed, value_step, none_step, step_line, finish, SheetStep, rank, unless}
 use Rattle.sheets.specs.Reading.{step_said, piece_verdict}
 use Rattle.sheets.proofs.Plains.{run-here, run_on}
 use Rattle.sheets.proofs.Says.{pieces_lf, pieces_on, pieces_none, pieces_some, lines_more}
@@ -27,18 +27,18 @@ use Rattle.sheets.proofs.Takes.{start_inv, global_inv, entry_inv, value_inv, las
 
 -- ---- the end
 module _ (st : SheetState) where
-  pub finish_good : st.section ≡ 4 → Ok st.entries ≡ finish st
+  pub finish_good : rank st.section ≡ 4 → Ok st.entries ≡ finish st
   unfolding finish
   finish_good h = simp (eq-eqb _ _ h)
 
-  module _ (h : st.section ≡ 4 → ⊥) where
-    pub finish-run : (st.run.0 ≡ 0 → ⊥) → Err st.run ≡ finish st
+  module _ (h : rank st.section ≡ 4 → ⊥) where
+    pub finish-run : (w : SheetLine) → st.run ≡ Some w → Err w ≡ finish st
     unfolding finish closed
-    finish-run k = simp (ne_eqb _ _ h, ne_eqb _ _ k)
+    finish-run w k = simp (ne_eqb _ _ h, k)
 
-    pub finish_soon : st.run.0 ≡ 0 → Err (sheet_line (st.line + 1)) ≡ finish st
+    pub finish_soon : st.run ≡ None → Err (sheet_line (st.line + 1)) ≡ finish st
     unfolding finish closed
-    finish_soon k = simp (ne_eqb _ _ h, eq-eqb _ _ k)
+    finish_soon k = simp (ne_eqb _ _ h, k)
 
   module _ (b : Bool) (x : SheetStep) (q : x ≡ none_step st b) where
     pub piece-on : (y : SheetState) → x ≡ Ok y → Ok y.entries ≡ piece_verdict st b
@@ -72,11 +72,11 @@ pieces_whole (b ∷ bs) h = pick (ℕ_discrete b 10) (pieces_whole bs)
 pub none-off : (st : SheetState) (b : Bool) → (w : SheetLine) × (none_step st b ≡ Err w)
 unfolding none_step closed
 none-off st true = (sheet_line (st.line + 1), refl)
-none-off st false = pick (eqb st.run.0 0)
+none-off st false = pick st.run
   where
-    pick : (c : Bool) → (w : SheetLine) × ◌≡◌ {A = SheetStep} (cond c (Err (sheet_line (st.line + 1))) (Err st.run)) (Err w)
-    pick true = (sheet_line (st.line + 1), refl)
-    pick false = (st.run, refl)
+    pick : (r : Option SheetLine) → (w : SheetLine) × ◌≡◌ {A = SheetStep} (unless r (Err (sheet_line (st.line + 1)))) (Err w)
+    pick None = (sheet_line (st.line + 1), refl)
+    pick (Some w) = (w, refl)
 
 -- the step of a line by what was read of it
 pub step-said : (st : SheetState) (x : Said) (l : List ℕ) → step_said st x ≡ step_line st (line_from l x)

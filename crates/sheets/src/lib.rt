@@ -40,29 +40,25 @@ pub enum Said {
 }
 
 // The sections of a sheet in their order: no line yet, S, G, entries with their values, Z.
-pub const BEFORE_STARTS: u8 = 0;
-
-pub const IN_STARTS: u8 = 1;
-
-pub const IN_GLOBALS: u8 = 2;
-
-pub const IN_ENTRIES: u8 = 3;
-
-pub const AT_END: u8 = 4;
+#[derive(Clone, Copy, PartialEq, Eq, PartialOrd, Ord)]
+pub enum Section {
+    BeforeStarts,
+    Starts,
+    Globals,
+    Entries,
+    End,
+}
 
 // No G line yet: below the number of any.
 pub const NO_FIELD: u32 = 2;
 
-// The values end with no default so far: no line, for lines count from 1.
-pub const NO_RUN: usize = 0;
-
 // Where in the order of lines one stands: the section reached, the last G number, how many entries and lines there were, and the line of
-// the first of the defaults that the values end with so far.
+// the first of the defaults that the values end with so far, if they do.
 #[derive(Clone, Copy)]
 pub struct SheetState {
-    pub section: u8,
+    pub section: Section,
     pub field: u32,
     pub entries: usize,
-    pub run: SheetLine,
+    pub run: Option<SheetLine>,
     pub line: usize,
 }

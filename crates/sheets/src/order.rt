@@ -3,7 +3,7 @@ ghost use Rattle.std.specs.Prelude.{◌≡◌, ◌+◌, ◌*◌, ◌^◌, ◌≤
 ghost use Rattle.sheets.specs.Order.{start_step, global_step, entry_step, value_step, last_step, none_step, finish};
 ghost use Rattle.sheets.specs.Reading.{step_said, piece_verdict};
 
-use crate::{AT_END, IN_ENTRIES, IN_GLOBALS, IN_STARTS, NO_RUN, Said, SheetState};
+use crate::{Said, Section, SheetState};
 use columns::{SheetLine, Signed};
 use values::{Value, is_missing};
 
@@ -12,18 +12,17 @@ fn start_step(st: SheetState) -> Result<SheetState, SheetLine>
     requires { st.line < 2 ^ 63 }
     ensures { result ≡ start_step st }
 {
-    let run = st.run;
-    if run.0 != NO_RUN {
+    if let Some(run) = st.run {
         return Err(run);
     }
-    if IN_STARTS < st.section {
+    if Section::Starts < st.section {
         return Err(SheetLine(st.line + 1));
     }
     Ok(SheetState {
-        section: IN_STARTS,
+        section: Section::Starts,
         field: st.field,
         entries: st.entries,
-        run: SheetLine(NO_RUN),
+        run: None,
         line: st.line + 1,
     })
 }
@@ -34,24 +33,23 @@ fn global_step(st: SheetState, n: u32) -> Result<SheetState, SheetLine>
     requires { st.line < 2 ^ 63 }
     ensures { result ≡ global_step st n }
 {
-    let run = st.run;
-    if run.0 != NO_RUN {
+    if let Some(run) = st.run {
         return Err(run);
     }
-    if st.section < IN_STARTS {
+    if st.section < Section::Starts {
         return Err(SheetLine(st.line + 1));
     }
-    if IN_GLOBALS < st.section {
+    if Section::Globals < st.section {
         return Err(SheetLine(st.line + 1));
     }
     if n <= st.field {
         return Err(SheetLine(st.line + 1));
     }
     Ok(SheetState {
-        section: IN_GLOBALS,
+        section: Section::Globals,
         field: n,
         entries: st.entries,
-        run: SheetLine(NO_RUN),
+        run: None,
         line: st.line + 1,
     })
 }
@@ -63,14 +61,13 @@ fn entry_step(st: SheetState, x: Signed) -> Result<SheetState, SheetLine>
     requires entries_le_line { st.entries ≤ st.line }
     ensures { result ≡ entry_step st x }
 {
-    let run = st.run;
-    if run.0 != NO_RUN {
+    if let Some(run) = st.run {
         return Err(run);
     }
-    if st.section < IN_STARTS {
+    if st.section < Section::Starts {
         return Err(SheetLine(st.line + 1));
     }
-    if IN_ENTRIES < st.section {
+    if Section::Entries < st.section {
         return Err(SheetLine(st.line + 1));
     }
     if x.neg {
@@ -80,10 +77,10 @@ fn entry_step(st: SheetState, x: Signed) -> Result<SheetState, SheetLine>
         return Err(SheetLine(st.line + 1));
     }
     Ok(SheetState {
-        section: IN_ENTRIES,
+        section: Section::Entries,
         field: st.field,
         entries: st.entries + 1,
-        run: SheetLine(NO_RUN),
+        run: None,
         line: st.line + 1,
     })
 }
@@ -94,34 +91,25 @@ pub fn value_step(st: SheetState, default: bool) -> Result<SheetState, SheetLine
     requires { st.line < 2 ^ 63 }
     ensures { result ≡ value_step st default }
 {
-    let run = st.run;
     let line = st.line + 1;
-    if st.section != IN_ENTRIES {
+    if st.section != Section::Entries {
         return Err(SheetLine(line));
     }
     if default {
-        if run.0 == NO_RUN {
-            return Ok(SheetState {
-                section: IN_ENTRIES,
-                field: st.field,
-                entries: st.entries,
-                run: SheetLine(line),
-                line,
-            });
-        }
+        let first = st.run.unwrap_or(SheetLine(line));
         return Ok(SheetState {
-            section: IN_ENTRIES,
+            section: Section::Entries,
             field: st.field,
             entries: st.entries,
-            run,
+            run: Some(first),
             line,
         });
     }
     Ok(SheetState {
-        section: IN_ENTRIES,
+        section: Section::Entries,
         field: st.field,
         entries: st.entries,
-        run: SheetLine(NO_RUN),
+        run: None,
         line,
     })
 }
@@ -132,24 +120,23 @@ fn last_step(st: SheetState, n: usize) -> Result<SheetState, SheetLine>
     requires { st.line < 2 ^ 63 }
     ensures { result ≡ last_step st n }
 {
-    let run = st.run;
-    if run.0 != NO_RUN {
+    if let Some(run) = st.run {
         return Err(run);
     }
-    if st.section < IN_STARTS {
+    if st.section < Section::Starts {
         return Err(SheetLine(st.line + 1));
     }
-    if IN_ENTRIES < st.section {
+    if Section::Entries < st.section {
         return Err(SheetLine(st.line + 1));
     }
     if n != st.entries {
         return Err(SheetLine(st.line + 1));
     }
     Ok(SheetState {
-        section: AT_END,
+        section: Section::End,
         field: st.field,
         entries: st.entries,
-        run: SheetLine(NO_RUN),
+        run: None,
         line: st.line + 1,
     })
 }
@@ -163,8 +150,7 @@ fn none_step(st: SheetState, b: bool) -> Result<SheetState, SheetLine>
     if b {
         return Err(SheetLine(line));
     }
-    let run = st.run;
-    if run.0 != NO_RUN {
+    if let Some(run) = st.run {
         return Err(run);
     }
     Err(SheetLine(line))
@@ -193,11 +179,10 @@ pub fn finish_of(st: SheetState) -> Result<usize, SheetLine>
     requires { st.line < 2 ^ 63 }
     ensures { result ≡ finish st }
 {
-    if st.section == AT_END {
+    if st.section == Section::End {
         return Ok(st.entries);
     }
-    let run = st.run;
-    if run.0 != NO_RUN {
+    if let Some(run) = st.run {
         return Err(run);
     }
     Err(SheetLine(st.line + 1))

@@ -16,7 +16,7 @@ use columns::SheetLine;
 use columns::format::OPENING_COLUMNS;
 use file_canonical::Tally;
 use file_tally::{behind_value, tally_said, with_values};
-use sheets::{BEFORE_STARTS, NO_FIELD, NO_RUN, SheetState, order};
+use sheets::{NO_FIELD, Section, SheetState, order};
 use sheets_read::{end_of, is_mark, is_value, line_at, strict_at};
 use values::is_missing;
 use write_lines::SheetPass;
@@ -25,10 +25,10 @@ use write_lines::table::keep;
 
 // Before the first line.
 const BEGIN: SheetState = SheetState {
-    section: BEFORE_STARTS,
+    section: Section::BeforeStarts,
     field: NO_FIELD,
     entries: 0,
-    run: SheetLine(NO_RUN),
+    run: None,
     line: 0,
 };
 

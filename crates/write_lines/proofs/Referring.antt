@@ -3,23 +3,19 @@ use mathlib.Core.Path.{◌≡◌}
 use mathlib.Core.Bool.{Bool, true, false}
 use mathlib.Core.List.{List}
 use Prim.Native.Nat.{ℕ}
-use borrow.Author.Tests.{not-true, not-false}
 use Rattle.std.proofs.Common.{Ok, Err}
 use Rattle.columns.specs.Refusal.{refusal_at}
 use Rattle.columns.specs.declared.Fault.TheVariants.{Reference}
 use Rattle.columns.specs.declared.Signed.{Signed}
-use Rattle.references.specs.References.{fits}
+use Rattle.references.specs.References.{fits, class_at}
 use Rattle.directory.specs.declared.Fields.{Fields}
 use Rattle.directory.specs.declared.Entry.{Entry}
 use Rattle.directory.specs.declared.Wanted.{Wanted}
 use Rattle.directory.specs.Fields.{entry_of}
 use Rattle.directory.specs.Rules.{all_fit, references, reference_rule}
-use Rattle.directory.specs.Asking.{asks_ok}
-use Rattle.directory.proofs.Asked.{asks_nothing, asks_class, rest_all, rest_on, rest_no, rest_done}
 use Rattle.sheets.specs.declared.Said.{Said}
 use Rattle.sheets.specs.declared.Said.TheVariants.{Entry as EntryLine}
 use Rattle.sheets.specs.Order.{sheet_line}
-use Rattle.std.specs.Prelude.{Option, Some}
 use Rattle.write_lines.specs.Heads.{said_references}
 use Rattle.write_lines.specs.Classes.{sheet_types, some_at, Tabled}
 use Rattle.write_lines.proofs.Tables.{number_some}
@@ -28,11 +24,9 @@ use Rattle.write_lines.proofs.Others.{references-other}
 -- ---- one reference
 
 -- where no type is asked for
-pub asks_some : (classes : List ℕ) (n : ℕ) (t : List ℕ) (o : Option Wanted) (w : Wanted) → Tabled classes n t → o ≡ Some w → w.want ≡ 0 → (class : ℕ) (r : Bool) → class ≡ some_at n w.number.0 → r ≡ fits w.want class
-    → r ≡ asks_ok (sheet_types t) o
-asks_some classes n t o w tab e z class r ec er = rw (e, er, z, ec) (number_some classes n t w.number.0 tab)
-
-pub ruleset asks = (not-true, not-false, asks_nothing, asks_some, asks_class, rest_all, rest_on, rest_no, rest_done)
+pub asks_some : (classes : List ℕ) (n : ℕ) (t : List ℕ) (w : Wanted) → Tabled classes n t → w.want ≡ 0 → (class : ℕ) (r : Bool) → class ≡ some_at n w.number.0 → r ≡ fits w.want class
+    → r ≡ fits w.want (class_at (sheet_types t) w.number.0)
+asks_some classes n t w tab z class r ec er = rw (er, z, ec) (number_some classes n t w.number.0 tab)
 
 -- ---- one entry
 

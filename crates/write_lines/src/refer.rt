@@ -1,7 +1,5 @@
 // What the entries of a sheet name: an entry of it, of the type wanted (10).
 ghost use Rattle.std.specs.Prelude.{◌≡◌, ◌+◌, ◌≤◌, length};
-ghost use Rattle.directory.specs.Rules.{all_fit, references};
-ghost use Rattle.directory.specs.Asking.{asks_ok};
 ghost use Rattle.write_lines.specs.Heads.{said_references};
 ghost use Rattle.write_lines.specs.Classes.{sheet_types, Tabled};
 ghost use Rattle.write_lines.specs.Passes.{references_from};
@@ -10,43 +8,33 @@ use crate::SheetPass;
 use crate::heads::head_at;
 use crate::table::{class_at, some_at};
 use columns::{Fault, Refusal, SheetLine};
-use directory::{Entry, Wanted};
+use directory::Wanted;
+use directory::entries::Entries;
 use references::ANY;
 use sheets::Said;
 use sheets_read::end_of;
 
-// How many references an entry may have.
-const REFERENCES: usize = 7;
-
-// Whether what is asked, if it is, names such an entry.
-#[tactic(auto, using(crate::proofs::Referring::asks))]
-fn asks_ok(classes: &[u8], n: usize, t: &[u8], w: Option<Wanted>) -> bool
-    requires { Tabled classes.now n t.now }
-    ensures { result ≡ asks_ok (sheet_types t.now) w }
-{
-    let Some(w) = w else {
-        return true;
-    };
-    if w.want == ANY {
-        let class = some_at(n, w.number);
-        return references::fits(w.want, class);
-    }
-    let class = class_at(classes, n, t, w.number);
-    references::fits(w.want, class)
+// The entries of a sheet: so many, with the table of their classes.
+#[derive(Clone, Copy)]
+pub struct Classes<'t> {
+    pub classes: &'t [u8],
+    pub n: usize,
+    pub t: &'t [u8],
+    ghost tabled: { Tabled classes.now n t.now },
 }
 
-// Whether all references of an entry do.
-fn all_ask_ok(classes: &[u8], n: usize, t: &[u8], e: Entry) -> bool
-    requires { Tabled classes.now n t.now }
-    ensures { result ≡ all_fit (sheet_types t.now) (references e) }
-{
-    for j in 0..REFERENCES {
-        let w = directory_rules::wanted(e, j);
-        if !asks_ok(classes, n, t, w) {
-            return false;
+impl<'t> Entries for Classes<'t> {
+    ghost types = { λ c. sheet_types c.t.now };
+
+    #[tactic(auto, using(crate::proofs::Referring::asks_some))]
+    fn meet(&self, wanted: Wanted) -> bool {
+        if wanted.want == ANY {
+            let class = some_at(self.n, wanted.number);
+            return references::fits(wanted.want, class);
         }
+        let class = class_at(self.classes, self.n, self.t, wanted.number);
+        references::fits(wanted.want, class)
     }
-    true
 }
 
 // What a line says, at its place.
@@ -59,7 +47,7 @@ pub fn reference_of(classes: &[u8], n: usize, t: &[u8], said: Said, line: SheetL
         return Ok(());
     };
     let e = directory_rules::entry_of(fields);
-    if all_ask_ok(classes, n, t, e) {
+    if directory_rules::all_ask_ok(&Classes { classes, n, t }, e) {
         return Ok(());
     }
     Err(Refusal {
