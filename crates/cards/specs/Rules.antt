@@ -1,5 +1,6 @@
 -- The rules of lines with no order in them: what every line of a file is, given the counts.
-use Rattle.std.specs.Prelude.{ℕ, ◌+◌, ◌-◌, ◌*◌, ◌%◌, ◌≤◌, ◌<◌, ◌≡◌, true, cond, List, length, get_or, ltb, Ok, Err}
+use Rattle.std.specs.Prelude.{ℕ, ◌+◌, ◌-◌, ◌*◌, ◌%◌, ◌≤◌, ◌<◌, ◌≡◌}
+use Rattle.std.specs.Prelude.{true, cond, List, length, get_or, ltb, Ok, Err}
 use Rattle.columns.specs.Columns.{line_at}
 use Rattle.columns.specs.Format.{line_bytes, text_columns, most_lines}
 use Rattle.columns.specs.Letters.{letter_d, letter_g, letter_p, letter_s, letter_t}

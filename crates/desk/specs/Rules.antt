@@ -23,8 +23,8 @@ use Rattle.model.specs.Read.{global_text}
 -- a text in lines of w columns spells these values from position p on, parted by c, and the record that d closes ends at end
 pub data Spells (w c d : ℕ) (t : List ℕ) : ℕ → List Item → ℕ → Type 0 where
   closing : {p s end : ℕ} {v : Value} → value_at w c d t p ≡ found_at v s end true → Spells w c d t p (item_of t v ∷ []) end
-  parted : {p s next end : ℕ} {v : Value} {vs : List Item} → value_at w c d t p ≡ found_at v s next false → Spells w c d t next vs end
-      → Spells w c d t p (item_of t v ∷ vs) end
+  parted : {p s next end : ℕ} {v : Value} {vs : List Item} → value_at w c d t p ≡ found_at v s next false
+      → Spells w c d t next vs end → Spells w c d t p (item_of t v ∷ vs) end
 
 -- the Global section opens with these delimiters and spells these fields; later columns are blank
 pub data GlobalIs (t : List ℕ) (c d : ℕ) : List Item → Type 0 where

@@ -1,6 +1,7 @@
 // Directory entries: the numbers of two D lines, what they mean, and what rules 9, 13 and 10 ask of them.
-// `order` has the numbers' order, `lines` their places on the two lines. Crate `directory_rules` says what the numbers mean and asks the
-// rules, `directory_read` reads the two lines, `directory_lay` lays them, `directory_lookup` looks up what a directory number names.
+// `order` has the numbers' order, `lines` their places on the two lines, `entries` what a reference may name. Crate `directory_rules` says
+// what the numbers mean and asks the rules, `directory_read` reads the two lines, `directory_lay` lays them, `directory_lookup` looks up
+// what a directory number names.
 #![tactic(auto)]
 
 pub mod entries;

@@ -93,7 +93,7 @@ fn onward_of(s: LayoutState) -> LayoutState
     }
 }
 
-// The state with so many left, made field by field: so its fields are kept apart, and a step needs no copy of the whole.
+// The state with so many left: a new one, so that its fields are kept apart and a step needs no copy of the whole.
 pub fn with_left(s: LayoutState, left: u64) -> LayoutState
     ensures { result ≡ stand s s.at left }
 {

@@ -1,5 +1,6 @@
 -- The code's form: how printing goes through a record's values: what it meets, and what it needs and leaves at a value that is given.
-use Rattle.std.specs.Prelude.{◌≡◌, true, List, [], ◌∷◌, ℕ, ◌+◌, ◌*◌, ◌^◌, ◌≤◌, ◌<◌, length, Option, Ok, Err}
+use Rattle.std.specs.Prelude.{ℕ, ◌+◌, ◌*◌, ◌^◌, ◌≤◌, ◌<◌, ◌≡◌}
+use Rattle.std.specs.Prelude.{true, List, [], ◌∷◌, length, Option, Ok, Err}
 use Rattle.columns.specs.Columns.{text_of}
 use Rattle.columns.specs.Laid.{Wrote}
 use Rattle.columns.specs.Format.{line_bytes, parameter_columns}

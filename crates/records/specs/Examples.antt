@@ -86,7 +86,8 @@ globals =
 pub record Examples : Type 0 where
   pub read : map (λ (e : ℕ × String × Values). values_at e.0 44 59 (codes e.1) 0) records
       ≡ map (λ (e : ℕ × String × Values). e.2) records
-  pub opened : map (λ (e : String × Option Opening). opening_of (codes e.0)) openings ≡ map (λ (e : String × Option Opening). e.1) openings
+  pub opened : map (λ (e : String × Option Opening). opening_of (codes e.0)) openings
+      ≡ map (λ (e : String × Option Opening). e.1) openings
   pub fit : map (λ (e : ℕ × Item × Bool). global_fits e.0 (seen e.1)) globals ≡ map (λ (e : ℕ × Item × Bool). e.2) globals
   -- a value that has no room goes to the next line, and so does a count with its H and first character; a string's text flows on
   pub written : in_lines 8

@@ -152,7 +152,7 @@ fn find_each(s: &[u8], c: u8, at: usize, end: usize) -> usize
     }
 }
 
-// Where the first c from `at` up to `end` stands, or `end`: four bytes a turn, so that the end is asked for less often. A loop by hand, since
+// Where the first c from `at` up to `end` stands, or `end`: four bytes a turn, so that the end is asked for less often. A loop by hand:
 // it is in every line of a sheet, and its fields are so short that a search of std or of wider words costs more to set up than it saves.
 pub fn find(s: &[u8], c: u8, at: usize, end: usize) -> usize
     requires at_le_end { at ≤ end }
