@@ -125,7 +125,7 @@ spelt_as x type² from count =
     cond (is_same x.entity type² && (positive from && positive count))
     (Some (spelt_entry x (parameter_line (size_of from)) (size_of count))) None
 
--- all of it, or a wrong field
+-- all of it; none if a field is misspelt
 abbrev pub spelt : Numbers → Option Signed → Option Signed → Option Signed → Option Spelt
 spelt misspelt type² from count = None
 spelt (numbers ns) type² from count = spelt_as (fields_of ns) type² from count

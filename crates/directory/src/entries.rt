@@ -9,7 +9,7 @@ pub trait Entries {
     // Their types.
     ghost types: { Self → List ℕ };
 
-    // Whether the number that is asked about names such an entry.
+    // Whether the number wanted names one of them, of the class wanted.
     fn meet(&self, wanted: Wanted) -> bool
         ensures { result ≡ fits wanted.want (class_at (types self.now) wanted.number.0) };
 }

@@ -6,7 +6,6 @@ mod entries;
 pub mod file;
 mod starts;
 
-use cards::Counts;
 use columns::ParameterLine;
 
 // What the lines of a sheet so far come to: S lines; the position behind the G record's last value, and that value's field; D lines, and

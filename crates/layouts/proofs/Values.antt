@@ -6,15 +6,21 @@ use native.Mathlib.Nat.{le_trans, mul-le-mul_left, mul-le-mul_right}
 use native.Mathlib.Omega.{arith}
 use mir.Syntax.{w64}
 use mir.Val.{Fits}
-use lib.Dec.{leb}
+use lib.Dec.{leb, ltb}
 use borrow.Author.Tests.{leb-true}
 use Rattle.values.specs.declared.Value.{Value}
 use Rattle.values.specs.declared.Value.TheVariants.{Default, Whole, Real, Text}
-use Rattle.layouts.specs.Machine.{within, size}
+use Rattle.layouts.specs.Machine.{above, within, size}
 
 and_right : (a b : Bool) → (a && b) ≡ true → b ≡ true
 and_right true b e = e
 and_right false b e = absurd (false≢true e)
+
+pub above-minus : (v : Value) (neg : Bool) (n : ℕ) → v ≡ Whole neg n → neg ≡ true → false ≡ above v
+above-minus v neg n p q = rw (p, q)
+
+pub above_whole : (v : Value) (neg : Bool) (n : ℕ) → v ≡ Whole neg n → neg ≡ false → ltb 0 n ≡ above v
+above_whole v neg n p q = rw (p, q)
 
 product : (a b : ℕ) → a < 2 ^ 32 → b < 2 ^ 16 → (a + 1) * (b + 1) ≤ 2 ^ 48
 product a b h k =

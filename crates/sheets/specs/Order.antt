@@ -17,7 +17,7 @@ sheet_line n = record { 0 = n }
 
 -- ---- the state: how far the lines have come
 
--- its section: no line yet, or that of the last line; they come in this order: S, G, the entries with their values, Z
+-- its section is that of the last line, before S where there is none yet; this is their order: S, G, the entries with their values, Z
 abbrev pub rank : Section → ℕ
 rank BeforeStarts = 0
 rank Starts = 1
@@ -29,7 +29,7 @@ rank End = 4
 abbrev pub no_field : ℕ
 no_field = first_field - 1
 
--- its run is the line of the first of the defaults that the values end with so far, if they do; there are so many entries and lines so far
+-- its run is the line of the first of the defaults that the values end with so far, if they do; no entry and no line has come yet
 abbrev pub begin : SheetState
 begin = record { section = BeforeStarts; field = no_field; entries = 0; run = None; line = 0 }
 

@@ -57,7 +57,7 @@ fn passes(list: u64, classes: &[u8], n: usize, t: &[u8], first: SheetPass) -> Sh
     write_entities::named_rules(list, classes, n, t)
 }
 
-// All checks of a sheet under a list; or its first refusal.
+// All checks of a sheet under a list: what it tells if it passes them, or its first refusal.
 #[tactic(auto, using(crate::proofs::Checking::checks, crate::proofs::Walking::walked))]
 pub fn check(list: u64, t: &[u8]) -> Result<Ruled, Refusal<SheetLine>>
     ensures { result ≡ ruled_of list t.now }

@@ -165,7 +165,6 @@ fn near(t: &[u8], from: usize, stop: usize, number: DirectoryNumber) -> usize
     // A library's search halves the indices of a slice; here the halves are bytes, and the place of an entry is found from each.
     let mut low = from;
     let mut high = stop;
-    // Halves of bytes, not of a list: which entry stands at a half is seen there alone.
     while 256 < high - low {
         let mid = low + (high - low) / 2;
         let found = entry_behind(t, mid, high);
@@ -192,7 +191,6 @@ fn walk_to(t: &[u8], from: usize, stop: usize, number: DirectoryNumber) -> usize
 {
     // From entry to entry: how far a turn goes is found on it, so that no range gives the places.
     let mut at = entry_behind(t, from, stop);
-    // From entry to entry.
     while at < stop {
         let shown = number_at(t, at);
         if number <= shown {

@@ -65,7 +65,6 @@ fn class_past(t: &[u8], i: usize) -> u8
     let n = t.len();
     let mut at = 0;
     let mut left = i;
-    // From line to line: each is told by where the one before ends.
     while at < n {
         let end = end_of(t, at);
         if end == n {
