@@ -83,6 +83,16 @@ module _ (m : ℕ) {r : Option Opening} {o : Opening} (e : r ≡ Some o) (h : De
   pub opening_in : o.next ≤ m
   opening_in = parts.3
 
+-- ---- what a field is
+
+kind_default : (k : GlobalKind) (n : ℕ) → true ≡ is_kind k n Default
+kind_default String n = refl
+kind_default RealKind n = refl
+kind_default Integer n = refl
+
+pub is_default_lem : (n : ℕ) (k : GlobalKind) {v : Value} → v ≡ Default → true ≡ is_kind k n v
+is_default_lem n k e = rw e (kind_default k n)
+
 -- ---- a field asks nothing of a string but that it is one
 
 kind-seen : (t : List ℕ) (k : GlobalKind) (n : ℕ) (v : Value) → is_kind k n v ≡ is_kind k n (seen (item_of t v))
