@@ -53,6 +53,9 @@ laid_empty at bs = none (laid [] at bs) (length-laid [] at bs)
 pub wrote_more : {o o' o'' : List ℕ} {at r r' : ℕ} (s : List ℕ) (i : ℕ) → Wrote o at (take i s) o' r → i < length s → Wrote o' r (get_or s i 0 ∷ []) o'' r' → Wrote o at (take (i + 1) s) o'' r'
 wrote_more s i p h q = rw (add-one, take-suc s i 0 h) (then p q)
 
+pub wrote_all : {o o' : List ℕ} {at r : ℕ} (s : List ℕ) (i : ℕ) → Wrote o at (take i s) o' r → length s ≤ i → Wrote o at s o' r
+wrote_all s i p h = rw (take_all i s h) at p
+
 -- a run of one byte: one more
 pub run_more : {o o' o'' : List ℕ} {at r r' b : ℕ} (i : ℕ) → Wrote o at (replicate i b) o' r → Wrote o' r (b ∷ []) o'' r' → Wrote o at (replicate (i + 1) b) o'' r'
 run_more {b = b} i p q = rw (← replicate-append-replicate i 1 b) (then p q)
@@ -106,7 +109,21 @@ part_filled o at last b count h e p q =
       next = rw r;
     }
 
-pub ruleset copies = (all_past, part_copied)
+-- a store for each byte: none, and one more
+pub wrote_start : {o : List ℕ} {at : ℕ} → Wrote o at [] o (at + 0)
+wrote_start {o} {at} = record { bytes = sym (laid_nil o at); next = refl }
+
+pub copy_more : {o o' : List ℕ} {at : ℕ} (s : List ℕ) (i : ℕ) → Wrote o at (take i s) o' (at + i) → i < length s → Wrote o at (take (i + 1) s) (set o' (at + i) (get_or s i 0)) (at + (i + 1))
+copy_more {o} {o'} {at} s i p h = wrote_more s i p h (wrote_one o' (at + i) (get_or s i 0) (at + (i + 1)) (omega arith))
+
+pub copy_all : {o o' : List ℕ} {at : ℕ} (s : List ℕ) (i : ℕ) → Wrote o at (take i s) o' (at + i) → i ≤ length s → length s ≤ i → Wrote o at s o' (at + length s)
+copy_all {o} {o'} {at} s i p k h =
+    let e : length s ≡ i = omega arith in
+    rw e (wrote_all s i p h)
+
+pub ruleset copies = (all_past, wrote_start, copy_more, copy_all)
+
+pub ruleset clips = (wrote_none, wrote_more, wrote_all, wrote_length)
 
 -- a store behind what is laid can come first
 pub laid-before : (o : List ℕ) (at : ℕ) (a : List ℕ) (j b : ℕ) → at + length a ≤ j → laid (set o j b) at a ≡ set (laid o at a) j b

@@ -19,7 +19,22 @@ pub fn put(out: &mut [u8], at: usize, b: u8) -> usize
     next
 }
 
-// Writes all of s, as far as there is room: nothing is asked of a byte, past the end nothing is laid.
+// Writes all of s, byte by byte.
+#[tactic(auto, using(columns::proofs::Writes::clips))]
+fn put_all_clipped(out: &mut [u8], at: usize, s: &[u8]) -> usize
+    requires { at < 2 ^ 62 }
+    ensures wrote { Wrote out.old at s.now out.new result }
+    ensures value { result ≡ at + length s.now }
+{
+    let mut next = at;
+    for b in s {
+        next = put(out, next, *b);
+    }
+    next
+}
+
+// Writes all of s: where there is room nothing is asked of a byte, past the end nothing is laid. A copy of slices, or one loop for both
+// cases, would be a call of memmove or memcpy, which the archive would then need from outside.
 #[tactic(auto, using(columns::proofs::Writes::copies))]
 pub fn put_all(out: &mut [u8], at: usize, s: &[u8]) -> usize
     requires { at < 2 ^ 62 }
@@ -30,8 +45,12 @@ pub fn put_all(out: &mut [u8], at: usize, s: &[u8]) -> usize
     if out.len() <= at {
         return end;
     }
-    let last = end.min(out.len());
-    out[at..last].copy_from_slice(&s[..last - at]);
+    if out.len() < end {
+        return put_all_clipped(out, at, s);
+    }
+    for i in 0..s.len() {
+        out[at + i] = s[i];
+    }
     end
 }
 
