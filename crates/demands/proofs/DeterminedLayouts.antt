@@ -60,7 +60,7 @@ pub machine_step : NoSecond machine-step-kinds.ps machine-step-kinds.r machine-s
 machine_step κs a z z' left left' p q = (once p q, refl)
 
 pub machine_end : NoSecond machine-end-kinds.ps machine-end-kinds.r machine-end-reads.Post
-machine_end κs a z z' left left' p q = (once p q, refl)
+machine_end κs a z z' left left' p q = (once p.0 q.0, refl)
 
 pub machine_start : NoSecond machine-start-kinds.ps machine-start-kinds.r machine-start-reads.Post
 machine_start κs a z z' left left' p q = (once p q, refl)

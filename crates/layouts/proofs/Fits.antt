@@ -14,7 +14,7 @@ use Rattle.values.specs.Value.{Item, default, seen}
 use Rattle.layouts.specs.declared.LayoutPlace.{LayoutPlace}
 use Rattle.std.specs.Prelude.{Ok, Err}
 use Rattle.columns.specs.declared.Fault.TheVariants.{Layout, LayoutReference}
-use Rattle.layouts.specs.Verdict.{Verdict}
+use Rattle.layouts.specs.Verdict.{Verdict, OfLayout}
 use Rattle.layouts.specs.Layout.{groups}
 use Rattle.layouts.specs.Known.{known}
 use Rattle.layouts.specs.Fits.{Ask, nothing, suits, refers_well, Counts, none, counted, many, ask, value_at, Asks, close, spelled, places_of, asked, ask_at, Fits, Fails, Refers, Misrefers, Keeps}
@@ -105,6 +105,16 @@ module _ (types : List ℕ) (e : Entity) where
 
   abbrev all_refer : Bool
   all_refer = everywhere (refers_well types) (asked e) e.values
+
+  told_of_layout : (a b : Bool) → OfLayout (told a b)
+  told_of_layout true true = tt
+  told_of_layout true false = (omega arith, omega arith)
+  told_of_layout false b = (omega arith, omega arith)
+
+  -- no refusal but 14 and 15
+  pub of_layout : OfLayout (verdict types e)
+  unfolding verdict
+  of_layout = told_of_layout all_suit all_refer
 
   -- accepted exactly if the values fit the row and every reference is good
   pub good_iff : verdict types e ≡ Ok tt ↔ (Fits e × Refers types e)

@@ -16,7 +16,7 @@ use Rattle.values.specs.Value.{is_missing}
 use Rattle.layouts.specs.declared.LayoutState.{LayoutState}
 use Rattle.std.specs.Prelude.{Option, Some, None, Err}
 use Rattle.columns.specs.declared.Fault.TheVariants.{Layout}
-use Rattle.layouts.specs.Verdict.{Verdict}
+use Rattle.layouts.specs.Verdict.{Verdict, OfLayout}
 use Rattle.layouts.specs.Layout.{most_upper, paper, bit_of}
 use Rattle.layouts.specs.Table.{place_at, starts, start_of}
 use Rattle.layouts.specs.Machine.{fresh, start, numeric, above, text, need, refer, takes, settle, onward, rests, moved, step, closed, after, finish, end, within, size, with_k1, with_k2, with_m1, with_m2, with_bad, stand, follow, enter, beyond, reals, kind_at, runs_on}
@@ -268,7 +268,12 @@ pub end_is : (s : LayoutState) → end s ≡ finish 16 s
 unfolding end
 end_is s = refl
 
-pub ruleset ends = (end_bad, end_rest, end_go, end_none, end_is)
+-- no refusal but 14 and 15
+pub closed_of_layout : (r : Verdict) (b : Bool) → r ≡ closed b → OfLayout r
+closed_of_layout r true e = rw e (omega arith, omega arith)
+closed_of_layout r false e = rw e tt
+
+pub ruleset ends = (end_bad, end_rest, end_go, end_none, end_is, closed_of_layout)
 
 pub started : (typ form b i : ℕ) (r : LayoutState) → b ≡ bit_of typ form → i ≡ start_of b → r ≡ enter (stand fresh i 0) → r ≡ start typ form
 unfolding start

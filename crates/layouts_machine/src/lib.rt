@@ -6,6 +6,7 @@ ghost use Rattle.layouts.specs.Table.{place_at, start_of};
 ghost use Rattle.layouts.specs.Machine.{times, follow, enter, beyond, settle, onward, step, closed, end, start};
 ghost use Rattle.layouts.specs.Machine.{reals, refers, kind_at, stand, runs_on};
 ghost use Rattle.layouts.specs.Coded.{told};
+ghost use Rattle.layouts.specs.Verdict.{OfLayout};
 
 use columns::Fault;
 use layouts::{LayoutState, Then, Times};
@@ -190,7 +191,8 @@ fn closed_of(bad: bool) -> Result<(), Fault>
 // No value more: what is missing is a default. The refusal is 14 or 15.
 #[tactic(auto, using(layouts::proofs::Steps::ends))]
 pub fn end(s: LayoutState) -> Result<(), Fault>
-    ensures { result ≡ end s }
+    ensures value { result ≡ end s }
+    ensures of_layout { OfLayout result }
 {
     let mut t = s;
     for _ in 0..16_usize {
