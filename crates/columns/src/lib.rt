@@ -95,14 +95,14 @@ pub fn wide(x: u32) -> usize
     x as usize
 }
 
-// A byte as a number of 32 bits: a digit that is added up. Code may as well write `u32::from`; `demands` has a theorem on this name.
+// A byte as a number of 32 bits: a digit that is added up. `demands` has a theorem on this function, so digits are read by it.
 pub fn byte_u32(b: u8) -> u32
     ensures { (result ≡ b) × (result < 256) }
 {
     u32::from(b)
 }
 
-// The same of 64 bits, for numbers of many digits: `u64::from`, which code writes; `demands` has a theorem on this name.
+// The same of 64 bits, for numbers of many digits.
 pub fn byte_u64(b: u8) -> u64
     ensures { (result ≡ b) × (result < 256) }
 {

@@ -7,8 +7,8 @@ ghost use Rattle.columns.specs.Letters.{tab};
 ghost use Rattle.sheets.specs.Line.{run};
 ghost use Rattle.sheets.specs.Folds.{unread, digit_after, size_from, minus_of, signed_fold, status_from, entry_fold};
 
-use columns::Signed;
 use columns::format::MOST_INTEGER_WIDE;
+use columns::{Signed, byte_u32, byte_u64};
 
 // Past the largest number one says that the text is misspelt, and one that nothing was read yet.
 const MISSPELT: u64 = 2147483648;
@@ -35,12 +35,12 @@ fn add_digit(n: u64, b: u8) -> u64
         return MISSPELT;
     }
     if n == UNREAD {
-        return u64::from(b - b'0');
+        return byte_u64(b - b'0');
     }
     if n == 0 {
         return MISSPELT;
     }
-    let m = n * 10 + u64::from(b - b'0');
+    let m = n * 10 + byte_u64(b - b'0');
     if MOST_INTEGER_WIDE < m {
         return MISSPELT;
     }
@@ -218,7 +218,7 @@ pub fn tabbed_at(s: &[u8], left: usize, at: usize, end: usize) -> Tabbed
     }
     let number = Signed {
         neg: false,
-        size: u32::from(b - b'0'),
+        size: byte_u32(b - b'0'),
     };
     Tabbed {
         number,

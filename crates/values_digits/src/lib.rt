@@ -5,6 +5,7 @@ ghost use Rattle.std.specs.Prelude.{◌≡◌, ◌+◌, ◌-◌, ◌*◌, ◌^�
 ghost use Rattle.columns.specs.Letters.{digit0, digit9};
 ghost use Rattle.values.specs.Reading.{more, scan, cap_run, Small};
 
+use columns::byte_u64;
 use values::Run;
 
 // Numbers past seventeen digits are all alike.
@@ -50,7 +51,7 @@ fn more_of(r: Run, c: u8) -> Run
     requires small { Small r }
     ensures { result ≡ cap_run (more r c) }
 {
-    run_of(r, c, cap(r.value * 10 + (u64::from(c) - 48)))
+    run_of(r, c, cap(r.value * 10 + (byte_u64(c) - 48)))
 }
 
 // One more digit, where there is no need of the cap.
@@ -62,7 +63,7 @@ fn few_of(r: Run, c: u8) -> Run
     requires value_bound { r.value < 10 ^ 16 }
     ensures { result ≡ cap_run (more r c) }
 {
-    run_of(r, c, r.value * 10 + (u64::from(c) - 48))
+    run_of(r, c, r.value * 10 + (byte_u64(c) - 48))
 }
 
 // The digits from i on, after those of r, which may be many.

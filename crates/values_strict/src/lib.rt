@@ -10,7 +10,7 @@ ghost use Rattle.values.specs.Direct.{decimal, is_whole, is_nought, is_normal, a
 ghost use Rattle.values.specs.Direct.{behind_count};
 
 use columns::format::MOST_INTEGER_WIDE;
-use columns::look;
+use columns::{byte_u64, look};
 use values::{Decimal, Value};
 
 // Where digits are read to: a number has seventeen at most, and the text ends at n.
@@ -35,7 +35,7 @@ fn decimal_at(l: &[u8], at: usize) -> Decimal
     if b'9' < c {
         return Decimal { value: 0, end: at };
     }
-    let mut v = u64::from(c - b'0');
+    let mut v = byte_u64(c - b'0');
     if c == b'0' {
         return Decimal {
             value: 0,
@@ -51,7 +51,7 @@ fn decimal_at(l: &[u8], at: usize) -> Decimal
         if b'9' < d {
             return Decimal { value: v, end: k };
         }
-        v = v * 10 + u64::from(d - b'0');
+        v = v * 10 + byte_u64(d - b'0');
     }
     Decimal {
         value: v,
