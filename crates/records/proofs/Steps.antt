@@ -96,6 +96,20 @@ pub check_start : (vs : Values) → check_from 0 0 vs ≡ checked vs
 check_start (values vs end) = ap₂ (λ (a b : ℕ). done_at a b end) (zero-add (length vs)) (kept_all (trimmed vs))
 check_start (wrong fault s at) = refl
 
+-- how many values are kept, by what the next one is
+module _ {v : Value} (k n : ℕ) where
+  pub after_default : v ≡ Default → k ≡ kept_after v k n
+  after_default e = rw e
+
+  pub after_whole : {neg : Bool} {size : ℕ} → v ≡ Whole neg size → n ≡ kept_after v k n
+  after_whole e = rw e
+
+  pub after_real : {neg : Bool} {m : ℕ} {eneg : Bool} {e : ℕ} {double : Bool} → v ≡ Real neg m eneg e double → n ≡ kept_after v k n
+  after_real e = rw e
+
+  pub after_text : {start count : ℕ} → v ≡ Text start count → n ≡ kept_after v k n
+  after_text e = rw e
+
 module _ {file : List ℕ} {base w lines : ℕ} (st : Stands file base w lines) {c d : ℕ} (pc : 0 < c) (pd : 0 < d) where
   module _ (q n k : ℕ) {g : Got} {r : Result Check Misspelt} (h : q ≤ lines * w) (eg : g ≡ value_at w c d (text_of file base w lines) q) (inv : check_from n k (values_at w c d (text_of file base w lines) q) ≡ r) where
     module _ {x : Found} (e : g ≡ Ok x) {k' : ℕ} (ek : k' ≡ kept_after x.value k (n + 1)) where
