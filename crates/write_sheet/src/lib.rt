@@ -24,7 +24,9 @@ pub fn write(list: u64, sheet: &[u8], out: &mut [u8]) -> Answer
         return answers::refusal(Fault::TooLong, 0);
     };
     let bytes = file::bytes(counts);
-    if out.len() < bytes {
+    // With a name, so that what is shown of it stays where the test is spelt otherwise.
+    let short = out.len() < bytes;
+    if short {
         return answers::no_room(bytes);
     }
     let laid = file_canonical::file::put_file(out, sheet, counts, ruled.entries);
