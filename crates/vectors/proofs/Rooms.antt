@@ -1,15 +1,13 @@
 -- A buffer that was filled and is looked at; a part of one that is long enough has the length that was asked for.
 use mathlib.Core.Path.{◌≡◌, refl, sym, ap, ◌∙◌}
 use mathlib.Core.Bool.{Bool, true, false}
-use mathlib.Core.List.{List, [], ◌∷◌, ◌++◌, append-nil}
+use mathlib.Core.List.{List, [], ◌∷◌}
 use Prim.Native.Nat.{ℕ, zero, suc, ◌+◌, ◌-◌, ◌≤◌, ◌<◌}
 use native.Mathlib.Nat.{sub-zero}
 use native.Mathlib.Omega.{arith}
-use lib.ListN.{length, get_or, take, drop, set, drop_of_length-le}
+use lib.ListN.{length, get_or, take, drop, drop_of_length-le}
 use lib.Seq.{length-take-le, drop-cons}
 use borrow.Author.Tests.{eq-eqb, ne_eqb}
-use Rattle.columns.specs.Laid.{Wrote}
-use Rattle.columns.proofs.Writes.{wrote_one, wrote_none, wrote_eq, run_more}
 use Rattle.std.specs.Prelude.{◌==◌}
 use Rattle.std.specs.List.{list_all}
 use Rattle.vectors.specs.Passing.{filler, ready, untouched}
@@ -40,7 +38,30 @@ drop-ready (suc k) (suc n) =
     let e : suc n - suc k ≡ n - k = omega arith in
     rw e (drop-ready k n)
 
--- ---- untouched: what `all` answers of the bytes
+-- ---- untouched: f is the answer
+
+module _ (f : Bool) (s : List ℕ) (i : ℕ) (inv : untouched (drop i s) ≡ f) where
+  module _ (lt : i < length s) where
+    next : drop i s ≡ get_or s i 0 ∷ drop (i + 1) s
+    next =
+        let e : suc i ≡ i + 1 = omega arith in
+        drop-cons s i 0 lt ∙ ap (λ (j : ℕ). get_or s i 0 ∷ drop j s) e
+
+    pub untouched-on : get_or s i 0 ≡ filler → untouched (drop (i + 1) s) ≡ f
+    unfolding untouched
+    untouched-on h = simp (untouched, eq-eqb _ _ h) at (rw next at inv)
+
+    pub untouched_no : (get_or s i 0 ≡ filler → ⊥) → false ≡ f
+    unfolding untouched
+    untouched_no h = simp (untouched, ne_eqb _ _ h) at (rw next at inv)
+
+  pub untouched-end : length s ≤ i → true ≡ f
+  unfolding untouched
+  untouched-end h = rw (drop_of_length-le s {i = i} h) at inv
+
+pub ruleset looking = (untouched-on, untouched_no, untouched-end)
+
+-- what `all` answers of the bytes
 
 pub all_untouched : (s : List ℕ) → list_all (λ b. b == filler) s ≡ untouched s
 unfolding untouched
