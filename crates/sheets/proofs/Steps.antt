@@ -5,7 +5,6 @@ use Prim.Native.Nat.{ℕ, ◌+◌, ◌*◌, ◌≤◌, ◌<◌}
 use borrow.Author.Tests.{le-leb, lt-leb, lt-ltb, le-ltb, eq-eqb, ne_eqb}
 use Rattle.std.proofs.Common.{Err, Ok, Some, None, unwrap_or}
 use Rattle.columns.specs.declared.SheetLine.{SheetLine}
-use Rattle.sheets.specs.declared.Section.TheVariants.{Starts, Globals, Entries, End}
 use Rattle.columns.specs.declared.Signed.{Signed}
 use Rattle.sheets.specs.declared.Said.{Said}
 use Rattle.sheets.specs.declared.Said.TheVariants.{Start, Global, Entry, Value as Given, Last, Nothing}
@@ -13,7 +12,7 @@ use Rattle.sheets.specs.declared.SheetState.{SheetState}
 use Rattle.values.specs.declared.Value.{Value}
 use Rattle.values.specs.Value.{is_missing}
 use Rattle.directory.specs.declared.Fields.{Fields}
-use Rattle.sheets.specs.Order.{sheet_line, next, closed, start_step, global_step, entry_step, value_step, last_step, none_step, SheetStep, rank}
+use Rattle.sheets.specs.Order.{sheet_line, next, closed, start_step, global_step, entry_step, value_step, last_step, none_step, SheetStep}
 use Rattle.sheets.specs.Reading.{step_said}
 
 -- values that end with a default are wrong before anything else
@@ -39,11 +38,11 @@ module _ (st : SheetState) (w : SheetLine) (some : st.run ≡ Some w) where
   none-run b e = rw (e, some)
 
 module _ (st : SheetState) (no : st.run ≡ None) where
-  pub start_late : 1 < rank st.section → Err (sheet_line (st.line + 1)) ≡ start_step st
+  pub start_late : 1 < st.section → Err (sheet_line (st.line + 1)) ≡ start_step st
   unfolding start_step closed
   start_late h = simp (no, lt-leb _ _ h)
 
-  pub start_good : rank st.section ≤ 1 → Ok (next st Starts st.field st.entries None) ≡ start_step st
+  pub start_good : st.section ≤ 1 → Ok (next st 1 st.field st.entries None) ≡ start_step st
   unfolding start_step closed
   start_good h = simp (no, le-leb _ _ h)
 
@@ -51,56 +50,56 @@ module _ (st : SheetState) (no : st.run ≡ None) where
   unfolding none_step closed
   none-none b e = rw e (simp no)
 
-  pub global_early : (n : ℕ) → rank st.section < 1 → Err (sheet_line (st.line + 1)) ≡ global_step st n
+  pub global_early : (n : ℕ) → st.section < 1 → Err (sheet_line (st.line + 1)) ≡ global_step st n
   unfolding global_step closed
   global_early n h = simp (no, lt-leb _ _ h)
 
-  pub entry_early : (x : Signed) → rank st.section < 1 → Err (sheet_line (st.line + 1)) ≡ entry_step st x
+  pub entry_early : (x : Signed) → st.section < 1 → Err (sheet_line (st.line + 1)) ≡ entry_step st x
   unfolding entry_step closed
   entry_early x h = simp (no, lt-leb _ _ h)
 
-  pub last_early : (n : ℕ) → rank st.section < 1 → Err (sheet_line (st.line + 1)) ≡ last_step st n
+  pub last_early : (n : ℕ) → st.section < 1 → Err (sheet_line (st.line + 1)) ≡ last_step st n
   unfolding last_step closed
   last_early n h = simp (no, lt-leb _ _ h)
 
-  module _ (begun : 1 ≤ rank st.section) where
-    pub global_late : (n : ℕ) → 2 < rank st.section → Err (sheet_line (st.line + 1)) ≡ global_step st n
+  module _ (begun : 1 ≤ st.section) where
+    pub global_late : (n : ℕ) → 2 < st.section → Err (sheet_line (st.line + 1)) ≡ global_step st n
     unfolding global_step closed
     global_late n h = simp (no, le-leb _ _ begun, lt-leb _ _ h)
 
-    pub global_low : (n : ℕ) → rank st.section ≤ 2 → n ≤ st.field → Err (sheet_line (st.line + 1)) ≡ global_step st n
+    pub global_low : (n : ℕ) → st.section ≤ 2 → n ≤ st.field → Err (sheet_line (st.line + 1)) ≡ global_step st n
     unfolding global_step closed
     global_low n h k = simp (no, le-leb _ _ begun, le-leb _ _ h, le-ltb _ _ k)
 
-    pub global_good : (n : ℕ) → rank st.section ≤ 2 → st.field < n → Ok (next st Globals n st.entries None) ≡ global_step st n
+    pub global_good : (n : ℕ) → st.section ≤ 2 → st.field < n → Ok (next st 2 n st.entries None) ≡ global_step st n
     unfolding global_step closed
     global_good n h k = simp (no, le-leb _ _ begun, le-leb _ _ h, lt-ltb _ _ k)
 
-    pub entry_late : (x : Signed) → 3 < rank st.section → Err (sheet_line (st.line + 1)) ≡ entry_step st x
+    pub entry_late : (x : Signed) → 3 < st.section → Err (sheet_line (st.line + 1)) ≡ entry_step st x
     unfolding entry_step closed
     entry_late x h = simp (no, le-leb _ _ begun, lt-leb _ _ h)
 
-    pub entry-minus : (x : Signed) → rank st.section ≤ 3 → x.neg ≡ true → Err (sheet_line (st.line + 1)) ≡ entry_step st x
+    pub entry-minus : (x : Signed) → st.section ≤ 3 → x.neg ≡ true → Err (sheet_line (st.line + 1)) ≡ entry_step st x
     unfolding entry_step closed
     entry-minus x h k = simp (no, le-leb _ _ begun, le-leb _ _ h, k)
 
-    pub entry_other : (x : Signed) → rank st.section ≤ 3 → x.neg ≡ false → (x.size ≡ 2 * st.entries + 1 → ⊥) → Err (sheet_line (st.line + 1)) ≡ entry_step st x
+    pub entry_other : (x : Signed) → st.section ≤ 3 → x.neg ≡ false → (x.size ≡ 2 * st.entries + 1 → ⊥) → Err (sheet_line (st.line + 1)) ≡ entry_step st x
     unfolding entry_step closed
     entry_other x h k d = simp (no, le-leb _ _ begun, le-leb _ _ h, k, ne_eqb _ _ d)
 
-    pub entry_good : (x : Signed) → rank st.section ≤ 3 → x.neg ≡ false → x.size ≡ 2 * st.entries + 1 → Ok (next st Entries st.field (st.entries + 1) None) ≡ entry_step st x
+    pub entry_good : (x : Signed) → st.section ≤ 3 → x.neg ≡ false → x.size ≡ 2 * st.entries + 1 → Ok (next st 3 st.field (st.entries + 1) None) ≡ entry_step st x
     unfolding entry_step closed
     entry_good x h k d = simp (no, le-leb _ _ begun, le-leb _ _ h, k, eq-eqb _ _ d)
 
-    pub last_late : (n : ℕ) → 3 < rank st.section → Err (sheet_line (st.line + 1)) ≡ last_step st n
+    pub last_late : (n : ℕ) → 3 < st.section → Err (sheet_line (st.line + 1)) ≡ last_step st n
     unfolding last_step closed
     last_late n h = simp (no, le-leb _ _ begun, lt-leb _ _ h)
 
-    pub last_other : (n : ℕ) → rank st.section ≤ 3 → (n ≡ st.entries → ⊥) → Err (sheet_line (st.line + 1)) ≡ last_step st n
+    pub last_other : (n : ℕ) → st.section ≤ 3 → (n ≡ st.entries → ⊥) → Err (sheet_line (st.line + 1)) ≡ last_step st n
     unfolding last_step closed
     last_other n h d = simp (no, le-leb _ _ begun, le-leb _ _ h, ne_eqb _ _ d)
 
-    pub last_good : (n : ℕ) → rank st.section ≤ 3 → n ≡ st.entries → Ok (next st End st.field st.entries None) ≡ last_step st n
+    pub last_good : (n : ℕ) → st.section ≤ 3 → n ≡ st.entries → Ok (next st 4 st.field st.entries None) ≡ last_step st n
     unfolding last_step closed
     last_good n h d = simp (no, le-leb _ _ begun, le-leb _ _ h, eq-eqb _ _ d)
 
@@ -109,16 +108,16 @@ module _ (st : SheetState) where
   unfolding none_step
   none-value b e = rw e
 
-  pub value_out : (b : Bool) → (rank st.section ≡ 3 → ⊥) → Err (sheet_line (st.line + 1)) ≡ value_step st b
+  pub value_out : (b : Bool) → (st.section ≡ 3 → ⊥) → Err (sheet_line (st.line + 1)) ≡ value_step st b
   unfolding value_step
   value_out b h = simp (ne_eqb _ _ h)
 
-  module _ (b : Bool) (h : rank st.section ≡ 3) where
-    pub value_again : b ≡ true → Ok (next st Entries st.field st.entries (Some (unwrap_or st.run (sheet_line (st.line + 1))))) ≡ value_step st b
+  module _ (b : Bool) (h : st.section ≡ 3) where
+    pub value_again : b ≡ true → Ok (next st 3 st.field st.entries (Some (unwrap_or st.run (sheet_line (st.line + 1))))) ≡ value_step st b
     unfolding value_step
     value_again e = simp (eq-eqb _ _ h, e)
 
-    pub value-given : b ≡ false → Ok (next st Entries st.field st.entries None) ≡ value_step st b
+    pub value-given : b ≡ false → Ok (next st 3 st.field st.entries None) ≡ value_step st b
     unfolding value_step
     value-given e = simp (eq-eqb _ _ h, e)
 

@@ -6,16 +6,15 @@ use Prim.Native.Nat.{ℕ, ◌+◌, ◌*◌, ◌≤◌, ◌<◌}
 use native.Mathlib.Omega.{arith}
 use lib.ListN.{length}
 use lib.Dec.{ltb, leb, eqb}
-use borrow.Author.Tests.{eq-eqb, ne_eqb, eqb-true, leb-true, ltb-true}
+use borrow.Author.Tests.{eqb-true, leb-true, ltb-true}
 use Rattle.std.proofs.Common.{Err, Ok, Option, Some, None, is_some, unwrap_or}
-use Rattle.sheets.specs.declared.Section.TheVariants.{Starts, Globals, Entries, End}
 use Rattle.columns.specs.declared.Signed.{Signed}
 use Rattle.directory.specs.declared.Fields.{Fields}
 use Rattle.sheets.specs.declared.SheetState.{SheetState}
 use Rattle.sheets.specs.Plain.{sized}
 use Rattle.values.specs.Value.{Item, is_default}
 use Rattle.sheets.specs.Sheet.{Line, start, global, entry, value, last, none, start_lines, global_lines, value_lines, row_lines, lines_of, Parts, parts, with, parts_of, sheet_of}
-use Rattle.sheets.specs.Order.{sheet_line, begin, next, closed, start_step, global_step, entry_step, value_step, last_step, none_step, step_line, verdict, finish, go_lines, SheetStep, SheetVerdict, rank, unless}
+use Rattle.sheets.specs.Order.{sheet_line, begin, next, closed, start_step, global_step, entry_step, value_step, last_step, none_step, step_line, verdict, finish, go_lines, SheetStep, SheetVerdict, unless}
 use Rattle.sheets.specs.WellFormed.{ends_default, Rising, no_more, higher, Closed, no_rows, a-row, Ordered}
 use Rattle.sheets.proofs.Says.{Says, AllSaid, none_said, one-said}
 use Rattle.columns.proofs.Tests.{both_left, both_right}
@@ -41,47 +40,47 @@ cond_inv true a st' n h = (refl, cc)
 cond_inv false a st' n h = never_on h
 
 module _ (st st' : SheetState) where
-  pub start_inv : start_step st ≡ Ok st' → (st.run ≡ None) × (rank st.section ≤ 1) × (st' ≡ next st Starts st.field st.entries None)
+  pub start_inv : start_step st ≡ Ok st' → (st.run ≡ None) × (st.section ≤ 1) × (st' ≡ next st 1 st.field st.entries None)
   unfolding start_step
   start_inv h =
       let c = closed_inv st st' _ h in
-      let d = cond_inv (leb (rank st.section) 1) _ st' _ c.1 in
+      let d = cond_inv (leb st.section 1) _ st' _ c.1 in
       (c.0, leb-true _ _ d.0, d.1)
 
-  pub global_inv : (n : ℕ) → global_step st n ≡ Ok st' → (st.run ≡ None) × (1 ≤ rank st.section) × (rank st.section ≤ 2) × (st.field < n) × (st' ≡ next st Globals n st.entries None)
+  pub global_inv : (n : ℕ) → global_step st n ≡ Ok st' → (st.run ≡ None) × (1 ≤ st.section) × (st.section ≤ 2) × (st.field < n) × (st' ≡ next st 2 n st.entries None)
   unfolding global_step
   global_inv n h =
       let c = closed_inv st st' _ h in
-      let d = cond_inv (leb 1 (rank st.section) && (leb (rank st.section) 2 && ltb st.field n)) _ st' _ c.1 in
-      let e = both_right (leb 1 (rank st.section)) (leb (rank st.section) 2 && ltb st.field n) d.0 in
-      (c.0, leb-true _ _ (both_left (leb 1 (rank st.section)) (leb (rank st.section) 2 && ltb st.field n) d.0), leb-true _ _ (both_left (leb (rank st.section) 2) (ltb st.field n) e), ltb-true _ _ (both_right (leb (rank st.section) 2) (ltb st.field n) e), d.1)
+      let d = cond_inv (leb 1 st.section && (leb st.section 2 && ltb st.field n)) _ st' _ c.1 in
+      let e = both_right (leb 1 st.section) (leb st.section 2 && ltb st.field n) d.0 in
+      (c.0, leb-true _ _ (both_left (leb 1 st.section) (leb st.section 2 && ltb st.field n) d.0), leb-true _ _ (both_left (leb st.section 2) (ltb st.field n) e), ltb-true _ _ (both_right (leb st.section 2) (ltb st.field n) e), d.1)
 
-  pub entry_inv : (x : Signed) → entry_step st x ≡ Ok st' → (st.run ≡ None) × (1 ≤ rank st.section) × (rank st.section ≤ 3) × (x ≡ sized false (2 * st.entries + 1)) × (st' ≡ next st Entries st.field (st.entries + 1) None)
+  pub entry_inv : (x : Signed) → entry_step st x ≡ Ok st' → (st.run ≡ None) × (1 ≤ st.section) × (st.section ≤ 3) × (x ≡ sized false (2 * st.entries + 1)) × (st' ≡ next st 3 st.field (st.entries + 1) None)
   unfolding entry_step
   entry_inv x h =
       let c = closed_inv st st' _ h in
       let N = not x.neg && eqb x.size (2 * st.entries + 1) in
-      let d = cond_inv (leb 1 (rank st.section) && (leb (rank st.section) 3 && N)) _ st' _ c.1 in
-      let e = both_right (leb 1 (rank st.section)) (leb (rank st.section) 3 && N) d.0 in
-      (c.0, leb-true _ _ (both_left (leb 1 (rank st.section)) (leb (rank st.section) 3 && N) d.0), leb-true _ _ (both_left (leb (rank st.section) 3) N e), number x.neg x.size (both_right (leb (rank st.section) 3) N e), d.1)
+      let d = cond_inv (leb 1 st.section && (leb st.section 3 && N)) _ st' _ c.1 in
+      let e = both_right (leb 1 st.section) (leb st.section 3 && N) d.0 in
+      (c.0, leb-true _ _ (both_left (leb 1 st.section) (leb st.section 3 && N) d.0), leb-true _ _ (both_left (leb st.section 3) N e), number x.neg x.size (both_right (leb st.section 3) N e), d.1)
     where
       number : (b : Bool) (m : ℕ) → (not b && eqb m (2 * st.entries + 1)) ≡ true → sized b m ≡ sized false (2 * st.entries + 1)
       number true m e = absurd (let z : ◌≡◌ {A = ℕ} 0 1 = cc in omega arith)
       number false m e = ap (sized false) (eqb-true m (2 * st.entries + 1) e)
 
-  pub value_inv : (b : Bool) → value_step st b ≡ Ok st' → (rank st.section ≡ 3) × (st' ≡ next st Entries st.field st.entries (cond b (Some (unwrap_or st.run (sheet_line (st.line + 1)))) None))
+  pub value_inv : (b : Bool) → value_step st b ≡ Ok st' → (st.section ≡ 3) × (st' ≡ next st 3 st.field st.entries (cond b (Some (unwrap_or st.run (sheet_line (st.line + 1)))) None))
   unfolding value_step
   value_inv b h =
-      let d = cond_inv (eqb (rank st.section) 3) _ st' _ h in
+      let d = cond_inv (eqb st.section 3) _ st' _ h in
       (eqb-true _ _ d.0, d.1)
 
-  pub last_inv : (n : ℕ) → last_step st n ≡ Ok st' → (st.run ≡ None) × (1 ≤ rank st.section) × (rank st.section ≤ 3) × (n ≡ st.entries) × (st' ≡ next st End st.field st.entries None)
+  pub last_inv : (n : ℕ) → last_step st n ≡ Ok st' → (st.run ≡ None) × (1 ≤ st.section) × (st.section ≤ 3) × (n ≡ st.entries) × (st' ≡ next st 4 st.field st.entries None)
   unfolding last_step
   last_inv n h =
       let c = closed_inv st st' _ h in
-      let d = cond_inv (leb 1 (rank st.section) && (leb (rank st.section) 3 && eqb n st.entries)) _ st' _ c.1 in
-      let e = both_right (leb 1 (rank st.section)) (leb (rank st.section) 3 && eqb n st.entries) d.0 in
-      (c.0, leb-true _ _ (both_left (leb 1 (rank st.section)) (leb (rank st.section) 3 && eqb n st.entries) d.0), leb-true _ _ (both_left (leb (rank st.section) 3) (eqb n st.entries) e), eqb-true _ _ (both_right (leb (rank st.section) 3) (eqb n st.entries) e), d.1)
+      let d = cond_inv (leb 1 st.section && (leb st.section 3 && eqb n st.entries)) _ st' _ c.1 in
+      let e = both_right (leb 1 st.section) (leb st.section 3 && eqb n st.entries) d.0 in
+      (c.0, leb-true _ _ (both_left (leb 1 st.section) (leb st.section 3 && eqb n st.entries) d.0), leb-true _ _ (both_left (leb st.section 3) (eqb n st.entries) e), eqb-true _ _ (both_right (leb st.section 3) (eqb n st.entries) e), d.1)
 
   pub none_inv : (b : Bool) → none_step st b ≡ Ok st' → ⊥
   unfolding none_step
@@ -96,11 +95,11 @@ go_inv st i is n h = pick (step_line st i) refl h
     pick (Ok st') e h = (st', e, h)
     pick (Err m) e h = never_good h
 
-end_inv : (st : SheetState) (n : ℕ) → go_lines st [] ≡ Ok n → (rank st.section ≡ 4) × (n ≡ st.entries)
+end_inv : (st : SheetState) (n : ℕ) → go_lines st [] ≡ Ok n → (st.section ≡ 4) × (n ≡ st.entries)
 unfolding go_lines finish closed
-end_inv st n h = pick (eqb (rank st.section) 4) refl st.run h
+end_inv st n h = pick (eqb st.section 4) refl st.run h
   where
-    pick : (a : Bool) → eqb (rank st.section) 4 ≡ a → (r : Option SheetLine) → cond a (Ok st.entries) (verdict (unless r (Err (sheet_line (st.line + 1))))) ≡ Ok n → (rank st.section ≡ 4) × (n ≡ st.entries)
+    pick : (a : Bool) → eqb st.section 4 ≡ a → (r : Option SheetLine) → cond a (Ok st.entries) (verdict (unless r (Err (sheet_line (st.line + 1))))) ≡ Ok n → (st.section ≡ 4) × (n ≡ st.entries)
     pick true e r h = (eqb-true _ _ e, cc)
     pick false e None h = never_good h
     pick false e (Some w) h = never_good h
@@ -121,7 +120,7 @@ all_said (i ∷ is) st n h =
     one-said (says st i g.0 g.1) (all_said is g.0 n g.2)
 
 -- after Z nothing comes
-four : (is : List Line) (st : SheetState) (n : ℕ) → go_lines st is ≡ Ok n → rank st.section ≡ 4 → (is ≡ []) × (n ≡ st.entries)
+four : (is : List Line) (st : SheetState) (n : ℕ) → go_lines st is ≡ Ok n → st.section ≡ 4 → (is ≡ []) × (n ≡ st.entries)
 four [] st n h s = (refl, (end_inv st n h).1)
 four (i ∷ is) st n h s =
     let g = go_inv st i is n h in
@@ -145,10 +144,10 @@ pending st = is_some st.run
 record Whole (st : SheetState) (is : List Line) (n : ℕ) (p : Parts) : Type 0 where
   text : lines_at st.entries p ≡ is
   count : n ≡ st.entries + length p.rows
-  starts : 2 ≤ rank st.section → p.starts ≡ []
-  globals : 3 ≤ rank st.section → p.globals ≡ []
-  values : rank st.section ≤ 2 → p.values ≡ []
-  some : rank st.section ≡ 0 → 0 < length p.starts
+  starts : 2 ≤ st.section → p.starts ≡ []
+  globals : 3 ≤ st.section → p.globals ≡ []
+  values : st.section ≤ 2 → p.values ≡ []
+  some : st.section ≡ 0 → 0 < length p.starts
   rising : Rising st.field p.globals
   ends : ends_default (pending st) p.values ≡ false
   rows : Closed p.rows
@@ -161,7 +160,7 @@ pending-value false w = refl
 pending-value true w = refl
 
 module _ (st : SheetState) (is : List Line) (n : ℕ) (p : Parts) where
-  start_whole : (t : List ℕ) → st.run ≡ None → rank st.section ≤ 1 → Whole (next st Starts st.field st.entries None) is n p → Whole st (start t ∷ is) n (with (start t) p)
+  start_whole : (t : List ℕ) → st.run ≡ None → st.section ≤ 1 → Whole (next st 1 st.field st.entries None) is n p → Whole st (start t ∷ is) n (with (start t) p)
   unfolding start_lines
   start_whole t r s w = record {
     text = ap (λ (x : List Line). start t ∷ x) w.text;
@@ -175,7 +174,7 @@ module _ (st : SheetState) (is : List Line) (n : ℕ) (p : Parts) where
     rows = w.rows;
   }
 
-  global_whole : (m : ℕ) (v : Item) → st.run ≡ None → 1 ≤ rank st.section → rank st.section ≤ 2 → st.field < m → Whole (next st Globals m st.entries None) is n p → Whole st (global m v ∷ is) n (with (global m v) p)
+  global_whole : (m : ℕ) (v : Item) → st.run ≡ None → 1 ≤ st.section → st.section ≤ 2 → st.field < m → Whole (next st 2 m st.entries None) is n p → Whole st (global m v ∷ is) n (with (global m v) p)
   unfolding start_lines global_lines
   global_whole m v r s u g w =
       let ss : p.starts ≡ [] = w.starts (omega arith) in
@@ -191,8 +190,8 @@ module _ (st : SheetState) (is : List Line) (n : ℕ) (p : Parts) where
         rows = w.rows;
       }
 
-  entry_whole : (known : Bool) (x : Signed) (e : Fields) (label : List ℕ) → st.run ≡ None → 1 ≤ rank st.section → rank st.section ≤ 3 → x ≡ sized false (2 * st.entries + 1)
-      → Whole (next st Entries st.field (st.entries + 1) None) is n p → Whole st (entry known x e label ∷ is) n (with (entry known x e label) p)
+  entry_whole : (known : Bool) (x : Signed) (e : Fields) (label : List ℕ) → st.run ≡ None → 1 ≤ st.section → st.section ≤ 3 → x ≡ sized false (2 * st.entries + 1)
+      → Whole (next st 3 st.field (st.entries + 1) None) is n p → Whole st (entry known x e label ∷ is) n (with (entry known x e label) p)
   unfolding start_lines global_lines value_lines row_lines ends_default
   entry_whole known x e label r s u d w =
       let ss : p.starts ≡ [] = w.starts (omega arith) in
@@ -209,7 +208,7 @@ module _ (st : SheetState) (is : List Line) (n : ℕ) (p : Parts) where
         rows = a-row w.ends w.rows;
       }
 
-  value_whole : (b : Bool) (v : Item) → rank st.section ≡ 3 → Whole (next st Entries st.field st.entries (cond (is_default v) (Some (unwrap_or st.run (sheet_line (st.line + 1)))) None)) is n p
+  value_whole : (b : Bool) (v : Item) → st.section ≡ 3 → Whole (next st 3 st.field st.entries (cond (is_default v) (Some (unwrap_or st.run (sheet_line (st.line + 1)))) None)) is n p
       → Whole st (value b v ∷ is) n (with (value b v) p)
   unfolding start_lines global_lines value_lines ends_default
   value_whole b v s w =
@@ -227,7 +226,7 @@ module _ (st : SheetState) (is : List Line) (n : ℕ) (p : Parts) where
         rows = w.rows;
       }
 
-last_whole : (st : SheetState) (n m : ℕ) → st.run ≡ None → 1 ≤ rank st.section → m ≡ st.entries → n ≡ st.entries → Whole st (last m ∷ []) n (parts [] [] [] [])
+last_whole : (st : SheetState) (n m : ℕ) → st.run ≡ None → 1 ≤ st.section → m ≡ st.entries → n ≡ st.entries → Whole st (last m ∷ []) n (parts [] [] [] [])
 unfolding start_lines global_lines value_lines row_lines ends_default
 last_whole st n m r s e d = record {
   text = rw e;
@@ -241,14 +240,14 @@ last_whole st n m r s e d = record {
   rows = no_rows;
 }
 
-whole : (is : List Line) (st : SheetState) (n : ℕ) → go_lines st is ≡ Ok n → rank st.section ≤ 3 → Whole st is n (parts_of is)
+whole : (is : List Line) (st : SheetState) (n : ℕ) → go_lines st is ≡ Ok n → st.section ≤ 3 → Whole st is n (parts_of is)
 unfolding parts_of
 whole [] st n h s = absurd (omega (arith, (end_inv st n h).0))
 whole (i ∷ is) st n h s =
     let g = go_inv st i is n h in
     pick i g.0 g.1 g.2 (λ a. whole is a n)
   where
-    pick : (i : Line) (st' : SheetState) → step_line st i ≡ Ok st' → go_lines st' is ≡ Ok n → ((a : SheetState) → go_lines a is ≡ Ok n → rank a.section ≤ 3 → Whole a is n (parts_of is)) → Whole st (i ∷ is) n (with i (parts_of is))
+    pick : (i : Line) (st' : SheetState) → step_line st i ≡ Ok st' → go_lines st' is ≡ Ok n → ((a : SheetState) → go_lines a is ≡ Ok n → a.section ≤ 3 → Whole a is n (parts_of is)) → Whole st (i ∷ is) n (with i (parts_of is))
     pick (start t) st' e q ih =
         let v = start_inv st st' e in
         start_whole st is n (parts_of is) t v.0 v.1 (ih _ (rw v.2 at q) (omega arith))
@@ -263,7 +262,7 @@ whole (i ∷ is) st n h s =
         value_whole st is n (parts_of is) b u v.0 (ih _ (rw v.1 at q) (omega arith))
     pick (last m) st' e q ih =
         let v = last_inv st st' m e in
-        let f = four is (next st End st.field st.entries None) n (rw v.4 at q) refl in
+        let f = four is (next st 4 st.field st.entries None) n (rw v.4 at q) refl in
         rw f.0 (last_whole st n m v.0 v.1 v.3 f.1)
     pick (none b) st' e q ih = absurd (none_inv st st' b e)
 

@@ -1,13 +1,12 @@
 -- What the pass over a sheet's lines is asked.
 use mathlib.Core.Path.{◌≡◌, refl, sym, ap, ◌∙◌}
-use mathlib.Core.Bool.{Bool, true, false, cond}
+use mathlib.Core.Bool.{Bool, true, false}
 use mathlib.Core.List.{List, [], ◌∷◌}
 use Prim.Native.Nat.{ℕ, suc, ◌+◌, ◌-◌, ◌≤◌, ◌<◌}
 use native.Mathlib.Omega.{arith}
 use native.Mathlib.Decide.{ℕ_discrete}
 use lib.ListN.{length, take, drop, length-drop}
 use lib.Seq.{drop-drop}
-use lib.Dec.{eqb}
 use borrow.Author.Tests.{eq-eqb, ne_eqb}
 use Rattle.std.proofs.Common.{Err, Ok, Option, Some, None}
 use Rattle.columns.specs.Columns.{columns}
@@ -19,7 +18,7 @@ use Rattle.columns.specs.declared.SheetLine.{SheetLine}
 use Rattle.sheets.specs.declared.Said.{Said}
 use Rattle.sheets.specs.declared.Said.TheVariants.{Start, Global, Entry, Value as Given, Last, Nothing}
 use Rattle.sheets.specs.Sheet.{Line, start, global, entry, value, last, none, line_from, into, pieces_of, says_of, said_by, said_by_all, lines_in}
-use Rattle.sheets.specs.Order.{sheet_line, closed, value_step, none_step, step_line, finish, SheetStep, rank, unless}
+use Rattle.sheets.specs.Order.{sheet_line, closed, value_step, none_step, step_line, finish, SheetStep, unless}
 use Rattle.sheets.specs.Reading.{step_said, piece_verdict}
 use Rattle.sheets.proofs.Plains.{run-here, run_on}
 use Rattle.sheets.proofs.Says.{pieces_lf, pieces_on, pieces_none, pieces_some, lines_more}
@@ -27,11 +26,11 @@ use Rattle.sheets.proofs.Takes.{start_inv, global_inv, entry_inv, value_inv, las
 
 -- ---- the end
 module _ (st : SheetState) where
-  pub finish_good : rank st.section ≡ 4 → Ok st.entries ≡ finish st
+  pub finish_good : st.section ≡ 4 → Ok st.entries ≡ finish st
   unfolding finish
   finish_good h = simp (eq-eqb _ _ h)
 
-  module _ (h : rank st.section ≡ 4 → ⊥) where
+  module _ (h : st.section ≡ 4 → ⊥) where
     pub finish-run : (w : SheetLine) → st.run ≡ Some w → Err w ≡ finish st
     unfolding finish closed
     finish-run w k = simp (ne_eqb _ _ h, k)

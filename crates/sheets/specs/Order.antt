@@ -7,8 +7,6 @@ use Rattle.columns.specs.declared.SheetLine.{SheetLine}
 use Rattle.columns.specs.Refusal.{Outcome, accepted, refused}
 use Rattle.values.specs.Value.{is_default}
 use Rattle.records.specs.Global.{first_field}
-use Rattle.sheets.specs.declared.Section.{Section}
-use Rattle.sheets.specs.declared.Section.TheVariants.{BeforeStarts, Starts, Globals, Entries, End}
 use Rattle.sheets.specs.declared.SheetState.{SheetState}
 use Rattle.sheets.specs.Sheet.{Line, start, global, entry, value, last, none, Sheet, lines_in, sheet_of}
 
@@ -17,13 +15,21 @@ sheet_line n = record { 0 = n }
 
 -- ---- the state: how far the lines have come
 
--- its section is that of the last line, before S where there is none yet; this is their order: S, G, the entries with their values, Z
-abbrev pub rank : Section → ℕ
-rank BeforeStarts = 0
-rank Starts = 1
-rank Globals = 2
-rank Entries = 3
-rank End = 4
+-- its section: no line yet, or that of the last line; they come in this order: S, G, the entries with their values, Z
+abbrev pub before_starts : ℕ
+before_starts = 0
+
+abbrev pub in_starts : ℕ
+in_starts = 1
+
+abbrev pub in_globals : ℕ
+in_globals = 2
+
+abbrev pub in_entries : ℕ
+in_entries = 3
+
+abbrev pub at_end : ℕ
+at_end = 4
 
 -- its field is the last G number: below all of them where there was none yet
 abbrev pub no_field : ℕ
@@ -31,9 +37,9 @@ no_field = first_field - 1
 
 -- its run is the line of the first of the defaults that the values end with so far, if they do; no entry and no line has come yet
 abbrev pub begin : SheetState
-begin = record { section = BeforeStarts; field = no_field; entries = 0; run = None; line = 0 }
+begin = record { section = before_starts; field = no_field; entries = 0; run = None; line = 0 }
 
-abbrev pub next : SheetState → Section → ℕ → ℕ → Option SheetLine → SheetState
+abbrev pub next : SheetState → ℕ → ℕ → ℕ → Option SheetLine → SheetState
 next st section field entries run = record { section = section; field = field; entries = entries; run = run; line = st.line + 1 }
 
 -- ---- what a line does
@@ -60,34 +66,34 @@ unfoldable pub closed : SheetState → SheetStep → SheetStep
 closed st x = unless st.run x
 
 unfoldable pub start_step : SheetState → SheetStep
-start_step st = closed st (cond (leb (rank st.section) (rank Starts)) (Ok (next st Starts st.field st.entries None)) (off st))
+start_step st = closed st (cond (leb st.section in_starts) (Ok (next st in_starts st.field st.entries None)) (off st))
 
 -- G numbers rise
 unfoldable pub global_step : SheetState → ℕ → SheetStep
 global_step st n =
     closed st
-    (cond (leb (rank Starts) (rank st.section) && (leb (rank st.section) (rank Globals) && ltb st.field n))
-    (Ok (next st Globals n st.entries None)) (off st))
+    (cond (leb in_starts st.section && (leb st.section in_globals && ltb st.field n))
+    (Ok (next st in_globals n st.entries None)) (off st))
 
 -- directory numbers are 1, 3, 5 on
 unfoldable pub entry_step : SheetState → Signed → SheetStep
 entry_step st x =
     closed st
-    (cond (leb (rank Starts) (rank st.section) && (leb (rank st.section) (rank Entries) && (not x.neg && eqb x.size (2 * st.entries + 1))))
-    (Ok (next st Entries st.field (st.entries + 1) None)) (off st))
+    (cond (leb in_starts st.section && (leb st.section in_entries && (not x.neg && eqb x.size (2 * st.entries + 1))))
+    (Ok (next st in_entries st.field (st.entries + 1) None)) (off st))
 
 unfoldable pub value_step : SheetState → Bool → SheetStep
 value_step st default =
-    cond (eqb (rank st.section) (rank Entries))
-    (Ok (next st Entries st.field st.entries (cond default (Some (unwrap_or st.run (sheet_line (st.line + 1)))) None)))
+    cond (eqb st.section in_entries)
+    (Ok (next st in_entries st.field st.entries (cond default (Some (unwrap_or st.run (sheet_line (st.line + 1)))) None)))
     (off st)
 
 -- the entry count
 unfoldable pub last_step : SheetState → ℕ → SheetStep
 last_step st n =
     closed st
-    (cond (leb (rank Starts) (rank st.section) && (leb (rank st.section) (rank Entries) && eqb n st.entries))
-    (Ok (next st End st.field st.entries None)) (off st))
+    (cond (leb in_starts st.section && (leb st.section in_entries && eqb n st.entries))
+    (Ok (next st at_end st.field st.entries None)) (off st))
 
 unfoldable pub none_step : SheetState → Bool → SheetStep
 none_step st b = cond b (off st) (closed st (off st))
@@ -106,7 +112,7 @@ verdict (Err n) = Err n
 
 -- the sheet has ended: after Z it is good, else the line after the last is wrong
 unfoldable pub finish : SheetState → SheetVerdict
-finish st = cond (eqb (rank st.section) (rank End)) (Ok st.entries) (verdict (closed st (off st)))
+finish st = cond (eqb st.section at_end) (Ok st.entries) (verdict (closed st (off st)))
 
 -- the entry count, or the first wrong line
 unfoldable pub go_lines : SheetState → List Line → SheetVerdict

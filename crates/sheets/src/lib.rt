@@ -40,14 +40,15 @@ pub enum Said {
 }
 
 // The sections of a sheet in their order: no line yet, S, G, entries with their values, Z.
-#[derive(Clone, Copy, PartialEq, Eq, PartialOrd, Ord)]
-pub enum Section {
-    BeforeStarts,
-    Starts,
-    Globals,
-    Entries,
-    End,
-}
+pub const BEFORE_STARTS: u8 = 0;
+
+pub const IN_STARTS: u8 = 1;
+
+pub const IN_GLOBALS: u8 = 2;
+
+pub const IN_ENTRIES: u8 = 3;
+
+pub const AT_END: u8 = 4;
 
 // No G line yet: below the number of any.
 pub const NO_FIELD: u32 = 2;
@@ -56,7 +57,7 @@ pub const NO_FIELD: u32 = 2;
 // the first of the defaults that the values end with so far, if they do.
 #[derive(Clone, Copy)]
 pub struct SheetState {
-    pub section: Section,
+    pub section: u8,
     pub field: u32,
     pub entries: usize,
     pub run: Option<SheetLine>,

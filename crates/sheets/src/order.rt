@@ -3,7 +3,7 @@ ghost use Rattle.std.specs.Prelude.{◌≡◌, ◌+◌, ◌*◌, ◌^◌, ◌≤
 ghost use Rattle.sheets.specs.Order.{start_step, global_step, entry_step, value_step, last_step, none_step, finish};
 ghost use Rattle.sheets.specs.Reading.{step_said, piece_verdict};
 
-use crate::{Said, Section, SheetState};
+use crate::{AT_END, IN_ENTRIES, IN_GLOBALS, IN_STARTS, Said, SheetState};
 use columns::{SheetLine, Signed};
 use values::{Value, is_missing};
 
@@ -15,11 +15,11 @@ fn start_step(st: SheetState) -> Result<SheetState, SheetLine>
     if let Some(run) = st.run {
         return Err(run);
     }
-    if Section::Starts < st.section {
+    if IN_STARTS < st.section {
         return Err(SheetLine(st.line + 1));
     }
     Ok(SheetState {
-        section: Section::Starts,
+        section: IN_STARTS,
         field: st.field,
         entries: st.entries,
         run: None,
@@ -36,17 +36,17 @@ fn global_step(st: SheetState, n: u32) -> Result<SheetState, SheetLine>
     if let Some(run) = st.run {
         return Err(run);
     }
-    if st.section < Section::Starts {
+    if st.section < IN_STARTS {
         return Err(SheetLine(st.line + 1));
     }
-    if Section::Globals < st.section {
+    if IN_GLOBALS < st.section {
         return Err(SheetLine(st.line + 1));
     }
     if n <= st.field {
         return Err(SheetLine(st.line + 1));
     }
     Ok(SheetState {
-        section: Section::Globals,
+        section: IN_GLOBALS,
         field: n,
         entries: st.entries,
         run: None,
@@ -64,10 +64,10 @@ fn entry_step(st: SheetState, x: Signed) -> Result<SheetState, SheetLine>
     if let Some(run) = st.run {
         return Err(run);
     }
-    if st.section < Section::Starts {
+    if st.section < IN_STARTS {
         return Err(SheetLine(st.line + 1));
     }
-    if Section::Entries < st.section {
+    if IN_ENTRIES < st.section {
         return Err(SheetLine(st.line + 1));
     }
     if x.neg {
@@ -77,7 +77,7 @@ fn entry_step(st: SheetState, x: Signed) -> Result<SheetState, SheetLine>
         return Err(SheetLine(st.line + 1));
     }
     Ok(SheetState {
-        section: Section::Entries,
+        section: IN_ENTRIES,
         field: st.field,
         entries: st.entries + 1,
         run: None,
@@ -92,13 +92,13 @@ pub fn value_step(st: SheetState, default: bool) -> Result<SheetState, SheetLine
     ensures { result ≡ value_step st default }
 {
     let line = st.line + 1;
-    if st.section != Section::Entries {
+    if st.section != IN_ENTRIES {
         return Err(SheetLine(line));
     }
     if default {
         let first = st.run.unwrap_or(SheetLine(line));
         return Ok(SheetState {
-            section: Section::Entries,
+            section: IN_ENTRIES,
             field: st.field,
             entries: st.entries,
             run: Some(first),
@@ -106,7 +106,7 @@ pub fn value_step(st: SheetState, default: bool) -> Result<SheetState, SheetLine
         });
     }
     Ok(SheetState {
-        section: Section::Entries,
+        section: IN_ENTRIES,
         field: st.field,
         entries: st.entries,
         run: None,
@@ -123,17 +123,17 @@ fn last_step(st: SheetState, n: usize) -> Result<SheetState, SheetLine>
     if let Some(run) = st.run {
         return Err(run);
     }
-    if st.section < Section::Starts {
+    if st.section < IN_STARTS {
         return Err(SheetLine(st.line + 1));
     }
-    if Section::Entries < st.section {
+    if IN_ENTRIES < st.section {
         return Err(SheetLine(st.line + 1));
     }
     if n != st.entries {
         return Err(SheetLine(st.line + 1));
     }
     Ok(SheetState {
-        section: Section::End,
+        section: AT_END,
         field: st.field,
         entries: st.entries,
         run: None,
@@ -179,7 +179,7 @@ pub fn finish_of(st: SheetState) -> Result<usize, SheetLine>
     requires { st.line < 2 ^ 63 }
     ensures { result ≡ finish st }
 {
-    if st.section == Section::End {
+    if st.section == AT_END {
         return Ok(st.entries);
     }
     if let Some(run) = st.run {

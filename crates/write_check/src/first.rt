@@ -16,7 +16,7 @@ use columns::SheetLine;
 use columns::format::OPENING_COLUMNS;
 use file_canonical::Tally;
 use file_tally::{behind_value, tally_said, with_values};
-use sheets::{NO_FIELD, Section, SheetState, order};
+use sheets::{BEFORE_STARTS, NO_FIELD, SheetState, order};
 use sheets_read::{end_of, is_mark, is_value, line_at, strict_at};
 use values::is_missing;
 use write_lines::SheetPass;
@@ -25,7 +25,7 @@ use write_lines::table::keep;
 
 // Before the first line.
 const BEGIN: SheetState = SheetState {
-    section: Section::BeforeStarts,
+    section: BEFORE_STARTS,
     field: NO_FIELD,
     entries: 0,
     run: None,
