@@ -11,8 +11,8 @@ ghost use Rattle.write_lines.specs.Classes.{table_size, Tabled};
 ghost use Rattle.write_lines.specs.Shown.{begins_entry, EntryAt, plain_at, plain_class, Shown};
 
 use crate::table::PARTS;
-use columns::DirectoryNumber;
 use columns::format::MOST_INTEGER_WIDE;
+use columns::{DirectoryNumber, byte_u32};
 use references::NO_ENTRY;
 use sheets_numbers::{UNREAD, find, size_at};
 
@@ -77,7 +77,7 @@ fn number_at(t: &[u8], at: usize) -> DirectoryNumber
         if 400000000 < number {
             return DirectoryNumber(number);
         }
-        number = number * 10 + u32::from(*b - b'0');
+        number = number * 10 + byte_u32(*b - b'0');
     }
     DirectoryNumber(number)
 }
